@@ -1,0 +1,9 @@
+pub mod Name
+pub mod Event
+pub mod Nodes
+pub mod Balance
+pub mod Cursor
+pub mod Events
+pub mod Root
+pub mod Causes
+pub mod Memory

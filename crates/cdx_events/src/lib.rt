@@ -1,0 +1,28 @@
+//! Texts, lists, names and balanced lists of events, and sources and sinks that count their faults.
+#![tactic(auto)]
+
+mod balance;
+mod event;
+mod events;
+mod laws;
+mod list;
+mod memory;
+mod name;
+mod outside;
+mod reader;
+mod stream;
+mod text;
+mod writer;
+
+pub use balance::Balance;
+pub use event::{EventKind, XmlEvent};
+pub use events::{Events, EventsError};
+pub use laws::one_root;
+pub use list::List;
+pub use memory::{MemorySink, MemorySource, SoundSource};
+pub use name::{Namespace, OwnedAttribute, OwnedName};
+pub use outside::{ReadSource, WriteSink};
+pub use reader::EventReader;
+pub use stream::{Failed, Sink, Source};
+pub use text::Text;
+pub use writer::EventWriter;

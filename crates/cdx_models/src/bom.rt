@@ -1,0 +1,65 @@
+//! The version and the serial number of a bill.
+
+ghost use Rattle.std.specs.Prelude.{◌≡◌};
+ghost use Rattle.cdx_models.specs.Versions.{label, version_of, lowest, knows};
+
+use cdx_events::Text;
+
+/// A version of the format.
+#[derive(Clone, Copy, Debug, PartialEq, Eq)]
+pub enum SpecVersion {
+    V1_3,
+    V1_4,
+    V1_5,
+}
+
+impl SpecVersion {
+    /// The version's label, as `1.4`.
+    pub fn as_str(self) -> &'static str
+        ensures { result.now ≡ label self }
+    {
+        match self {
+            SpecVersion::V1_3 => "1.3",
+            SpecVersion::V1_4 => "1.4",
+            SpecVersion::V1_5 => "1.5",
+        }
+    }
+
+    /// The version with this label, and None for any other text.
+    pub fn from_text(text: &str) -> Option<SpecVersion>
+        ensures { result ≡ version_of text.now }
+    {
+        match text {
+            "1.3" => Some(SpecVersion::V1_3),
+            "1.4" => Some(SpecVersion::V1_4),
+            "1.5" => Some(SpecVersion::V1_5),
+            _ => None,
+        }
+    }
+
+    /// The lower of the two.
+    pub fn lowest(self, other: SpecVersion) -> SpecVersion
+        ensures { result ≡ lowest self other }
+    {
+        match (self, other) {
+            (SpecVersion::V1_3, _) | (_, SpecVersion::V1_3) => SpecVersion::V1_3,
+            (SpecVersion::V1_4, _) | (_, SpecVersion::V1_4) => SpecVersion::V1_4,
+            _ => SpecVersion::V1_5,
+        }
+    }
+
+    /// Whether something that is there from this version on is known to `version`.
+    pub fn is_known_to(self, version: SpecVersion) -> bool
+        ensures { result ≡ knows self version }
+    {
+        match self {
+            SpecVersion::V1_3 => true,
+            SpecVersion::V1_4 => version != SpecVersion::V1_3,
+            SpecVersion::V1_5 => version == SpecVersion::V1_5,
+        }
+    }
+}
+
+/// A bill's serial number: a text, `urn:uuid:` and a UUID by CycloneDX, which isn't checked.
+#[derive(Debug, Drop)]
+pub struct UrnUuid(pub Text);

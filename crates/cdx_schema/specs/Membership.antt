@@ -1,0 +1,69 @@
+-- Which trees are of a kind, and which of them a version can hold.
+use Rattle.std.specs.Prelude.{◌≡◌, ℕ, ◌<◌, ◌^◌, List, [], ◌∷◌, Bool, true, false, ◌⊎◌}
+use Rattle.std.specs.Str.{IsUtf8}
+use Rattle.cdx_models.specs.Versions.{is_label}
+use Rattle.cdx_models.specs.Trees.{Name, license, expression, spdx_id, license_name, classification, service_data, tools_object, signer, signers, chain, bill, Tree, absent, text, number, boolean, items, fields, Trees, none, more}
+use Rattle.cdx_schema.specs.Kinds.{Kind, a_text, a_boolean, a_number, a_version, a_list, a_record, a_reference, a_license_choice, a_license_identifier, a_tools, a_data, an_entry, a_signature, a_bill, Need, optional, required, required_first, else_empty, Row}
+use Rattle.cdx_models.specs.Entries.{is_flow}
+use Rattle.cdx_schema.specs.Held.{held_kind}
+use Rattle.cdx_schema.specs.Table.{rows}
+
+abbrev pub Never : Type 0
+Never = true ≡ false
+
+abbrev pub IsTextOf : Kind → List ℕ → Type 0
+IsTextOf a_text s = IsUtf8 s
+IsTextOf a_reference s = IsUtf8 s
+IsTextOf a_version s = is_label s ≡ true
+IsTextOf _ s = Never
+
+abbrev pub IsNumberOf : Kind → ℕ → Type 0
+IsNumberOf a_number n = n < 2 ^ 32
+IsNumberOf _ n = Never
+
+abbrev pub IsBooleanOf : Kind → Type 0
+IsBooleanOf a_boolean = Unit {0}
+IsBooleanOf _ = Never
+
+abbrev pub IsListOf : Kind → Type 0
+IsListOf (a_list l) = Unit {0}
+IsListOf a_tools = Unit {0}
+IsListOf a_data = Unit {0}
+IsListOf _ = Never
+
+abbrev pub IsRecordOf : Kind → Name → Trees → Type 0
+IsRecordOf (a_record m) n ts = n ≡ m
+IsRecordOf a_license_choice n ts = (n ≡ license) ⊎ (n ≡ expression)
+IsRecordOf a_license_identifier n ts = (n ≡ spdx_id) ⊎ (n ≡ license_name)
+IsRecordOf a_tools n ts = n ≡ tools_object
+IsRecordOf an_entry n ts = (n ≡ classification) ⊎ ((n ≡ service_data) × (is_flow n ts ≡ true))
+IsRecordOf a_signature n ts = (n ≡ signers) ⊎ ((n ≡ chain) ⊎ (n ≡ signer))
+IsRecordOf a_bill n ts = n ≡ bill
+IsRecordOf _ n ts = Never
+
+-- Whether a field may be absent.
+abbrev pub may_lack : Need → Bool
+may_lack optional = true
+may_lack required = false
+may_lack required_first = true
+may_lack else_empty = false
+
+abbrev mutual
+  pub IsOf : Tree → Kind → Type 0
+  IsOf absent k = Never
+  IsOf (text s) k = IsTextOf k s
+  IsOf (number n) k = IsNumberOf k n
+  IsOf (boolean b) k = IsBooleanOf k
+  IsOf (items ts) k = IsListOf k × AreOf ts (held_kind k)
+  IsOf (fields n ts) k = IsRecordOf k n ts × AreFields ts (rows n)
+
+  pub AreOf : Trees → Kind → Type 0
+  AreOf none k = Unit {0}
+  AreOf (more t ts) k = IsOf t k × AreOf ts k
+
+  -- A field for each row: of the row's kind, or absent.
+  pub AreFields : Trees → List Row → Type 0
+  AreFields none [] = Unit {0}
+  AreFields none (r ∷ rs) = Never
+  AreFields (more t ts) [] = Never
+  AreFields (more t ts) (r ∷ rs) = (((t ≡ absent) × (may_lack r.need ≡ true)) ⊎ IsOf t r.kind) × AreFields ts rs

@@ -1,0 +1,3 @@
+//! The schema of bills: the table of records, the readings and spellings in JSON and XML, what a version keeps and
+//! what a trip through XML takes, roads of rewritings, and their laws.
+#![tactic(auto)]
