@@ -1,3 +1,5 @@
 //! The schema of bills: the table of records, the readings and spellings in JSON and XML, what a version keeps and
 //! what a trip through XML takes, roads of rewritings, and their laws.
 #![tactic(auto)]
+
+pub mod laws;

@@ -1,0 +1,1076 @@
+-- What is read of an element as a kind is of that kind, and shallow.
+use Rattle.std.specs.Prelude.{◌≡◌, refl, ℕ, zero, suc, ◌+◌, ◌<◌, ◌^◌, List, [], ◌∷◌, ◌++◌, reverse, Bool, true, false, ◌&&◌, nat_lt, if◌then◌else◌, ◌⊎◌, ◌==◌, Option, Some, None, Result, Ok, Err, codes}
+use Rattle.std.proofs.Common.{true≢false, inl, inr}
+use Rattle.std.specs.Str.{IsUtf8, bytes_eq, trim}
+use Rattle.std.proofs.lemmas.Str.{IsUtf8-nil}
+use Rattle.std.proofs.lemmas.Grind.{reverse_onto}
+use mathlib.Core.Path.{ap, sym, ◌∙◌, subst}
+use Rattle.cdx_models.specs.declared.bom.SpecVersion.{SpecVersion}
+use Rattle.cdx_models.specs.declared.bom.SpecVersion.TheVariants.{V1_3, V1_4, V1_5}
+use Rattle.cdx_models.specs.Versions.{knows, label, namespace}
+use Rattle.cdx_models.specs.Trees.{Name, hash, property, attached_text, contact, entity, commit, action, patch, diff, issue, source, reference, dependency, composition, license, expression, spdx_id, license_name, tool, component, swid, pedigree, evidence, copyright, service, classification, service_data, tools_object, metadata, signer, signers, chain, bill, Tree, absent, text, number, boolean, items, fields, Trees, none, more, one, two, ◌⧺◌, field, with_field, is_absent}
+use Rattle.cdx_schema.specs.Kinds.{Lists, hashes, properties, urls, contacts, commits, patches, resolved, links, external_references, dependencies, depended, compositions, assemblies, composed, vulnerabilities, licenses, components, services, copyright_texts, endpoints, authors, tool_list, signer_list, chain_list, classifications, flows, Kind, a_text, a_boolean, a_number, a_version, a_list, a_record, a_reference, a_license_choice, a_license_identifier, a_tools, a_data, an_entry, a_signature, a_bill, Rule, lax, strict, passing, Spelled, attribute, attribute_or, content, one_text, as_cdata, child, filled_child, read_child, children, either_child, the_version, Need, optional, required, required_first, else_empty, Row}
+use Rattle.cdx_schema.specs.Table.{rows, list}
+use Rattle.cdx_schema.specs.Held.{held_kind}
+use Rattle.cdx_schema.specs.Results.{◌>>=◌}
+use Rattle.cdx_events.specs.declared.event.EventKind.{EventKind}
+use Rattle.cdx_models.specs.declared.errors.XmlReadError.{XmlReadError}
+use Rattle.cdx_schema.specs.Faults.{unexpected, lacking, namespaced, nested}
+use Rattle.cdx_schema.specs.Depth.{Depth, top, inside, name_too_deep}
+use Rattle.cdx_models.specs.Entries.{entry_of}
+use Rattle.cdx_schema.specs.JsonReading.{is_required}
+use Rattle.cdx_schema.specs.XmlTexts.{boolean_of, number_of, boolean_tree, number_tree, of_text, below_2_32, digits_of}
+use Rattle.cdx_schema.specs.XmlReading.{Reading, Place, last, once, all, Child, Plan, row_children, children_from, record_plan, plan_of_list, tools_plan, data_plan, signature_plan, no_plan, find_child, appended, stored, stray, unknown, is_second, child_read, node_read, find_attribute, parsed, attribute_read, attribute_or_read, row_attribute, attributes_read, in_force, after_text, text_in, simple_text, exact_text, Content, no_content, any_text, one_text_alone, content_from, owed, lacks, lacking_row, filled, ended, Element, end_of, text_read, boolean_read, number_alone, number_in, list_of, list_read, content_read, record_so_far, record_read, reference_read, choice_read, identifier_read, tools_object_of, tools_of, data_of, signature_of, tools_read, data_read, signature_read, in_namespace, bill_read, kind_read, xread, nodes_read, xml_denotes}
+use Rattle.cdx_schema.specs.Keeping.{is_shallow, are_shallow}
+use Rattle.cdx_schema.specs.Membership.{Never, IsOf, AreOf, IsListOf, may_lack}
+use Rattle.cdx_schema.specs.Texts.{AttributeTexts, NodeTexts, NodesTexts}
+use Rattle.cdx_schema.proofs.JsonBack.{and_true, err_ok}
+use Rattle.cdx_schema.proofs.HeldKept.{label_is}
+use Rattle.cdx_schema.proofs.XmlLaw.{is_list_kind}
+use Rattle.cdx_schema.proofs.Sound.{both}
+use Rattle.cdx_schema.proofs.KeptOf.{class_entry, of_there, IsField}
+use Rattle.cdx_schema.proofs.ReadOf.{ok_same, bind_ok, above, IsReadOf, AreRead, IsRecordRead, flat_is, flow_entry}
+use Rattle.std.specs.Prelude.{is_some}
+use native.Mathlib.Omega.{arith}
+use Rattle.cdx_schema.proofs.Sound.{sound_since}
+use Rattle.cdx_schema.proofs.KeptOf.{since_lacks}
+use Rattle.cdx_events.specs.declared.event.EventKind.TheVariants as kinds
+use Rattle.cdx_events.specs.declared.name.OwnedAttribute.{OwnedAttribute}
+use Rattle.cdx_events.specs.Nodes.{Node, Nodes, cdata, characters, element, no_nodes, node}
+use Rattle.cdx_schema.specs.Nodes.{places}
+
+-- ---- fields that are being read: each absent or of its kind
+
+abbrev SlotOf : Kind → Depth → Tree → Type 0
+SlotOf k d t = ((t ≡ absent) ⊎ IsOf t k) × (is_shallow t d ≡ true)
+
+abbrev AreSlots : Trees → List Kind → Depth → Type 0
+AreSlots none [] d = Unit {0}
+AreSlots (more t ts) (k ∷ ks) d = SlotOf k d t × AreSlots ts ks d
+AreSlots none (k ∷ ks) d = Never
+AreSlots (more t ts) [] d = Never
+
+abbrev kind_at : ℕ → List Kind → Kind
+kind_at i [] = a_text
+kind_at zero (k ∷ ks) = k
+kind_at (suc i) (k ∷ ks) = kind_at i ks
+
+absent_slot : (k : Kind) (d : Depth) → SlotOf k d absent
+unfolding is_shallow
+absent_slot k d = (inl refl, refl)
+
+slot_of : (k : Kind) (d : Depth) (t : Tree) → IsReadOf k d t → SlotOf k d t
+slot_of k d t h = (inr h.0, h.1)
+
+slot_at : (i : ℕ) (ts : Trees) (ks : List Kind) (d : Depth) → AreSlots ts ks d → SlotOf (kind_at i ks) d (field i ts)
+slot_at i none [] d h = absent_slot a_text d
+slot_at zero (more t ts) (k ∷ ks) d h = h.0
+slot_at (suc i) (more t ts) (k ∷ ks) d h = slot_at i ts ks d h.1
+slot_at i none (k ∷ ks) d h = absurd (true≢false h)
+slot_at i (more t ts) [] d h = absurd (true≢false h)
+
+with_slot : (i : ℕ) (u : Tree) (ts : Trees) (ks : List Kind) (d : Depth) → AreSlots ts ks d → SlotOf (kind_at i ks) d u → AreSlots (with_field i u ts) ks d
+with_slot i u none [] d h s = tt
+with_slot zero u (more t ts) (k ∷ ks) d h s = (s, h.1)
+with_slot (suc i) u (more t ts) (k ∷ ks) d h s = (h.0, with_slot i u ts ks d h.1 s)
+with_slot i u none (k ∷ ks) d h s = absurd (true≢false h)
+with_slot i u (more t ts) [] d h s = absurd (true≢false h)
+
+-- the fields that are there
+abbrev Present : Trees → List Bool → Type 0
+Present none bs = Unit {0}
+Present (more t ts) [] = Unit {0}
+Present (more t ts) (b ∷ bs) = (b ≡ true → is_absent t ≡ false) × Present ts bs
+
+with_present : (i : ℕ) (u : Tree) (ts : Trees) (bs : List Bool) → is_absent u ≡ false → Present ts bs → Present (with_field i u ts) bs
+with_present i u none bs a h = tt
+with_present zero u (more t ts) [] a h = tt
+with_present (suc i) u (more t ts) [] a h = tt
+with_present zero u (more t ts) (b ∷ bs) a h = (λ e. a, h.1)
+with_present (suc i) u (more t ts) (b ∷ bs) a h = (h.0, with_present i u ts bs a h.1)
+
+abbrev flag_at : ℕ → List Bool → List Bool
+flag_at i [] = []
+flag_at zero (b ∷ bs) = true ∷ bs
+flag_at (suc i) (b ∷ bs) = b ∷ flag_at i bs
+
+now_present : (i : ℕ) (u : Tree) (ts : Trees) (bs : List Bool) → is_absent u ≡ false → Present ts bs → Present (with_field i u ts) (flag_at i bs)
+now_present i u none bs a h = tt
+now_present zero u (more t ts) [] a h = tt
+now_present (suc i) u (more t ts) [] a h = tt
+now_present zero u (more t ts) (b ∷ bs) a h = (λ e. a, h.1)
+now_present (suc i) u (more t ts) (b ∷ bs) a h = (h.0, now_present i u ts bs a h.1)
+
+-- ---- children
+
+abbrev GoodAt : Place → Kind → Kind → Type 0
+GoodAt last k s = (t : Tree) → IsOf t k → IsOf t s
+GoodAt once k s = (t : Tree) → IsOf t k → IsOf t s
+GoodAt all k s = IsListOf s × ((t : Tree) → IsOf t k → IsOf t (held_kind s))
+
+abbrev GoodChild : Child → List Kind → Type 0
+GoodChild c ks = GoodAt c.place c.kind (kind_at c.field ks)
+
+abbrev GoodChildren : List Child → List Kind → Type 0
+GoodChildren [] ks = Unit {0}
+GoodChildren (c ∷ cs) ks = GoodChild c ks × GoodChildren cs ks
+
+append_of : (ts : Trees) (t : Tree) (k : Kind) → AreOf ts k → IsOf t k → AreOf (ts ⧺ one t) k
+append_of none t k h g = (g, tt)
+append_of (more u ts) t k h g = (h.0, append_of ts t k h.1 g)
+
+append_shallow : (ts : Trees) (t : Tree) (d : Depth) → are_shallow ts d ≡ true → is_shallow t d ≡ true → are_shallow (ts ⧺ one t) d ≡ true
+unfolding is_shallow
+append_shallow none t d h g = both (is_shallow t d) true g refl
+append_shallow (more u ts) t d h g =
+    let p : (is_shallow u d ≡ true) × (are_shallow ts d ≡ true) = and_true (is_shallow u d) (are_shallow ts d) h in
+    both (is_shallow u d) (are_shallow (ts ⧺ one t) d) p.0 (append_shallow ts t d p.1 g)
+
+alone : (t : Tree) (s : Kind) (d : Depth) → IsListOf s → IsOf t (held_kind s) → is_shallow t d ≡ true → IsReadOf s d (items (one t))
+unfolding is_shallow
+alone t s d l h e = ((l, (h, tt)), both (is_shallow t d) true e refl)
+
+appended_slot : (u t : Tree) (s : Kind) (d : Depth) → IsListOf s → SlotOf s d u → IsOf t (held_kind s) → is_shallow t d ≡ true → IsReadOf s d (appended u t)
+unfolding is_shallow
+appended_slot (items ts) t s d l (inr h, e) g f = ((l, append_of ts t (held_kind s) h.1 g), append_shallow ts t d e f)
+appended_slot (items ts) t s d l (inl h, e) g f = absurd (true≢false (sym (ap is_absent h)))
+appended_slot absent t s d l h g f = alone t s d l g f
+appended_slot (text x) t s d l h g f = alone t s d l g f
+appended_slot (number x) t s d l h g f = alone t s d l g f
+appended_slot (boolean x) t s d l h g f = alone t s d l g f
+appended_slot (fields n x) t s d l h g f = alone t s d l g f
+
+-- Both: the kinds of all, and the fields that are there.
+abbrev Holds : Trees → List Kind → List Bool → Depth → Type 0
+Holds ts ks bs d = AreSlots ts ks d × Present ts bs
+
+set_holds : (i : ℕ) (u : Tree) (ts : Trees) (ks : List Kind) (bs : List Bool) (d : Depth) → Holds ts ks bs d → IsReadOf (kind_at i ks) d u → Holds (with_field i u ts) ks bs d
+set_holds i u ts ks bs d h r = (with_slot i u ts ks d h.0 (slot_of (kind_at i ks) d u r), with_present i u ts bs (of_there u (kind_at i ks) r.0) h.1)
+
+stored_holds : (p : Place) (i : ℕ) (k : Kind) (t : Tree) (ts : Trees) (ks : List Kind) (bs : List Bool) (d : Depth) → GoodAt p k (kind_at i ks) → Holds ts ks bs d → IsReadOf k d t → Holds (stored p i t ts) ks bs d
+stored_holds last i k t ts ks bs d g h r = set_holds i t ts ks bs d h (g t r.0, r.1)
+stored_holds once i k t ts ks bs d g h r = set_holds i t ts ks bs d h (g t r.0, r.1)
+stored_holds all i k t ts ks bs d g h r = set_holds i (appended (field i ts) t) ts ks bs d h (appended_slot (field i ts) t (kind_at i ks) d g.0 (slot_at i ts ks d h.0) (g.1 t r.0) r.1)
+
+-- ---- nodes
+
+abbrev Good : Reading → Type 0
+Good read = (v : SpecVersion) (k : Kind) (p : ℕ) (d : Depth) (t : Tree) → read v k p d ≡ Ok t → IsReadOf k d t
+
+stray_holds : (r : Rule) (s : EventKind) (around : List ℕ) (p : ℕ) (ts us : Trees) → stray r s around p ts ≡ Ok us → ts ≡ us
+stray_holds passing s around p ts us e = ok_same e
+stray_holds lax s around p ts us e = absurd (err_ok e)
+stray_holds strict s around p ts us e = absurd (err_ok e)
+
+unknown_holds : (r : Rule) (around : List ℕ) (p : ℕ) (ts us : Trees) → unknown r around p ts ≡ Ok us → ts ≡ us
+unknown_holds strict around p ts us e = absurd (err_ok e)
+unknown_holds lax around p ts us e = ok_same e
+unknown_holds passing around p ts us e = ok_same e
+
+if_was : {A F : Type 0} (b : Bool) (f : F) (r : Result A F) (y : A) → (if b then Err f else r) ≡ Ok y → (b ≡ false) × (r ≡ Ok y)
+if_was true f r y e = absurd (err_ok e)
+if_was false f r y e = (refl, e)
+
+abbrev GoodSome : Option Child → List Kind → Type 0
+GoodSome None ks = Unit {0}
+GoodSome (Some c) ks = GoodChild c ks
+
+find_good : (s : List ℕ) (cs : List Child) (ks : List Kind) → GoodChildren cs ks → GoodSome (find_child s cs) ks
+find_good s [] ks h = tt
+find_good s (c ∷ cs) ks h = by (bytes_eq s c.name) (find_good s cs ks h.1)
+  where
+    by : (b : Bool) → GoodSome (find_child s cs) ks → GoodSome (if b then Some c else find_child s cs) ks
+    by true g = h.0
+    by false g = g
+
+child_holds : (o : Option Child) (r : Rule) (read : Reading) (around : List ℕ) (v : SpecVersion) (d : Depth) (p : ℕ) (ts us : Trees) (ks : List Kind) (bs : List Bool) → GoodSome o ks → Good read → Holds ts ks bs d
+    → child_read o r read around v d p ts ≡ Ok us → Holds us ks bs d
+child_holds None r read around v d p ts us ks bs g f h e = subst (λ (x : Trees). Holds x ks bs d) (unknown_holds r around p ts us e) h
+child_holds (Some c) r read around v d p ts us ks bs g f h e =
+    let a : (is_second c.place (field c.field ts) ≡ false) × ((read v c.kind p d >>= (λ t. Ok (stored c.place c.field t ts))) ≡ Ok us) =
+    if_was (is_second c.place (field c.field ts)) (unexpected p around kinds.StartElement) (read v c.kind p d >>= (λ t. Ok (stored c.place c.field t ts))) us e in
+    let x : (t : Tree) × (read v c.kind p d ≡ Ok t) × (Ok (stored c.place c.field t ts) ≡ Ok us) = bind_ok (read v c.kind p d) (λ t. Ok (stored c.place c.field t ts)) us a.1 in
+    subst (λ (y : Trees). Holds y ks bs d) (ok_same x.2) (stored_holds c.place c.field c.kind x.0 ts ks bs d g h (f v c.kind p d x.0 x.1))
+
+node_holds : (x : Node) (read : Reading) (plan : Plan) (around : List ℕ) (v : SpecVersion) (d : Depth) (p : ℕ) (ts us : Trees) (ks : List Kind) (bs : List Bool) → GoodChildren plan.children ks → Good read → Holds ts ks bs d
+    → node_read x read plan around v d p ts ≡ Ok us → Holds us ks bs d
+node_holds (characters s) read plan around v d p ts us ks bs g f h e = subst (λ (x : Trees). Holds x ks bs d) (stray_holds plan.rule _ around p ts us e) h
+node_holds (cdata s) read plan around v d p ts us ks bs g f h e = subst (λ (x : Trees). Holds x ks bs d) (stray_holds plan.rule _ around p ts us e) h
+node_holds (element n as' default xs) read plan around v d p ts us ks bs g f h e = child_holds (find_child n.local_name plan.children) plan.rule read around v d p ts us ks bs (find_good n.local_name plan.children ks g) f h e
+
+-- ---- texts
+
+TextSome : Option (List ℕ) → Type 0
+TextSome None = Unit {0}
+TextSome (Some s) = IsUtf8 s
+
+find_texts : (q : List ℕ) (as' : List OwnedAttribute) → AttributeTexts as' → TextSome (find_attribute q as')
+unfolding TextSome
+find_texts q [] h = tt
+find_texts q (a ∷ as') h = by (bytes_eq a.name.local_name q) (find_texts q as' h.1)
+  where
+    by : (b : Bool) → TextSome (find_attribute q as') → TextSome (if b then Some a.value else find_attribute q as')
+    by true g = h.0
+    by false g = g
+
+append_texts : (xs ys : List OwnedAttribute) → AttributeTexts xs → AttributeTexts ys → AttributeTexts (xs ++ ys)
+append_texts [] ys h g = g
+append_texts (x ∷ xs) ys h g = (h.0, append_texts xs ys h.1 g)
+
+reverse_texts : (xs : List OwnedAttribute) → AttributeTexts xs → AttributeTexts (reverse xs)
+reverse_texts [] h = tt
+reverse_texts (x ∷ xs) h = subst AttributeTexts (sym (reverse_onto xs x [])) (append_texts (reverse xs) (x ∷ []) (reverse_texts xs h.1) (h.0, tt))
+
+force_texts : (n : Name) (as' : List OwnedAttribute) → AttributeTexts as' → AttributeTexts (in_force n as')
+force_texts attached_text as' h = reverse_texts as' h
+force_texts _ as' h = h
+
+after_was : (s : List ℕ) (xs : Nodes) (around : List ℕ) (p : ℕ) (t : List ℕ) → after_text s xs around p ≡ Ok t → s ≡ t
+after_was s no_nodes around p t e = ok_same e
+after_was s (node (characters x) xs) around p t e = absurd (err_ok e)
+after_was s (node (cdata x) xs) around p t e = absurd (err_ok e)
+after_was s (node (element n as' default ys) xs) around p t e = absurd (err_ok e)
+
+text_in_good : (o : Result (List ℕ) XmlReadError) (xs : Nodes) (around : List ℕ) (p : ℕ) (t : List ℕ) → (o ≡ Ok t → IsUtf8 t) → NodesTexts xs → text_in o xs around p ≡ Ok t → IsUtf8 t
+text_in_good o no_nodes around p t f u e = f e
+text_in_good o (node (characters x) xs) around p t f u e = subst IsUtf8 (after_was x xs around (suc p) t e) u.0
+text_in_good o (node (cdata x) xs) around p t f u e = subst IsUtf8 (after_was x xs around (suc p) t e) u.0
+text_in_good o (node (element n as' default ys) xs) around p t f u e = absurd (err_ok e)
+
+simple_good : (xs : Nodes) (around : List ℕ) (p : ℕ) (t : List ℕ) → NodesTexts xs → simple_text xs around p ≡ Ok t → IsUtf8 t
+simple_good xs around p t u e = text_in_good (Ok []) xs around p t (λ h. subst IsUtf8 (ok_same h) IsUtf8-nil) u e
+
+exact_good : (xs : Nodes) (around : List ℕ) (p : ℕ) (t : List ℕ) → NodesTexts xs → exact_text xs around p ≡ Ok t → IsUtf8 t
+exact_good xs around p t u e = text_in_good (Err (unexpected p around kinds.EndElement)) xs around p t (λ h. absurd (err_ok h)) u e
+
+-- ---- leaves
+
+some_or : {A : Type 0} → A → Option A → A
+some_or a None = a
+some_or a (Some b) = b
+
+some_same : {A : Type 0} {x y : A} → Some x ≡ Some y → x ≡ y
+unfolding some_or
+some_same {x = x} h = ap (some_or x) h
+
+none_some : {A B : Type 0} {y : A} → None ≡ Some y → B
+none_some h = absurd (true≢false (sym (ap is_some h)))
+
+below_is : (o : Option ℕ) (n : ℕ) → below_2_32 o ≡ Some n → n < 2 ^ 32
+below_is None n h = none_some h
+below_is (Some m) n h = by (nat_lt m (2 ^ 32)) refl h
+  where
+    by : (b : Bool) → nat_lt m (2 ^ 32) ≡ b → (if b then Some m else None) ≡ Some n → n < 2 ^ 32
+    by true f g = subst (λ (i : ℕ). i < 2 ^ 32) (some_same g) (above m (2 ^ 32) f)
+    by false f g = none_some g
+
+number_below : (s : List ℕ) (n : ℕ) → number_of s ≡ Some n → n < 2 ^ 32
+number_below [] n h = none_some h
+number_below (c ∷ cs) n h = by (c == 43) h
+  where
+    by : (b : Bool) → (if b then below_2_32 (digits_of cs) else below_2_32 (digits_of (c ∷ cs))) ≡ Some n → n < 2 ^ 32
+    by true g = below_is (digits_of cs) n g
+    by false g = below_is (digits_of (c ∷ cs)) n g
+
+number_leaf : (o : Option ℕ) (d : Depth) (t : Tree) → ((n : ℕ) → o ≡ Some n → n < 2 ^ 32) → number_tree o ≡ Some t → IsReadOf a_number d t
+unfolding is_shallow
+number_leaf None d t f h = none_some h
+number_leaf (Some n) d t f h = subst (λ (x : Tree). IsReadOf a_number d x) (some_same h) (f n refl, refl)
+
+boolean_leaf : (o : Option Bool) (d : Depth) (t : Tree) → boolean_tree o ≡ Some t → IsReadOf a_boolean d t
+unfolding is_shallow
+boolean_leaf None d t h = none_some h
+boolean_leaf (Some b) d t h = subst (λ (x : Tree). IsReadOf a_boolean d x) (some_same h) (tt, refl)
+
+abbrev is_leaf : Kind → Bool
+is_leaf a_text = true
+is_leaf a_boolean = true
+is_leaf a_number = true
+is_leaf _ = false
+
+leaf_good : (k : Kind) (s : List ℕ) (d : Depth) (t : Tree) → is_leaf k ≡ true → IsUtf8 s → of_text k s ≡ Some t → IsReadOf k d t
+unfolding is_shallow
+leaf_good a_text s d t l u h = subst (λ (x : Tree). IsReadOf a_text d x) (some_same h) (u, refl)
+leaf_good a_boolean s d t l u h = boolean_leaf (boolean_of s) d t h
+leaf_good a_number s d t l u h = number_leaf (number_of s) d t (number_below s) h
+leaf_good _ s d t l u h = absurd (true≢false (sym l))
+
+parsed_was : (o : Option Tree) (p : ℕ) (name s : List ℕ) (k : Kind) (t : Tree) → parsed o p name s k ≡ Ok t → o ≡ Some t
+parsed_was None p name s k t e = absurd (err_ok e)
+parsed_was (Some x) p name s k t e = ap Some (ok_same e)
+
+-- ---- attributes
+
+abbrev is_number_kind : Kind → Bool
+is_number_kind a_number = true
+is_number_kind _ = false
+
+abbrev is_version_kind : Kind → Bool
+is_version_kind a_version = true
+is_version_kind _ = false
+
+abbrev is_text_kind : Kind → Bool
+is_text_kind a_text = true
+is_text_kind _ = false
+
+abbrev is_plain_need : Need → Bool
+is_plain_need optional = true
+is_plain_need required = true
+is_plain_need _ = false
+
+abbrev is_not_else : Need → Bool
+is_not_else else_empty = false
+is_not_else _ = true
+
+abbrev reads_xml : Spelled → Need → Kind → Bool
+reads_xml (attribute q) n k = is_leaf k && is_plain_need n
+reads_xml (attribute_or q m) n k = nat_lt m (2 ^ 32) && is_number_kind k
+reads_xml the_version n k = is_version_kind k
+reads_xml (children q) n k = is_list_kind k
+reads_xml (child q) n k = is_not_else n
+reads_xml (filled_child q) n k = is_not_else n
+reads_xml (read_child q) n k = is_not_else n
+reads_xml (either_child q m) n k = is_not_else n
+reads_xml _ n k = true
+
+abbrev all_xml : List Row → Bool
+all_xml [] = true
+all_xml (r ∷ rs) = (sound_since r.since r.need r.kind && reads_xml r.xml r.need r.kind) && all_xml rs
+
+reads_rows : (n : Name) → all_xml (rows n) ≡ true
+unfolding rows
+reads_rows hash = refl
+reads_rows property = refl
+reads_rows attached_text = refl
+reads_rows contact = refl
+reads_rows entity = refl
+reads_rows commit = refl
+reads_rows action = refl
+reads_rows patch = refl
+reads_rows diff = refl
+reads_rows issue = refl
+reads_rows source = refl
+reads_rows reference = refl
+reads_rows dependency = refl
+reads_rows composition = refl
+reads_rows license = refl
+reads_rows expression = refl
+reads_rows spdx_id = refl
+reads_rows license_name = refl
+reads_rows tool = refl
+reads_rows component = refl
+reads_rows swid = refl
+reads_rows pedigree = refl
+reads_rows evidence = refl
+reads_rows copyright = refl
+reads_rows service = refl
+reads_rows classification = refl
+reads_rows service_data = refl
+reads_rows tools_object = refl
+reads_rows metadata = refl
+reads_rows signer = refl
+reads_rows signers = refl
+reads_rows chain = refl
+reads_rows bill = refl
+
+row_parts : (r : Row) (rs : List Row) → all_xml (r ∷ rs) ≡ true → (sound_since r.since r.need r.kind ≡ true) × (reads_xml r.xml r.need r.kind ≡ true) × (all_xml rs ≡ true)
+row_parts r rs h =
+    let p : ((sound_since r.since r.need r.kind && reads_xml r.xml r.need r.kind) ≡ true) × (all_xml rs ≡ true) = and_true (sound_since r.since r.need r.kind && reads_xml r.xml r.need r.kind) (all_xml rs) h in
+    let q : (sound_since r.since r.need r.kind ≡ true) × (reads_xml r.xml r.need r.kind ≡ true) = and_true (sound_since r.since r.need r.kind) (reads_xml r.xml r.need r.kind) p.0 in
+    (q.0, q.1, p.1)
+
+abbrev kinds : List Row → List Kind
+kinds [] = []
+kinds (r ∷ rs) = r.kind ∷ kinds rs
+
+-- whether a field is there once the attributes are read
+abbrev flag_by : Bool → Spelled → Need → SpecVersion → Bool
+flag_by b (attribute q) n v = b && is_required n v
+flag_by b (attribute_or q m) n v = b
+flag_by b the_version n v = b
+flag_by b _ n v = false
+
+abbrev flags : List Row → SpecVersion → List Bool
+flags [] v = []
+flags (r ∷ rs) v = flag_by (knows r.since v) r.xml r.need v ∷ flags rs v
+
+abbrev Attributed : Kind → Depth → Bool → Tree → Type 0
+Attributed k d b t = SlotOf k d t × (b ≡ true → is_absent t ≡ false)
+
+no_flag : (x : Spelled) (n : Need) (v : SpecVersion) → flag_by false x n v ≡ false
+no_flag (attribute q) n v = refl
+no_flag (attribute_or q m) n v = refl
+no_flag the_version n v = refl
+no_flag _ n v = refl
+
+absent_attributed : (k : Kind) (d : Depth) (b : Bool) (t : Tree) → b ≡ false → absent ≡ t → Attributed k d b t
+absent_attributed k d b t h e = subst (λ (x : Tree). Attributed k d b x) e (absent_slot k d, λ g. absurd (true≢false (sym g ∙ h)))
+
+read_attributed : (k : Kind) (d : Depth) (b : Bool) (t : Tree) → IsReadOf k d t → Attributed k d b t
+read_attributed k d b t h = (slot_of k d t h, λ e. of_there t k h.0)
+
+attribute_good : (o : Option (List ℕ)) (q : List ℕ) (r : Row) (v : SpecVersion) (around : List ℕ) (p : ℕ) (d : Depth) (t : Tree) → TextSome o → is_leaf r.kind ≡ true → attribute_read o q r v around p ≡ Ok t → Attributed r.kind d (is_required r.need v) t
+unfolding TextSome
+attribute_good None q r v around p d t u l e =
+    let a : (is_required r.need v ≡ false) × (Ok absent ≡ Ok t) = if_was (is_required r.need v) (lacking p around q) (Ok absent) t e in
+    absent_attributed r.kind d (is_required r.need v) t a.0 (ok_same a.1)
+attribute_good (Some s) q r v around p d t u l e = read_attributed r.kind d (is_required r.need v) t (leaf_good r.kind s d t l u (parsed_was (of_text r.kind s) p q s r.kind t e))
+
+number_default : (k : Kind) (m : ℕ) (d : Depth) (t : Tree) → nat_lt m (2 ^ 32) ≡ true → is_number_kind k ≡ true → number m ≡ t → IsReadOf k d t
+unfolding is_shallow
+number_default a_number m d t lt h e = subst (λ (x : Tree). IsReadOf a_number d x) e (above m (2 ^ 32) lt, refl)
+number_default _ m d t lt h e = absurd (true≢false (sym h))
+
+number_kind_leaf : (k : Kind) → is_number_kind k ≡ true → is_leaf k ≡ true
+number_kind_leaf a_number h = refl
+number_kind_leaf _ h = absurd (true≢false (sym h))
+
+attribute_or_good : (o : Option (List ℕ)) (q : List ℕ) (m : ℕ) (r : Row) (p : ℕ) (d : Depth) (t : Tree) → TextSome o → nat_lt m (2 ^ 32) ≡ true → is_number_kind r.kind ≡ true → attribute_or_read o q m r p ≡ Ok t → IsReadOf r.kind d t
+unfolding TextSome
+attribute_or_good None q m r p d t u lt l e = number_default r.kind m d t lt l (ok_same e)
+attribute_or_good (Some s) q m r p d t u lt l e = leaf_good r.kind s d t (number_kind_leaf r.kind l) u (parsed_was (of_text r.kind s) p q s r.kind t e)
+
+version_good : (k : Kind) (v : SpecVersion) (d : Depth) (t : Tree) → is_version_kind k ≡ true → text (label v) ≡ t → IsReadOf k d t
+unfolding is_shallow
+version_good a_version v d t h e = subst (λ (x : Tree). IsReadOf a_version d x) e (label_is v, refl)
+version_good _ v d t h e = absurd (true≢false (sym h))
+
+row_attributed : (r : Row) (as' : List OwnedAttribute) (v : SpecVersion) (around : List ℕ) (p : ℕ) (d : Depth) (t : Tree) → AttributeTexts as' → reads_xml r.xml r.need r.kind ≡ true → row_attribute r as' v around p ≡ Ok t
+    → Attributed r.kind d (flag_by true r.xml r.need v) t
+row_attributed r as' v around p d t u h e = by r.xml h e
+  where
+    by : (x : Spelled) → reads_xml x r.need r.kind ≡ true → row_attribute (record r { xml = x }) as' v around p ≡ Ok t → Attributed r.kind d (flag_by true x r.need v) t
+    by (attribute q) g f = attribute_good (find_attribute q as') q (record r { xml = attribute q }) v around p d t (find_texts q as' u) (and_true (is_leaf r.kind) (is_plain_need r.need) g).0 f
+    by (attribute_or q m) g f = let a : (nat_lt m (2 ^ 32) ≡ true) × (is_number_kind r.kind ≡ true) = and_true (nat_lt m (2 ^ 32)) (is_number_kind r.kind) g in
+        read_attributed r.kind d true t (attribute_or_good (find_attribute q as') q m (record r { xml = attribute_or q m }) p d t (find_texts q as' u) a.0 a.1 f)
+    by the_version g f = read_attributed r.kind d true t (version_good r.kind v d t g (ok_same f))
+    by content g f = absent_attributed r.kind d false t refl (ok_same f)
+    by one_text g f = absent_attributed r.kind d false t refl (ok_same f)
+    by as_cdata g f = absent_attributed r.kind d false t refl (ok_same f)
+    by (child q) g f = absent_attributed r.kind d false t refl (ok_same f)
+    by (filled_child q) g f = absent_attributed r.kind d false t refl (ok_same f)
+    by (read_child q) g f = absent_attributed r.kind d false t refl (ok_same f)
+    by (children q) g f = absent_attributed r.kind d false t refl (ok_same f)
+    by (either_child q m) g f = absent_attributed r.kind d false t refl (ok_same f)
+
+known_attributed : (b : Bool) (r : Row) (as' : List OwnedAttribute) (v : SpecVersion) (around : List ℕ) (p : ℕ) (d : Depth) (t : Tree) → AttributeTexts as' → reads_xml r.xml r.need r.kind ≡ true
+    → (if b then row_attribute r as' v around p else Ok absent) ≡ Ok t → Attributed r.kind d (flag_by b r.xml r.need v) t
+known_attributed true r as' v around p d t u h e = row_attributed r as' v around p d t u h e
+known_attributed false r as' v around p d t u h e = absent_attributed r.kind d (flag_by false r.xml r.need v) t (no_flag r.xml r.need v) (ok_same e)
+
+attributes_hold : (rs : List Row) (as' : List OwnedAttribute) (v : SpecVersion) (around : List ℕ) (p : ℕ) (d : Depth) (ts : Trees) → AttributeTexts as' → all_xml rs ≡ true → attributes_read rs as' v around p ≡ Ok ts → Holds ts (kinds rs) (flags rs v) d
+unfolding attributes_read
+attributes_hold [] as' v around p d ts u h e = subst (λ (x : Trees). Holds x [] [] d) (ok_same e) (tt, tt)
+attributes_hold (r ∷ rs) as' v around p d ts u h e =
+    let x : (t : Tree) × ((if knows r.since v then row_attribute r as' v around p else Ok absent) ≡ Ok t) × ((attributes_read rs as' v around p >>= (λ us. Ok (more t us))) ≡ Ok ts) = bind_ok (if knows r.since v then row_attribute r as' v around p else Ok absent) (λ t. attributes_read rs as' v around p >>= (λ us. Ok (more t us))) ts e in
+    let y : (us : Trees) × (attributes_read rs as' v around p ≡ Ok us) × (Ok (more x.0 us) ≡ Ok ts) = bind_ok (attributes_read rs as' v around p) (λ us. Ok (more x.0 us)) ts x.2 in
+    let a : Attributed r.kind d (flag_by (knows r.since v) r.xml r.need v) x.0 = known_attributed (knows r.since v) r as' v around p d x.0 u (row_parts r rs h).1 x.1 in
+    let b : Holds y.0 (kinds rs) (flags rs v) d = attributes_hold rs as' v around p d y.0 u (row_parts r rs h).2 y.1 in
+    subst (λ (z : Trees). Holds z (kinds (r ∷ rs)) (flags (r ∷ rs) v) d) (ok_same y.2) ((a.0, b.0), (a.1, b.1))
+
+-- ---- the end of a record
+
+abbrev last_flag_by : Bool → Spelled → Need → SpecVersion → Bool
+last_flag_by b content n v = true
+last_flag_by b one_text n v = true
+last_flag_by b as_cdata n v = true
+last_flag_by b x n v = flag_by b x n v
+
+abbrev last_flags : List Row → SpecVersion → List Bool
+last_flags [] v = []
+last_flags (r ∷ rs) v = last_flag_by (knows r.since v) r.xml r.need v ∷ last_flags rs v
+
+lacks_was : {A : Type 0} (o : Option (List ℕ)) (r : Row) (t : Tree) (v : SpecVersion) (b : Bool) (around : List ℕ) (p : ℕ) (rest : Result Trees XmlReadError) (us : Trees) → lacks o r t v ≡ b
+    → (if b then lacking_row o around p (Ok none) else rest) ≡ Ok us → ((b ≡ false) → rest ≡ Ok us → A) → A
+lacks_was None r t v true around p rest us h e f = absurd (true≢false (sym h))
+lacks_was (Some q) r t v true around p rest us h e f = absurd (err_ok e)
+lacks_was o r t v false around p rest us h e f = f refl e
+
+three : (a b c : Bool) → (a && b && c) ≡ false → a ≡ true → c ≡ true → b ≡ false
+three true true true h p q = absurd (true≢false h)
+three true true false h p q = absurd (true≢false (sym q))
+three true false c h p q = refl
+three false b c h p q = absurd (true≢false (sym p))
+
+-- A row that isn't owed may lack its field.
+not_owed : (n : Need) (v : SpecVersion) → is_not_else n ≡ true → is_required n v ≡ false → may_lack n ≡ true
+not_owed optional v e h = refl
+not_owed required v e h = absurd (true≢false h)
+not_owed required_first v e h = refl
+not_owed else_empty v e h = absurd (true≢false (sym e))
+
+child_lacks : (b : Bool) (r : Row) (v : SpecVersion) → knows r.since v ≡ b → sound_since r.since r.need r.kind ≡ true → is_not_else r.need ≡ true → (knows r.since v && is_required r.need v && is_absent absent) ≡ false → may_lack r.need ≡ true
+child_lacks true r v k s e h = not_owed r.need v e (three (knows r.since v) (is_required r.need v) true h k refl)
+child_lacks false r v k s e h = since_lacks r.since r.need r.kind v s k
+
+attribute_lacks : (b : Bool) (r : Row) (v : SpecVersion) → knows r.since v ≡ b → sound_since r.since r.need r.kind ≡ true → is_plain_need r.need ≡ true → ((b && is_required r.need v) ≡ true → true ≡ false) → may_lack r.need ≡ true
+attribute_lacks false r v k s e h = since_lacks r.since r.need r.kind v s k
+attribute_lacks true r v k s e h = by r.need e h
+  where
+    by : (n : Need) → is_plain_need n ≡ true → ((true && is_required n v) ≡ true → true ≡ false) → may_lack n ≡ true
+    by optional f g = refl
+    by required f g = absurd (true≢false (g refl))
+    by required_first f g = absurd (true≢false (sym f))
+    by else_empty f g = absurd (true≢false (sym f))
+
+known_lacks : (b : Bool) (r : Row) (v : SpecVersion) → knows r.since v ≡ b → sound_since r.since r.need r.kind ≡ true → (b ≡ true → true ≡ false) → may_lack r.need ≡ true
+known_lacks false r v k s h = since_lacks r.since r.need r.kind v s k
+known_lacks true r v k s h = absurd (true≢false (h refl))
+
+filled_there : (r : Row) (t : Tree) → is_absent t ≡ false → filled r t ≡ t
+filled_there r t h = by r.xml r.need t h
+  where
+    by : (x : Spelled) (n : Need) (u : Tree) → is_absent u ≡ false → filled (record r { xml = x; need = n }) u ≡ u
+    by (children q) required absent g = absurd (true≢false g)
+    by (children q) else_empty absent g = absurd (true≢false g)
+    by _ n u g = refl
+
+abbrev Ended : Row → Depth → Tree → Type 0
+Ended r d t = IsField t r × (is_shallow t d ≡ true)
+
+empty_filled : (k : Kind) (d : Depth) → is_list_kind k ≡ true → IsReadOf k d (items none)
+unfolding is_shallow
+empty_filled (a_list l) d h = ((tt, tt), refl)
+empty_filled _ d h = absurd (true≢false (sym h))
+
+children_ended : (n : Need) (q : List ℕ) (r : Row) (d : Depth) → is_list_kind r.kind ≡ true → (((filled (record r { xml = children q; need = n }) absent ≡ absent) × (may_lack n ≡ true)) ⊎ IsOf (filled (record r { xml = children q; need = n }) absent) r.kind) × (is_shallow (filled (record r { xml = children q; need = n }) absent) d ≡ true)
+unfolding is_shallow
+children_ended optional q r d l = (inl (refl, refl), refl)
+children_ended required_first q r d l = (inl (refl, refl), refl)
+children_ended required q r d l = (inr (empty_filled r.kind d l).0, (empty_filled r.kind d l).1)
+children_ended else_empty q r d l = (inr (empty_filled r.kind d l).0, (empty_filled r.kind d l).1)
+
+absent_ended : (r : Row) (v : SpecVersion) (d : Depth) → sound_since r.since r.need r.kind ≡ true → reads_xml r.xml r.need r.kind ≡ true → lacks (owed r.xml) r absent v ≡ false
+    → (last_flag_by (knows r.since v) r.xml r.need v ≡ true → true ≡ false) → Ended r d (filled r absent)
+unfolding is_shallow
+absent_ended r v d s h l f = by r.xml h l f
+  where
+    by : (x : Spelled) → reads_xml x r.need r.kind ≡ true → lacks (owed x) r absent v ≡ false → (last_flag_by (knows r.since v) x r.need v ≡ true → true ≡ false)
+        → (((filled (record r { xml = x }) absent ≡ absent) × (may_lack r.need ≡ true)) ⊎ IsOf (filled (record r { xml = x }) absent) r.kind) × (is_shallow (filled (record r { xml = x }) absent) d ≡ true)
+    by (attribute q) g o e = (inl (refl, attribute_lacks (knows r.since v) r v refl s (and_true (is_leaf r.kind) (is_plain_need r.need) g).1 e), refl)
+    by (attribute_or q m) g o e = (inl (refl, known_lacks (knows r.since v) r v refl s e), refl)
+    by the_version g o e = (inl (refl, known_lacks (knows r.since v) r v refl s e), refl)
+    by content g o e = absurd (true≢false (e refl))
+    by one_text g o e = absurd (true≢false (e refl))
+    by as_cdata g o e = absurd (true≢false (e refl))
+    by (child q) g o e = (inl (refl, child_lacks (knows r.since v) r v refl s g o), refl)
+    by (filled_child q) g o e = (inl (refl, child_lacks (knows r.since v) r v refl s g o), refl)
+    by (read_child q) g o e = (inl (refl, child_lacks (knows r.since v) r v refl s g o), refl)
+    by (either_child q m) g o e = (inl (refl, child_lacks (knows r.since v) r v refl s g o), refl)
+    by (children q) g o e = children_ended r.need q r d g
+
+row_ended : (r : Row) (v : SpecVersion) (d : Depth) (t : Tree) → sound_since r.since r.need r.kind ≡ true → reads_xml r.xml r.need r.kind ≡ true → SlotOf r.kind d t → lacks (owed r.xml) r t v ≡ false
+    → (last_flag_by (knows r.since v) r.xml r.need v ≡ true → is_absent t ≡ false) → Ended r d (filled r t)
+row_ended r v d t s h (inr is, sh) l f = subst (λ (x : Tree). Ended r d x) (sym (filled_there r t (of_there t r.kind is))) (inr is, sh)
+row_ended r v d t s h (inl is, sh) l f = subst (λ (x : Tree). Ended r d (filled r x)) (sym is) (absent_ended r v d s h (sym (ap (λ x. lacks (owed r.xml) r x v) is) ∙ l) (λ e. sym (ap is_absent is) ∙ f e))
+
+pub ended_good : (rs : List Row) (ts : Trees) (v : SpecVersion) (around : List ℕ) (p : ℕ) (d : Depth) (us : Trees) → all_xml rs ≡ true → Holds ts (kinds rs) (last_flags rs v) d → ended rs ts v around p ≡ Ok us → AreRead rs d us
+unfolding ended is_shallow
+ended_good [] ts v around p d us h holds e = subst (λ (x : Trees). AreRead [] d x) (ok_same e) (tt, refl)
+ended_good (r ∷ rs) none v around p d us h holds e = absurd (true≢false holds.0)
+ended_good (r ∷ rs) (more t ts) v around p d us h holds e =
+    lacks_was (owed r.xml) r t v (lacks (owed r.xml) r t v) around p (ended rs ts v around p >>= (λ zs. Ok (more (filled r t) zs))) us refl e (λ l o.
+    let x : (zs : Trees) × (ended rs ts v around p ≡ Ok zs) × (Ok (more (filled r t) zs) ≡ Ok us) = bind_ok (ended rs ts v around p) (λ zs. Ok (more (filled r t) zs)) us o in
+    let a : Ended r d (filled r t) = row_ended r v d t (row_parts r rs h).0 (row_parts r rs h).1 holds.0.0 l holds.1.0 in
+    let b : AreRead rs d x.0 = ended_good rs ts v around p d x.0 (row_parts r rs h).2 (holds.0.1, holds.1.1) x.1 in
+    subst (λ (z : Trees). AreRead (r ∷ rs) d z) (ok_same x.2) ((a.0, b.0), both (is_shallow (filled r t) d) (are_shallow x.0 d) a.1 b.1))
+
+-- ---- plans
+
+good_append : (xs ys : List Child) (ks : List Kind) → GoodChildren xs ks → GoodChildren ys ks → GoodChildren (xs ++ ys) ks
+good_append [] ys ks h g = g
+good_append (x ∷ xs) ys ks h g = (h.0, good_append xs ys ks h.1 g)
+
+list_kind_of : (k : Kind) → is_list_kind k ≡ true → IsListOf k
+list_kind_of (a_list l) h = tt
+list_kind_of _ h = absurd (true≢false (sym h))
+
+abbrev same_kind : {k s : Kind} → s ≡ k → (t : Tree) → IsOf t k → IsOf t s
+same_kind e t h = subst (λ (x : Kind). IsOf t x) (sym e) h
+
+row_children_good : (i : ℕ) (r : Row) (ks : List Kind) → reads_xml r.xml r.need r.kind ≡ true → kind_at i ks ≡ r.kind → GoodChildren (row_children i r) ks
+row_children_good i r ks h e = by r.xml h
+  where
+    by : (x : Spelled) → reads_xml x r.need r.kind ≡ true → GoodChildren (row_children i (record r { xml = x })) ks
+    by (child q) g = (same_kind e, tt)
+    by (filled_child q) g = (same_kind e, tt)
+    by (read_child q) g = (same_kind e, tt)
+    by (children q) g = (subst (λ (s : Kind). IsListOf s × ((t : Tree) → IsOf t (held_kind r.kind) → IsOf t (held_kind s))) (sym e) (list_kind_of r.kind g, λ t f. f), tt)
+    by (either_child q m) g = (same_kind e, (same_kind e, tt))
+    by _ g = tt
+
+known_children : (b : Bool) (i : ℕ) (r : Row) (ks : List Kind) → reads_xml r.xml r.need r.kind ≡ true → kind_at i ks ≡ r.kind → GoodChildren (if b then row_children i r else []) ks
+known_children true i r ks h e = row_children_good i r ks h e
+known_children false i r ks h e = tt
+
+plus_none : (i : ℕ) → i + 0 ≡ i
+plus_none i = omega arith
+
+none_plus : (j : ℕ) → 0 + j ≡ j
+none_plus j = omega arith
+
+plus_one : (i j : ℕ) → suc i + j ≡ i + suc j
+plus_one i j = omega arith
+
+children_good : (i : ℕ) (rs : List Row) (v : SpecVersion) (ks : List Kind) → all_xml rs ≡ true → ((j : ℕ) → kind_at (i + j) ks ≡ kind_at j (kinds rs)) → GoodChildren (children_from i rs v) ks
+children_good i [] v ks h f = tt
+children_good i (r ∷ rs) v ks h f = good_append (if knows r.since v then row_children i r else []) (children_from (suc i) rs v) ks
+    (known_children (knows r.since v) i r ks (row_parts r rs h).1 (ap (λ j. kind_at j ks) (sym (plus_none i)) ∙ f 0))
+    (children_good (suc i) rs v ks (row_parts r rs h).2 (λ j. ap (λ m. kind_at m ks) (plus_one i j) ∙ f (suc j)))
+
+plan_good : (n : Name) (v : SpecVersion) → GoodChildren (children_from 0 (rows n) v) (kinds (rows n))
+plan_good n v = children_good 0 (rows n) v (kinds (rows n)) (reads_rows n) (λ j. ap (λ m. kind_at m (kinds (rows n))) (none_plus j))
+
+-- ---- elements
+
+abbrev ReadGood : Element → Type 0
+ReadGood e = (plan : Plan) (ks : List Kind) (bs : List Bool) (v : SpecVersion) (d : Depth) (ts us : Trees) → GoodChildren plan.children ks → Holds ts ks bs d → e.read plan v d ts ≡ Ok us → Holds us ks bs d
+
+abbrev GoodElement : Element → Type 0
+GoodElement e = ReadGood e × AttributeTexts e.attributes × NodesTexts e.nodes
+
+abbrev at_end : Content → List Bool → List Bool
+at_end no_content bs = bs
+at_end (any_text i) bs = flag_at i bs
+at_end (one_text_alone i) bs = flag_at i bs
+
+abbrev is_text_at : Content → List Kind → Bool
+is_text_at no_content ks = true
+is_text_at (any_text i) ks = is_text_kind (kind_at i ks)
+is_text_at (one_text_alone i) ks = is_text_kind (kind_at i ks)
+
+texts_at : (n : Name) → is_text_at (content_from 0 (rows n)) (kinds (rows n)) ≡ true
+unfolding rows
+texts_at hash = refl
+texts_at property = refl
+texts_at attached_text = refl
+texts_at contact = refl
+texts_at entity = refl
+texts_at commit = refl
+texts_at action = refl
+texts_at patch = refl
+texts_at diff = refl
+texts_at issue = refl
+texts_at source = refl
+texts_at reference = refl
+texts_at dependency = refl
+texts_at composition = refl
+texts_at license = refl
+texts_at expression = refl
+texts_at spdx_id = refl
+texts_at license_name = refl
+texts_at tool = refl
+texts_at component = refl
+texts_at swid = refl
+texts_at pedigree = refl
+texts_at evidence = refl
+texts_at copyright = refl
+texts_at service = refl
+texts_at classification = refl
+texts_at service_data = refl
+texts_at tools_object = refl
+texts_at metadata = refl
+texts_at signer = refl
+texts_at signers = refl
+texts_at chain = refl
+texts_at bill = refl
+
+flags_end : (n : Name) (v : SpecVersion) → at_end (content_from 0 (rows n)) (flags (rows n) v) ≡ last_flags (rows n) v
+unfolding rows
+flags_end hash v = refl
+flags_end property v = refl
+flags_end attached_text v = refl
+flags_end contact v = refl
+flags_end entity v = refl
+flags_end commit v = refl
+flags_end action v = refl
+flags_end patch v = refl
+flags_end diff v = refl
+flags_end issue v = refl
+flags_end source v = refl
+flags_end reference v = refl
+flags_end dependency v = refl
+flags_end composition v = refl
+flags_end license v = refl
+flags_end expression v = refl
+flags_end spdx_id v = refl
+flags_end license_name v = refl
+flags_end tool v = refl
+flags_end component v = refl
+flags_end swid v = refl
+flags_end pedigree v = refl
+flags_end evidence v = refl
+flags_end copyright v = refl
+flags_end service v = refl
+flags_end classification v = refl
+flags_end service_data v = refl
+flags_end tools_object v = refl
+flags_end metadata v = refl
+flags_end signer v = refl
+flags_end signers v = refl
+flags_end chain v = refl
+flags_end bill v = refl
+
+text_kind_read : (k : Kind) (s : List ℕ) (d : Depth) → is_text_kind k ≡ true → IsUtf8 s → IsReadOf k d (text s)
+unfolding is_shallow
+text_kind_read a_text s d h u = (u, refl)
+text_kind_read _ s d h u = absurd (true≢false (sym h))
+
+text_set : (i : ℕ) (s : List ℕ) (ts us : Trees) (ks : List Kind) (bs : List Bool) (d : Depth) → is_text_kind (kind_at i ks) ≡ true → IsUtf8 s → Holds ts ks bs d → with_field i (text s) ts ≡ us → Holds us ks (flag_at i bs) d
+text_set i s ts us ks bs d h u holds e = subst (λ (x : Trees). Holds x ks (flag_at i bs) d) e
+    (with_slot i (text s) ts ks d holds.0 (slot_of (kind_at i ks) d (text s) (text_kind_read (kind_at i ks) s d h u)), now_present i (text s) ts bs refl holds.1)
+
+content_good : (c : Content) (e : Element) (n : Name) (ts us : Trees) (v : SpecVersion) (bs : List Bool) (d : Depth) → GoodElement e → is_text_at c (kinds (rows n)) ≡ true → Holds ts (kinds (rows n)) bs d
+    → content_read c e n ts v d ≡ Ok us → Holds us (kinds (rows n)) (at_end c bs) d
+content_good no_content e n ts us v bs d g h holds o = g.0 (record_plan n) (kinds (rows n)) bs v d ts us (plan_good n v) holds o
+content_good (any_text i) e n ts us v bs d g h holds o =
+    let x : (s : List ℕ) × (text_read e ≡ Ok s) × (Ok (with_field i (text s) ts) ≡ Ok us) = bind_ok (text_read e) (λ s. Ok (with_field i (text s) ts)) us o in
+    text_set i x.0 ts us (kinds (rows n)) bs d h (simple_good e.nodes e.name (suc e.start) x.0 g.2 x.1) holds (ok_same x.2)
+content_good (one_text_alone i) e n ts us v bs d g h holds o =
+    let x : (s : List ℕ) × (exact_text e.nodes e.name (suc e.start) ≡ Ok s) × (Ok (with_field i (text s) ts) ≡ Ok us) = bind_ok (exact_text e.nodes e.name (suc e.start)) (λ s. Ok (with_field i (text s) ts)) us o in
+    text_set i x.0 ts us (kinds (rows n)) bs d h (exact_good e.nodes e.name (suc e.start) x.0 g.2 x.1) holds (ok_same x.2)
+
+record_good : (e : Element) (n : Name) (v : SpecVersion) (d : Depth) (t : Tree) → GoodElement e → record_read e n v d ≡ Ok t → IsRecordRead n (inside n d) t
+record_good e n v d t g o =
+    let x : (us : Trees) × (record_so_far e n v (inside n d) ≡ Ok us) × ((ended (rows n) us v e.name (end_of e) >>= (λ zs. Ok (fields n zs))) ≡ Ok t) = bind_ok (record_so_far e n v (inside n d)) (λ us. ended (rows n) us v e.name (end_of e) >>= (λ zs. Ok (fields n zs))) t o in
+    let y : (zs : Trees) × (ended (rows n) x.0 v e.name (end_of e) ≡ Ok zs) × (Ok (fields n zs) ≡ Ok t) = bind_ok (ended (rows n) x.0 v e.name (end_of e)) (λ zs. Ok (fields n zs)) t x.2 in
+    let z : (ts : Trees) × (attributes_read (rows n) (in_force n e.attributes) v e.name e.start ≡ Ok ts) × (content_read (content_from 0 (rows n)) e n ts v (inside n d) ≡ Ok x.0) = bind_ok (attributes_read (rows n) (in_force n e.attributes) v e.name e.start) (λ ts. content_read (content_from 0 (rows n)) e n ts v (inside n d)) x.0 x.1 in
+    let a : Holds z.0 (kinds (rows n)) (flags (rows n) v) (inside n d) = attributes_hold (rows n) (in_force n e.attributes) v e.name e.start (inside n d) z.0 (force_texts n e.attributes g.1) (reads_rows n) z.1 in
+    let b : Holds x.0 (kinds (rows n)) (at_end (content_from 0 (rows n)) (flags (rows n) v)) (inside n d) = content_good (content_from 0 (rows n)) e n z.0 x.0 v (flags (rows n) v) (inside n d) g (texts_at n) a z.2 in
+    (y.0, sym (ok_same y.2), ended_good (rows n) x.0 v e.name (end_of e) (inside n d) y.0 (reads_rows n) (subst (λ (bs : List Bool). Holds x.0 (kinds (rows n)) bs (inside n d)) (flags_end n v) b) y.1)
+
+-- ---- forms of their own
+
+lists_good : (l : Lists) → GoodChildren (plan_of_list l).children (a_list l ∷ [])
+unfolding list
+lists_good hashes = ((tt, λ t h. h), tt)
+lists_good properties = ((tt, λ t h. h), tt)
+lists_good urls = ((tt, λ t h. h), tt)
+lists_good contacts = ((tt, λ t h. h), tt)
+lists_good commits = ((tt, λ t h. h), tt)
+lists_good patches = ((tt, λ t h. h), tt)
+lists_good resolved = ((tt, λ t h. h), tt)
+lists_good links = ((tt, λ t h. h), tt)
+lists_good external_references = ((tt, λ t h. h), tt)
+lists_good dependencies = ((tt, λ t h. h), tt)
+lists_good depended = ((tt, λ t h. h), tt)
+lists_good compositions = ((tt, λ t h. h), tt)
+lists_good assemblies = ((tt, λ t h. h), tt)
+lists_good composed = ((tt, λ t h. h), tt)
+lists_good vulnerabilities = ((tt, λ t h. h), tt)
+lists_good components = ((tt, λ t h. h), tt)
+lists_good services = ((tt, λ t h. h), tt)
+lists_good copyright_texts = ((tt, λ t h. h), tt)
+lists_good endpoints = ((tt, λ t h. h), tt)
+lists_good authors = ((tt, λ t h. h), tt)
+lists_good tool_list = ((tt, λ t h. h), tt)
+lists_good signer_list = ((tt, λ t h. h), tt)
+lists_good chain_list = ((tt, λ t h. h), tt)
+lists_good classifications = ((tt, λ t h. h), tt)
+lists_good flows = ((tt, λ t h. h), tt)
+lists_good licenses = ((tt, λ t h. h), ((tt, λ t h. h), tt))
+
+list_of_good : (t : Tree) (l : Lists) (d : Depth) → SlotOf (a_list l) d t → IsReadOf (a_list l) d (list_of t)
+unfolding is_shallow
+list_of_good absent l d h = ((tt, tt), refl)
+list_of_good (text s) l d (inr h, e) = (h, e)
+list_of_good (number s) l d (inr h, e) = (h, e)
+list_of_good (boolean s) l d (inr h, e) = (h, e)
+list_of_good (items s) l d (inr h, e) = (h, e)
+list_of_good (fields n s) l d (inr h, e) = (h, e)
+list_of_good (text s) l d (inl h, e) = absurd (true≢false (sym (ap is_absent h)))
+list_of_good (number s) l d (inl h, e) = absurd (true≢false (sym (ap is_absent h)))
+list_of_good (boolean s) l d (inl h, e) = absurd (true≢false (sym (ap is_absent h)))
+list_of_good (items s) l d (inl h, e) = absurd (true≢false (sym (ap is_absent h)))
+list_of_good (fields n s) l d (inl h, e) = absurd (true≢false (sym (ap is_absent h)))
+
+list_good : (e : Element) (l : Lists) (v : SpecVersion) (d : Depth) (t : Tree) → GoodElement e → list_read e l v d ≡ Ok t → IsReadOf (a_list l) d t
+list_good e l v d t g o =
+    let x : (ts : Trees) × (e.read (plan_of_list l) v d (one absent) ≡ Ok ts) × (Ok (list_of (field 0 ts)) ≡ Ok t) = bind_ok (e.read (plan_of_list l) v d (one absent)) (λ ts. Ok (list_of (field 0 ts))) t o in
+    let h : Holds x.0 (a_list l ∷ []) [] d = g.0 (plan_of_list l) (a_list l ∷ []) [] v d (one absent) x.0 (lists_good l) ((absent_slot (a_list l) d, tt), tt) x.1 in
+    subst (λ (y : Tree). IsReadOf (a_list l) d y) (ok_same x.2) (list_of_good (field 0 x.0) l d (slot_at 0 x.0 (a_list l ∷ []) d h.0))
+
+reference_good : (e : Element) (v : SpecVersion) (d : Depth) (t : Tree) → GoodElement e → reference_read e v d ≡ Ok t → IsReadOf a_reference d t
+unfolding is_shallow TextSome
+reference_good e v d t g o = by (find_attribute (codes "ref") e.attributes) (find_texts (codes "ref") e.attributes g.1) o
+  where
+    some : (s : List ℕ) → IsUtf8 s → (e.read no_plan v d none >>= (λ ts. Ok (text s))) ≡ Ok t → IsReadOf a_reference d t
+    some s u h = let x : (ts : Trees) × (e.read no_plan v d none ≡ Ok ts) × (Ok (text s) ≡ Ok t) = bind_ok (e.read no_plan v d none) (λ ts. Ok (text s)) t h in
+        subst (λ (y : Tree). IsReadOf a_reference d y) (ok_same x.2) (u, refl)
+
+    read_by : Option (List ℕ) → Result Tree XmlReadError
+    read_by None = Err (lacking e.start e.name (codes "ref"))
+    read_by (Some s) = e.read no_plan v d none >>= (λ ts. Ok (text s))
+
+    by : (f : Option (List ℕ)) → TextSome f → read_by f ≡ Ok t → IsReadOf a_reference d t
+    by None u h = absurd (err_ok h)
+    by (Some s) u h = some s u h
+
+either_was : (b c : Bool) (r s : Result Tree XmlReadError) (f : XmlReadError) (t : Tree) → (if b then r else (if c then s else Err f)) ≡ Ok t → (r ≡ Ok t) ⊎ (s ≡ Ok t)
+either_was true c r s f t h = inl h
+either_was false true r s f t h = inr h
+either_was false false r s f t h = absurd (err_ok h)
+
+choice_good : (e : Element) (v : SpecVersion) (d : Depth) (t : Tree) → GoodElement e → choice_read e v d ≡ Ok t → IsReadOf a_license_choice d t
+choice_good e v d t g o = by (either_was (bytes_eq e.name (codes "license")) (bytes_eq e.name (codes "expression")) (record_read e license v d) (record_read e expression v d) (lacking e.start e.name (codes "license or expression")) t o)
+  where
+    by : (record_read e license v d ≡ Ok t) ⊎ (record_read e expression v d ≡ Ok t) → IsReadOf a_license_choice d t
+    by (inl h) = flat_is a_license_choice license d t (record_good e license v d t g h) refl (λ ts f. (inl refl, f))
+    by (inr h) = flat_is a_license_choice expression d t (record_good e expression v d t g h) refl (λ ts f. (inr refl, f))
+
+identifier_good : (e : Element) (v : SpecVersion) (d : Depth) (t : Tree) → GoodElement e → identifier_read e v d ≡ Ok t → IsReadOf a_license_identifier d t
+identifier_good e v d t g o = by (either_was (bytes_eq e.name (codes "id")) (bytes_eq e.name (codes "name")) (record_read e spdx_id v d) (record_read e license_name v d) (lacking e.start e.name (codes "id or name")) t o)
+  where
+    by : (record_read e spdx_id v d ≡ Ok t) ⊎ (record_read e license_name v d ≡ Ok t) → IsReadOf a_license_identifier d t
+    by (inl h) = flat_is a_license_identifier spdx_id d t (record_good e spdx_id v d t g h) refl (λ ts f. (inl refl, f))
+    by (inr h) = flat_is a_license_identifier license_name d t (record_good e license_name v d t g h) refl (λ ts f. (inr refl, f))
+
+-- ---- tools
+
+abbrev tools_kinds : List Kind
+tools_kinds = a_list tool_list ∷ a_list services ∷ a_list components ∷ []
+
+tools_children : (v : SpecVersion) → GoodChildren (tools_plan).children tools_kinds
+unfolding list
+tools_children V1_3 = ((tt, λ t h. h), tt)
+tools_children V1_4 = ((tt, λ t h. h), tt)
+tools_children V1_5 = ((tt, λ t h. h), ((λ t h. h), ((λ t h. h), tt)))
+
+tool_list_tools : (t : Tree) → IsOf t (a_list tool_list) → IsOf t a_tools
+unfolding list
+tool_list_tools absent h = h
+tool_list_tools (text s) h = h
+tool_list_tools (number s) h = h
+tool_list_tools (boolean s) h = h
+tool_list_tools (items ts) h = h
+tool_list_tools (fields n ts) h = absurd (true≢false h.0)
+
+part_of : (k : Kind) (d : Depth) (t : Tree) → SlotOf k d t → ((t ≡ absent) × (true ≡ true)) ⊎ IsOf t k
+part_of k d t (inl h, e) = inl (h, refl)
+part_of k d t (inr h, e) = inr h
+
+object_good : (v : SpecVersion) (ts : Trees) (d : Depth) → AreSlots ts tools_kinds d → IsReadOf a_tools d (tools_object_of v ts)
+unfolding is_shallow rows
+object_good V1_3 ts d h = ((tt, tt), refl)
+object_good V1_4 ts d h = ((tt, tt), refl)
+object_good V1_5 ts d h =
+    let a : SlotOf (a_list services) d (field 1 ts) = slot_at 1 ts tools_kinds d h in
+    let b : SlotOf (a_list components) d (field 2 ts) = slot_at 2 ts tools_kinds d h in
+    ((refl, (part_of (a_list services) d (field 1 ts) a, (part_of (a_list components) d (field 2 ts) b, tt))), both (is_shallow (field 1 ts) d) (is_shallow (field 2 ts) d && true) a.1 (both (is_shallow (field 2 ts) d) true b.1 refl))
+
+there_good : (k : Kind) (d : Depth) (t : Tree) → is_absent t ≡ false → SlotOf k d t → IsReadOf k d t
+there_good k d t a (inl h, e) = absurd (true≢false (sym (ap is_absent h) ∙ a))
+there_good k d t a (inr h, e) = (h, e)
+
+tools_of_good : (e : Element) (v : SpecVersion) (ts : Trees) (d : Depth) (t : Tree) → AreSlots ts tools_kinds d → tools_of e v ts ≡ Ok t → IsReadOf a_tools d t
+tools_of_good e v ts d t h o = by (field 0 ts) (slot_at 0 ts tools_kinds d h) o
+  where
+    f : XmlReadError
+    f = lacking (end_of e) e.name (codes "tool array or services & components")
+
+    listed : (x : Tree) → is_absent x ≡ false → SlotOf (a_list tool_list) d x → (b : Bool) → (if b then Ok x else Err f) ≡ Ok t → IsReadOf a_tools d t
+    listed x a s true g = subst (λ (y : Tree). IsReadOf a_tools d y) (ok_same g) (tool_list_tools x (there_good (a_list tool_list) d x a s).0, s.1)
+    listed x a s false g = absurd (err_ok g)
+
+    way : Tree → Result Tree XmlReadError
+    way absent = Ok (tools_object_of v ts)
+    way x = if is_absent (field 1 ts) && is_absent (field 2 ts) then Ok x else Err f
+
+    by : (x : Tree) → SlotOf (a_list tool_list) d x → way x ≡ Ok t → IsReadOf a_tools d t
+    by absent s g = subst (λ (y : Tree). IsReadOf a_tools d y) (ok_same g) (object_good v ts d h)
+    by (text x) s g = listed (text x) refl s (is_absent (field 1 ts) && is_absent (field 2 ts)) g
+    by (number x) s g = listed (number x) refl s (is_absent (field 1 ts) && is_absent (field 2 ts)) g
+    by (boolean x) s g = listed (boolean x) refl s (is_absent (field 1 ts) && is_absent (field 2 ts)) g
+    by (items x) s g = listed (items x) refl s (is_absent (field 1 ts) && is_absent (field 2 ts)) g
+    by (fields n x) s g = listed (fields n x) refl s (is_absent (field 1 ts) && is_absent (field 2 ts)) g
+
+no_flags : List Bool
+no_flags = []
+
+tools_good : (e : Element) (v : SpecVersion) (d : Depth) (t : Tree) → GoodElement e → tools_read e v d ≡ Ok t → IsReadOf a_tools d t
+tools_good e v d t g o =
+    let x : (ts : Trees) × (e.read (tools_plan) v d (more absent (two absent absent)) ≡ Ok ts) × (tools_of e v ts ≡ Ok t) = bind_ok (e.read (tools_plan) v d (more absent (two absent absent))) (λ ts. tools_of e v ts) t o in
+    let h : Holds x.0 tools_kinds [] d = g.0 (tools_plan) tools_kinds [] v d (more absent (two absent absent)) x.0 (tools_children v) ((absent_slot (a_list tool_list) d, (absent_slot (a_list services) d, (absent_slot (a_list components) d, tt))), tt) x.1 in
+    tools_of_good e v x.0 d t h.0 x.2
+
+-- ---- data
+
+abbrev data_kinds : List Kind
+data_kinds = a_list classifications ∷ a_data ∷ []
+
+data_children : (v : SpecVersion) → GoodChildren (data_plan).children data_kinds
+unfolding list
+data_children V1_3 = ((tt, λ t h. h), tt)
+data_children V1_4 = ((tt, λ t h. h), tt)
+data_children V1_5 = ((tt, λ t h. h), ((tt, λ t h. h), tt))
+
+entries_of : (ts : Trees) → AreOf ts (a_record classification) → AreOf ts an_entry
+entries_of none h = tt
+entries_of (more t ts) h = (class_entry t h.0, entries_of ts h.1)
+
+classes_data : (t : Tree) → IsOf t (a_list classifications) → IsOf t a_data
+unfolding list
+classes_data absent h = h
+classes_data (text s) h = h
+classes_data (number s) h = h
+classes_data (boolean s) h = h
+classes_data (items ts) h = (tt, entries_of ts h.1)
+classes_data (fields n ts) h = absurd (true≢false h.0)
+
+data_of_good : (ts : Trees) (d : Depth) → AreSlots ts data_kinds d → IsReadOf a_data d (data_of ts)
+data_of_good ts d h = by (field 1 ts) (slot_at 1 ts data_kinds d h)
+  where
+    classes : IsReadOf a_data d (list_of (field 0 ts))
+    classes = let p : IsReadOf (a_list classifications) d (list_of (field 0 ts)) = list_of_good (field 0 ts) classifications d (slot_at 0 ts data_kinds d h) in (classes_data (list_of (field 0 ts)) p.0, p.1)
+
+    way : Tree → Tree
+    way absent = list_of (field 0 ts)
+    way x = x
+
+    by : (x : Tree) → SlotOf a_data d x → IsReadOf a_data d (way x)
+    by absent s = classes
+    by (text x) s = there_good a_data d (text x) refl s
+    by (number x) s = there_good a_data d (number x) refl s
+    by (boolean x) s = there_good a_data d (boolean x) refl s
+    by (items x) s = there_good a_data d (items x) refl s
+    by (fields n x) s = there_good a_data d (fields n x) refl s
+
+data_good : (e : Element) (v : SpecVersion) (d : Depth) (t : Tree) → GoodElement e → data_read e v d ≡ Ok t → IsReadOf a_data d t
+data_good e v d t g o =
+    let x : (ts : Trees) × (e.read (data_plan) v d (two absent absent) ≡ Ok ts) × (Ok (data_of ts) ≡ Ok t) = bind_ok (e.read (data_plan) v d (two absent absent)) (λ ts. Ok (data_of ts)) t o in
+    let h : Holds x.0 data_kinds [] d = g.0 (data_plan) data_kinds [] v d (two absent absent) x.0 (data_children v) ((absent_slot (a_list classifications) d, (absent_slot a_data d, tt)), tt) x.1 in
+    subst (λ (y : Tree). IsReadOf a_data d y) (ok_same x.2) (data_of_good x.0 d h.0)
+
+-- ---- signatures
+
+abbrev signature_kinds : List Kind
+signature_kinds = a_signature ∷ a_text ∷ a_text ∷ []
+
+signers_signature : (t : Tree) → IsOf t (a_record signers) → IsOf t a_signature
+signers_signature absent h = h
+signers_signature (text s) h = h
+signers_signature (number s) h = h
+signers_signature (boolean s) h = h
+signers_signature (items ts) h = absurd (true≢false h.0)
+signers_signature (fields n ts) h = (inl h.0, h.1)
+
+chain_signature : (t : Tree) → IsOf t (a_record chain) → IsOf t a_signature
+chain_signature absent h = h
+chain_signature (text s) h = h
+chain_signature (number s) h = h
+chain_signature (boolean s) h = h
+chain_signature (items ts) h = absurd (true≢false h.0)
+chain_signature (fields n ts) h = (inr (inl h.0), h.1)
+
+signature_of_good : (e : Element) (v : SpecVersion) (ts : Trees) (d : Depth) (t : Tree) → AreSlots ts signature_kinds d → signature_of e v ts ≡ Ok t → IsReadOf a_signature d t
+signature_of_good e v ts d t h o = by (field 0 ts) (slot_at 0 ts signature_kinds d h) o
+  where
+    single : (ended (rows signer) (two (field 1 ts) (field 2 ts)) v e.name (end_of e) >>= (λ us. Ok (fields signer us))) ≡ Ok t → IsReadOf a_signature d t
+    single g =
+        let x : (us : Trees) × (ended (rows signer) (two (field 1 ts) (field 2 ts)) v e.name (end_of e) ≡ Ok us) × (Ok (fields signer us) ≡ Ok t) = bind_ok (ended (rows signer) (two (field 1 ts) (field 2 ts)) v e.name (end_of e)) (λ us. Ok (fields signer us)) t g in
+        flat_is a_signature signer d t (
+          x.0,
+          sym (ok_same x.2),
+          ended_good (rows signer) (two (field 1 ts) (field 2 ts)) v e.name (end_of e) d x.0 (reads_rows signer)
+              (unfold rows in ((slot_at 1 ts signature_kinds d h, (slot_at 2 ts signature_kinds d h, tt)), ((λ b. absurd (true≢false (sym b))), ((λ b. absurd (true≢false (sym b))), tt)))) x.1,
+        ) refl (λ us f. (inr (inr refl), f))
+
+    way : Tree → Result Tree XmlReadError
+    way absent = ended (rows signer) (two (field 1 ts) (field 2 ts)) v e.name (end_of e) >>= (λ us. Ok (fields signer us))
+    way x = Ok x
+
+    listed : (x : Tree) → is_absent x ≡ false → SlotOf a_signature d x → Ok x ≡ way x → way x ≡ Ok t → IsReadOf a_signature d t
+    listed x a s i g = subst (λ (y : Tree). IsReadOf a_signature d y) (ok_same (i ∙ g)) (there_good a_signature d x a s)
+
+    by : (x : Tree) → SlotOf a_signature d x → way x ≡ Ok t → IsReadOf a_signature d t
+    by absent s g = single g
+    by (text x) s g = listed (text x) refl s refl g
+    by (number x) s g = listed (number x) refl s refl g
+    by (boolean x) s g = listed (boolean x) refl s refl g
+    by (items x) s g = listed (items x) refl s refl g
+    by (fields n x) s g = listed (fields n x) refl s refl g
+
+signature_good : (e : Element) (v : SpecVersion) (d : Depth) (t : Tree) → GoodElement e → signature_read e v d ≡ Ok t → IsReadOf a_signature d t
+signature_good e v d t g o =
+    let x : (ts : Trees) × (e.read signature_plan v d (more absent (two absent absent)) ≡ Ok ts) × (signature_of e v ts ≡ Ok t) = bind_ok (e.read signature_plan v d (more absent (two absent absent))) (λ ts. signature_of e v ts) t o in
+    let h : Holds x.0 signature_kinds [] d = g.0 signature_plan signature_kinds [] v d (more absent (two absent absent)) x.0 (signers_signature, (chain_signature, ((λ t h. h), ((λ t h. h), tt)))) ((absent_slot a_signature d, (absent_slot a_text d, (absent_slot a_text d, tt))), tt) x.1 in
+    signature_of_good e v x.0 d t h.0 x.2
+
+-- ---- all kinds
+
+bill_good : (e : Element) (v : SpecVersion) (d : Depth) (t : Tree) → GoodElement e → bill_read e v d ≡ Ok t → IsReadOf a_bill d t
+bill_good e v d t g o = by (bytes_eq e.name (codes "bom")) (in_namespace e.namespace (namespace v)) o
+  where
+    by : (b c : Bool) → (if b then (if c then record_read e bill v d else Err (namespaced (namespace v) e.namespace)) else Err (unexpected e.start (codes "bom") kinds.StartElement)) ≡ Ok t → IsReadOf a_bill d t
+    by true true h = flat_is a_bill bill d t (record_good e bill v d t g h) refl (λ ts f. (refl, f))
+    by true false h = absurd (err_ok h)
+    by false c h = absurd (err_ok h)
+
+text_element : (e : Element) (d : Depth) (t : Tree) → GoodElement e → (text_read e >>= (λ s. Ok (text s))) ≡ Ok t → IsReadOf a_text d t
+unfolding is_shallow
+text_element e d t g o =
+    let x : (s : List ℕ) × (text_read e ≡ Ok s) × (Ok (text s) ≡ Ok t) = bind_ok (text_read e) (λ s. Ok (text s)) t o in
+    subst (λ (y : Tree). IsReadOf a_text d y) (ok_same x.2) (simple_good e.nodes e.name (suc e.start) x.0 g.2 x.1, refl)
+
+boolean_element : (e : Element) (d : Depth) (t : Tree) → boolean_read e ≡ Ok t → IsReadOf a_boolean d t
+boolean_element e d t o =
+    let x : (s : List ℕ) × (text_read e ≡ Ok s) × (parsed (boolean_tree (boolean_of s)) (end_of e) e.name s a_boolean ≡ Ok t) = bind_ok (text_read e) (λ s. parsed (boolean_tree (boolean_of s)) (end_of e) e.name s a_boolean) t o in
+    boolean_leaf (boolean_of x.0) d t (parsed_was (boolean_tree (boolean_of x.0)) (end_of e) e.name x.0 a_boolean t x.2)
+
+number_alone_good : (o : Option ℕ) (s : List ℕ) (xs : Nodes) (around : List ℕ) (p : ℕ) (d : Depth) (t : Tree) → ((n : ℕ) → o ≡ Some n → n < 2 ^ 32) → number_alone o s xs around p ≡ Ok t → IsReadOf a_number d t
+unfolding is_shallow
+number_alone_good None s xs around p d t f h = absurd (err_ok h)
+number_alone_good (Some n) s xs around p d t f h =
+    let x : (u : List ℕ) × (after_text s xs around (suc p) ≡ Ok u) × (Ok (number n) ≡ Ok t) = bind_ok (after_text s xs around (suc p)) (λ u. Ok (number n)) t h in
+    subst (λ (y : Tree). IsReadOf a_number d y) (ok_same x.2) (f n refl, refl)
+
+number_in_good : (xs : Nodes) (around : List ℕ) (p : ℕ) (d : Depth) (t : Tree) → number_in xs around p ≡ Ok t → IsReadOf a_number d t
+number_in_good no_nodes around p d t h = absurd (err_ok h)
+number_in_good (node (characters s) xs) around p d t h = number_alone_good (number_of (trim s)) s xs around p d t (number_below (trim s)) h
+number_in_good (node (cdata s) xs) around p d t h = number_alone_good (number_of (trim s)) s xs around p d t (number_below (trim s)) h
+number_in_good (node (element n as' default ys) xs) around p d t h = absurd (err_ok h)
+
+entry_element : (e : Element) (v : SpecVersion) (d : Depth) (t : Tree) → GoodElement e → (record_read e service_data v d >>= (λ s. Ok (entry_of s))) ≡ Ok t → IsReadOf an_entry d t
+entry_element e v d t g o =
+    let x : (s : Tree) × (record_read e service_data v d ≡ Ok s) × (Ok (entry_of s) ≡ Ok t) = bind_ok (record_read e service_data v d) (λ s. Ok (entry_of s)) t o in
+    let p : IsRecordRead service_data d x.0 = record_good e service_data v d x.0 g x.1 in
+    subst (λ (y : Tree). IsReadOf an_entry d y) (ap entry_of (sym p.1) ∙ ok_same x.2) (flow_entry p.0 d p.2)
+
+kind_good : (e : Element) (v : SpecVersion) (k : Kind) (d : Depth) (t : Tree) → GoodElement e → kind_read e v k d ≡ Ok t → IsReadOf k d t
+kind_good e v a_text d t g o = text_element e d t g o
+kind_good e v a_boolean d t g o = boolean_element e d t o
+kind_good e v a_number d t g o = number_in_good e.nodes e.name (suc e.start) d t o
+kind_good e v a_version d t g o = absurd (err_ok o)
+kind_good e v (a_list l) d t g o = list_good e l v d t g o
+kind_good e v (a_record n) d t g o =
+    let a : (name_too_deep n d ≡ false) × (record_read e n v d ≡ Ok t) = if_was (name_too_deep n d) (nested e.start) (record_read e n v d) t o in
+    flat_is (a_record n) n d t (record_good e n v d t g a.1) a.0 (λ ts f. (refl, f))
+kind_good e v a_reference d t g o = reference_good e v d t g o
+kind_good e v a_license_choice d t g o = choice_good e v d t g o
+kind_good e v a_license_identifier d t g o = identifier_good e v d t g o
+kind_good e v a_tools d t g o = tools_good e v d t g o
+kind_good e v a_data d t g o = data_good e v d t g o
+kind_good e v an_entry d t g o = entry_element e v d t g o
+kind_good e v a_signature d t g o = signature_good e v d t g o
+kind_good e v a_bill d t g o = bill_good e v d t g o
+
+mutual
+  unfolding xread
+
+  pub xread_of : (x : Node) → NodeTexts x → (v : SpecVersion) (k : Kind) (p : ℕ) (d : Depth) (t : Tree) → xread x v k p d ≡ Ok t → IsReadOf k d t
+  xread_of (characters s) u v k p d t o = absurd (err_ok o)
+  xread_of (cdata s) u v k p d t o = absurd (err_ok o)
+  xread_of (element n as' default xs) u v k p d t o =
+      kind_good (record { name = n.local_name; attributes = as'; namespace = default; nodes = xs; start = p; read = λ plan w e ts. nodes_read xs plan n.local_name w e (suc p) ts }) v k d t
+      ((λ plan ks bs w e ts us g h q. nodes_hold xs u.1 plan n.local_name w e (suc p) ts us ks bs g h q), u.0, u.1) o
+
+  nodes_hold : (xs : Nodes) → NodesTexts xs → (plan : Plan) (around : List ℕ) (v : SpecVersion) (d : Depth) (p : ℕ) (ts us : Trees) (ks : List Kind) (bs : List Bool) → GoodChildren plan.children ks → Holds ts ks bs d
+      → nodes_read xs plan around v d p ts ≡ Ok us → Holds us ks bs d
+  nodes_hold no_nodes u plan around v d p ts us ks bs g h o = subst (λ (y : Trees). Holds y ks bs d) (ok_same o) h
+  nodes_hold (node x xs) u plan around v d p ts us ks bs g h o =
+      let a : (zs : Trees) × (node_read x (xread x) plan around v d p ts ≡ Ok zs) × (nodes_read xs plan around v d (p + places x) zs ≡ Ok us) = bind_ok (node_read x (xread x) plan around v d p ts) (λ zs. nodes_read xs plan around v d (p + places x) zs) us o in
+      nodes_hold xs u.1 plan around v d (p + places x) a.0 us ks bs g (node_holds x (xread x) plan around v d p ts a.0 ks bs g (λ w k q e t r. xread_of x u.0 w k q e t r) h a.1) a.2
+
+-- A bill that an element denotes is of its kind and shallow.
+pub xml_bill : (x : Node) (v : SpecVersion) (b : Tree) → NodeTexts x → xml_denotes x v ≡ Ok b → IsReadOf a_bill top b
+xml_bill x v b u e = xread_of x u v a_bill 1 top b e
