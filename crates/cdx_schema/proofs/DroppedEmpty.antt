@@ -9,6 +9,7 @@ use Rattle.cdx_models.specs.Versions.{knows}
 use Rattle.cdx_models.specs.Trees.{Name, hash, property, attached_text, contact, entity, commit, action, patch, diff, issue, source, reference, dependency, composition, license, expression, spdx_id, license_name, tool, component, swid, pedigree, evidence, copyright, service, classification, service_data, tools_object, metadata, signer, signers, chain, bill, Tree, absent, text, number, boolean, items, fields, Trees, none, more, one, is_absent}
 use Rattle.cdx_schema.specs.Kinds.{Lists, Kind, a_text, a_boolean, a_number, a_version, a_list, a_record, a_reference, a_license_choice, a_license_identifier, a_tools, a_data, an_entry, a_signature, a_bill, signer_list, chain_list, Spelled, attribute, attribute_or, content, one_text, as_cdata, child, filled_child, read_child, children, either_child, the_version, Need, optional, required, required_first, else_empty, Row}
 use Rattle.cdx_schema.specs.Table.{rows, list}
+use Rattle.cdx_models.specs.Entries.{is_flow}
 use Rattle.cdx_schema.specs.Depth.{Depth, inside}
 use Rattle.cdx_schema.specs.Held.{held_kind}
 use Rattle.cdx_models.specs.declared.errors.XmlReadError.{XmlReadError}
@@ -21,7 +22,7 @@ use Rattle.cdx_schema.proofs.XmlBack.{row_written}
 use Rattle.cdx_schema.proofs.XmlLaw.{is_plain, tag_plain, optional_text}
 use Rattle.cdx_schema.proofs.JsonBack.{one_text_of, required_held, held_text, IsTextHeld, IsNumberHeld}
 use Rattle.cdx_schema.proofs.HeldKept.{held_kept, fits_first}
-use Rattle.cdx_schema.specs.Membership.{IsOf, IsBooleanOf}
+use Rattle.cdx_schema.specs.Membership.{IsOf, IsListOf, IsBooleanOf}
 use Rattle.cdx_schema.specs.Keeping.{keep}
 use Rattle.cdx_schema.specs.Depth.{top}
 use Rattle.cdx_schema.specs.JsonSpelling.{is_written}
@@ -58,7 +59,7 @@ bare_solid w k e d (number s) h = refl
 bare_solid w k e d (boolean s) h = refl
 bare_solid w k e d (items ts) h = by k e h.0
   where
-    by : (j : Kind) → is_bare j ≡ true → Rattle.cdx_schema.specs.Membership.IsListOf j → have_empty ts ≡ false
+    by : (j : Kind) → is_bare j ≡ true → IsListOf j → have_empty ts ≡ false
     by a_text e h = absurd (true≢false h)
     by a_number e h = absurd (true≢false h)
     by a_boolean e h = absurd (true≢false h)
@@ -198,7 +199,7 @@ entry_solid w d (boolean x) h = absurd (true≢false h)
 entry_solid w d (items x) h = absurd (true≢false h.0)
 entry_solid w d (fields n ts) h = by h.0
   where
-    by : (n ≡ classification) ⊎ ((n ≡ service_data) × (Rattle.cdx_schema.specs.Entries.is_flow n ts ≡ true) × (w ≡ V1_5)) → has_empty (fields n ts) ≡ false
+    by : (n ≡ classification) ⊎ ((n ≡ service_data) × (is_flow n ts ≡ true) × (w ≡ V1_5)) → has_empty (fields n ts) ≡ false
     by (inl e) = subst (λ (j : Name). FieldsHeld w (inside j d) ts (rows j) → has_empty (fields j ts) ≡ false) (sym e) (fields_solid w d classification ts (class_solid w) refl) h.2
     by (inr e) = subst (λ (j : Name). FieldsHeld w (inside j d) ts (rows j) → has_empty (fields j ts) ≡ false) (sym e.0) (fields_solid w d service_data ts (flow_solid w) refl) h.2
 
@@ -253,24 +254,24 @@ none_split : (xs ys : Nodes) (w : SpecVersion) (plan : Plan) (p : ℕ) → holes
 unfolding hole
 none_split no_nodes ys w plan p h = (refl, (p, h))
 none_split (node x xs) ys w plan p h =
-    let e : (node_hole x (hole x w p) plan ≡ None) × (holes (xs ⊕ ys) w (p + places x) plan ≡ None) = both_none (node_hole x (hole x w p) plan) (holes (xs ⊕ ys) w (p + places x) plan) h in
+    let e : (node_hole x w (hole x w p) plan ≡ None) × (holes (xs ⊕ ys) w (p + places x) plan ≡ None) = both_none (node_hole x w (hole x w p) plan) (holes (xs ⊕ ys) w (p + places x) plan) h in
     let f : (holes xs w (p + places x) plan ≡ None) × ((q : ℕ) × (holes ys w q plan ≡ None)) = none_split xs ys w plan (p + places x) e.1 in
     (ap (λ o. earlier o (holes xs w (p + places x) plan)) e.0 ∙ f.0, f.1)
 
 lean_split : (xs ys : Nodes) (w : SpecVersion) (plan : Plan) (p : ℕ) → holes (lean_nodes (xs ⊕ ys)) w p plan ≡ None → (holes (lean_nodes xs) w p plan ≡ None) × ((q : ℕ) × (holes (lean_nodes ys) w q plan ≡ None))
 lean_split xs ys w plan p h = none_split (lean_nodes xs) (lean_nodes ys) w plan p (ap (λ zs. holes zs w p plan) (sym (lean_append xs ys)) ∙ h)
 
-child_back : (w : SpecVersion) (plan : Plan) (t : Tree) (k : Kind) (n q : List ℕ) (p : ℕ) → Back w t k → tag_of k t n ≡ q → Found plan q k → holes (lean_nodes (lone (wrapped t w n k (nodes_of t w k)))) w p plan ≡ None → has_empty t ≡ false
+child_back : (w : SpecVersion) (plan : Plan) (t : Tree) (k : Kind) (n q : List ℕ) (p : ℕ) → Back w t k → tag_of k t n ≡ q → Found w plan q k → holes (lean_nodes (lone (wrapped t w n k (nodes_of t w k)))) w p plan ≡ None → has_empty t ≡ false
 unfolding hole
 child_back w plan t k n q p b e f h =
     let x : Node = lean (wrapped t w n k (nodes_of t w k)) in
-    let g : (child_hole (find_child (tag_of k t n) plan.children) (hole (lean (wrapped t w n k (nodes_of t w k))) w p) ≡ None) × (Rattle.std.specs.Prelude.◌≡◌ {A = Option XmlReadError} None None) = both_none (child_hole (find_child (tag_of k t n) plan.children) (hole (lean (wrapped t w n k (nodes_of t w k))) w p)) None h in
-    b n p (sym (ap (λ z. child_hole (find_child z plan.children) (hole (lean (wrapped t w n k (nodes_of t w k))) w p)) e
+    let g : (child_hole (find_child w (tag_of k t n) plan.children) (hole (lean (wrapped t w n k (nodes_of t w k))) w p) ≡ None) × (Rattle.std.specs.Prelude.◌≡◌ {A = Option XmlReadError} None None) = both_none (child_hole (find_child w (tag_of k t n) plan.children) (hole (lean (wrapped t w n k (nodes_of t w k))) w p)) None h in
+    b n p (sym (ap (λ z. child_hole (find_child w z plan.children) (hole (lean (wrapped t w n k (nodes_of t w k))) w p)) e
     ∙ (ap (λ o. child_hole o (hole (lean (wrapped t w n k (nodes_of t w k))) w p)) f.1
     ∙ ap (hole (lean (wrapped t w n k (nodes_of t w k))) w p) f.2)) ∙ g.0)
 
 abbrev ItemsBack : SpecVersion → Depth → Tree → Type 0
-ItemsBack w d t = (l : Lists) (plan : Plan) (p : ℕ) → Held w d t (a_list l) → is_plain (list l).kind ≡ true → Found plan (list l).name (list l).kind → holes (lean_nodes (nodes_of t w (a_list l))) w p plan ≡ None → has_empty t ≡ false
+ItemsBack w d t = (l : Lists) (plan : Plan) (p : ℕ) → Held w d t (a_list l) → is_plain (list l).kind ≡ true → Found w plan (list l).name (list l).kind → holes (lean_nodes (nodes_of t w (a_list l))) w p plan ≡ None → has_empty t ≡ false
 
 abbrev is_signature : Kind → Bool
 is_signature a_signature = true
@@ -295,7 +296,7 @@ signed : (w : SpecVersion) (d : Depth) (t : Tree) (k : Kind) → is_signature k 
 signed w d t a_signature e h = signature_solid w d t h
 signed w d t _ e h = absurd (true≢false (sym e))
 
-either_back : (w : SpecVersion) (d : Depth) (plan : Plan) (t : Tree) (m : List ℕ) (p : ℕ) → Held w d t a_license_identifier → Back w t a_license_identifier → Found plan (codes "id") a_license_identifier → Found plan (codes "name") a_license_identifier
+either_back : (w : SpecVersion) (d : Depth) (plan : Plan) (t : Tree) (m : List ℕ) (p : ℕ) → Held w d t a_license_identifier → Back w t a_license_identifier → Found w plan (codes "id") a_license_identifier → Found w plan (codes "name") a_license_identifier
     → holes (lean_nodes (lone (wrapped t w m a_license_identifier (nodes_of t w a_license_identifier)))) w p plan ≡ None → has_empty t ≡ false
 either_back w d plan (fields o ts) m p g e i j h = by o g.0 e h
   where
@@ -308,26 +309,26 @@ either_back w d plan (number s) m p g e i j h = absurd (true≢false g)
 either_back w d plan (boolean s) m p g e i j h = absurd (true≢false g)
 either_back w d plan (items s) m p g e i j h = absurd (true≢false g.0)
 
-row_back : (w : SpecVersion) (d : Depth) (plan : Plan) (t : Tree) (r : Row) (p : ℕ) → is_clear r.kind r.xml ≡ true → is_sound r.kind r.xml ≡ true → RowFinds plan r r.xml
+row_back : (w : SpecVersion) (d : Depth) (plan : Plan) (t : Tree) (r : Row) (p : ℕ) → is_clear r.kind r.xml ≡ true → is_sound r.kind r.xml ≡ true → RowFinds w plan r r.xml
     → Held w d t r.kind → Back w t r.kind → ItemsBack w d t → holes (lean_nodes (row_nodes r.xml t w r.kind (nodes_of t w r.kind))) w p plan ≡ None → has_empty t ≡ false
 row_back w d plan t r p clear sound finds held b its = by r.kind r.xml clear sound finds held b
   where
-    lists : (k : Kind) (n : List ℕ) → clear_list k n ≡ true → Found plan n (held_kind k) → Held w d t k → holes (lean_nodes (nodes_of t w k)) w p plan ≡ None → has_empty t ≡ false
-    lists (a_list l) n c f g h = its l plan p g (and_true (is_plain (list l).kind) (bytes_eq (list l).name n) c).0 (subst (λ (q : List ℕ). Found plan q (list l).kind) (sym (same_name (list l).name n (and_true (is_plain (list l).kind) (bytes_eq (list l).name n) c).1)) f) h
+    lists : (k : Kind) (n : List ℕ) → clear_list k n ≡ true → Found w plan n (held_kind k) → Held w d t k → holes (lean_nodes (nodes_of t w k)) w p plan ≡ None → has_empty t ≡ false
+    lists (a_list l) n c f g h = its l plan p g (and_true (is_plain (list l).kind) (bytes_eq (list l).name n) c).0 (subst (λ (q : List ℕ). Found w plan q (list l).kind) (sym (same_name (list l).name n (and_true (is_plain (list l).kind) (bytes_eq (list l).name n) c).1)) f) h
     lists _ n c f g h = absurd (true≢false (sym c))
 
     filled : (k : Kind) (n : List ℕ) (z : Bool) → is_hollow t ≡ z → is_frame_kind k ≡ true → Held w d t k → (holes (lean_nodes (lone (wrapped t w n k (nodes_of t w k)))) w p plan ≡ None → has_empty t ≡ false) → holes (lean_nodes (if z then no_nodes else lone (wrapped t w n k (nodes_of t w k)))) w p plan ≡ None → has_empty t ≡ false
     filled k n true i s g f h = hollow_solid w d t k s i g
     filled k n false i s g f h = f h
 
-    either : (k : Kind) (m n : List ℕ) → is_clear k (either_child m n) ≡ true → Found plan m k × (bytes_eq n m ≡ false → Found plan n k) → Held w d t k → Back w t k → holes (lean_nodes (lone (wrapped t w m k (nodes_of t w k)))) w p plan ≡ None → has_empty t ≡ false
+    either : (k : Kind) (m n : List ℕ) → is_clear k (either_child m n) ≡ true → Found w plan m k × (bytes_eq n m ≡ false → Found w plan n k) → Held w d t k → Back w t k → holes (lean_nodes (lone (wrapped t w m k (nodes_of t w k)))) w p plan ≡ None → has_empty t ≡ false
     either a_license_identifier m n c f g e h =
         let a : (bytes_eq (codes "id") m ≡ true) × (bytes_eq (codes "name") n ≡ true) = and_true (bytes_eq (codes "id") m) (bytes_eq (codes "name") n) c in
-        either_back w d plan t m p g e (subst (λ (q : List ℕ). Found plan q a_license_identifier) (sym (same_name (codes "id") m a.0)) f.0)
-        (subst (λ (q : List ℕ). Found plan q a_license_identifier) (sym (same_name (codes "name") n a.1)) (f.1 (subst (λ (x : List ℕ). bytes_eq n x ≡ false) (same_name (codes "id") m a.0) (subst (λ (x : List ℕ). bytes_eq x (codes "id") ≡ false) (same_name (codes "name") n a.1) refl)))) h
+        either_back w d plan t m p g e (subst (λ (q : List ℕ). Found w plan q a_license_identifier) (sym (same_name (codes "id") m a.0)) f.0)
+        (subst (λ (q : List ℕ). Found w plan q a_license_identifier) (sym (same_name (codes "name") n a.1)) (f.1 (subst (λ (x : List ℕ). bytes_eq n x ≡ false) (same_name (codes "id") m a.0) (subst (λ (x : List ℕ). bytes_eq x (codes "id") ≡ false) (same_name (codes "name") n a.1) refl)))) h
     either _ m n c f g e h = absurd (true≢false (sym c))
 
-    by : (k : Kind) (x : Spelled) → is_clear k x ≡ true → is_sound k x ≡ true → RowFinds plan (record r { kind = k; xml = x }) x → Held w d t k → Back w t k → holes (lean_nodes (row_nodes x t w k (nodes_of t w k))) w p plan ≡ None → has_empty t ≡ false
+    by : (k : Kind) (x : Spelled) → is_clear k x ≡ true → is_sound k x ≡ true → RowFinds w plan (record r { kind = k; xml = x }) x → Held w d t k → Back w t k → holes (lean_nodes (row_nodes x t w k (nodes_of t w k))) w p plan ≡ None → has_empty t ≡ false
     by k (attribute n) c s f g e h = bare_solid w k s d t g
     by k (attribute_or n m) c s f g e h = bare_solid w k s d t g
     by k content c s f g e h = absurd (true≢false (sym c))
@@ -340,7 +341,7 @@ row_back w d plan t r p clear sound finds held b its = by r.kind r.xml clear sou
     by k the_version c s f g e h = bare_solid w k s d t g
     by k (either_child m n) c s f g e h = either k m n c f g e h
 
-written_back : (w : SpecVersion) (d : Depth) (plan : Plan) (t : Tree) (r : Row) (p : ℕ) → is_right r ≡ true → (knows r.since w ≡ true → RowFinds plan r r.xml)
+written_back : (w : SpecVersion) (d : Depth) (plan : Plan) (t : Tree) (r : Row) (p : ℕ) → is_right r ≡ true → (knows r.since w ≡ true → RowFinds w plan r r.xml)
     → RowHeld w d t r → (Held w d t r.kind → Back w t r.kind) → ItemsBack w d t → holes (lean_nodes (row_written r t w)) w p plan ≡ None → has_empty t ≡ false
 written_back w d plan t r p c finds held b its h = by (held_or w d t r (and_true (clear_need r.need r.xml && is_clear r.kind r.xml) (is_sound r.kind r.xml) c).0 held)
   where
@@ -426,31 +427,31 @@ record_back w d copyright ts h g tag p e = fields_solid w d copyright ts (words 
 record_back w d attached_text ts h g tag p e = attached_back w d ts h tag p e
 record_back w d spdx_id ts h g tag p e = id_back w d ts h tag p e
 record_back w d license_name ts h g tag p e = name_back w d ts h tag p e
-record_back w d contact ts h g tag p e = full_of contact ts refl (g (record_plan contact w) (suc p) refl (record_finds contact w) e)
-record_back w d entity ts h g tag p e = full_of entity ts refl (g (record_plan entity w) (suc p) refl (record_finds entity w) e)
-record_back w d commit ts h g tag p e = full_of commit ts refl (g (record_plan commit w) (suc p) refl (record_finds commit w) e)
-record_back w d action ts h g tag p e = full_of action ts refl (g (record_plan action w) (suc p) refl (record_finds action w) e)
-record_back w d patch ts h g tag p e = full_of patch ts refl (g (record_plan patch w) (suc p) refl (record_finds patch w) e)
-record_back w d diff ts h g tag p e = full_of diff ts refl (g (record_plan diff w) (suc p) refl (record_finds diff w) e)
-record_back w d issue ts h g tag p e = full_of issue ts refl (g (record_plan issue w) (suc p) refl (record_finds issue w) e)
-record_back w d source ts h g tag p e = full_of source ts refl (g (record_plan source w) (suc p) refl (record_finds source w) e)
-record_back w d reference ts h g tag p e = full_of reference ts refl (g (record_plan reference w) (suc p) refl (record_finds reference w) e)
-record_back w d dependency ts h g tag p e = full_of dependency ts refl (g (record_plan dependency w) (suc p) refl (record_finds dependency w) e)
-record_back w d composition ts h g tag p e = full_of composition ts refl (g (record_plan composition w) (suc p) refl (record_finds composition w) e)
-record_back w d license ts h g tag p e = full_of license ts refl (g (record_plan license w) (suc p) refl (record_finds license w) e)
-record_back w d tool ts h g tag p e = full_of tool ts refl (g (record_plan tool w) (suc p) refl (record_finds tool w) e)
-record_back w d component ts h g tag p e = full_of component ts refl (g (record_plan component w) (suc p) refl (record_finds component w) e)
-record_back w d swid ts h g tag p e = full_of swid ts refl (g (record_plan swid w) (suc p) refl (record_finds swid w) e)
-record_back w d pedigree ts h g tag p e = full_of pedigree ts refl (g (record_plan pedigree w) (suc p) refl (record_finds pedigree w) e)
-record_back w d evidence ts h g tag p e = full_of evidence ts refl (g (record_plan evidence w) (suc p) refl (record_finds evidence w) e)
-record_back w d service ts h g tag p e = full_of service ts refl (g (record_plan service w) (suc p) refl (record_finds service w) e)
-record_back w d service_data ts h g tag p e = full_of service_data ts refl (g (record_plan service_data w) (suc p) refl (record_finds service_data w) e)
-record_back w d tools_object ts h g tag p e = full_of tools_object ts refl (g (record_plan tools_object w) (suc p) refl (record_finds tools_object w) e)
-record_back w d metadata ts h g tag p e = full_of metadata ts refl (g (record_plan metadata w) (suc p) refl (record_finds metadata w) e)
-record_back w d signer ts h g tag p e = full_of signer ts refl (g (record_plan signer w) (suc p) refl (record_finds signer w) e)
-record_back w d signers ts h g tag p e = full_of signers ts refl (g (record_plan signers w) (suc p) refl (record_finds signers w) e)
-record_back w d chain ts h g tag p e = full_of chain ts refl (g (record_plan chain w) (suc p) refl (record_finds chain w) e)
-record_back w d bill ts h g tag p e = full_of bill ts refl (g (record_plan bill w) (suc p) refl (record_finds bill w) e)
+record_back w d contact ts h g tag p e = full_of contact ts refl (g (record_plan contact) (suc p) refl (record_finds contact w) e)
+record_back w d entity ts h g tag p e = full_of entity ts refl (g (record_plan entity) (suc p) refl (record_finds entity w) e)
+record_back w d commit ts h g tag p e = full_of commit ts refl (g (record_plan commit) (suc p) refl (record_finds commit w) e)
+record_back w d action ts h g tag p e = full_of action ts refl (g (record_plan action) (suc p) refl (record_finds action w) e)
+record_back w d patch ts h g tag p e = full_of patch ts refl (g (record_plan patch) (suc p) refl (record_finds patch w) e)
+record_back w d diff ts h g tag p e = full_of diff ts refl (g (record_plan diff) (suc p) refl (record_finds diff w) e)
+record_back w d issue ts h g tag p e = full_of issue ts refl (g (record_plan issue) (suc p) refl (record_finds issue w) e)
+record_back w d source ts h g tag p e = full_of source ts refl (g (record_plan source) (suc p) refl (record_finds source w) e)
+record_back w d reference ts h g tag p e = full_of reference ts refl (g (record_plan reference) (suc p) refl (record_finds reference w) e)
+record_back w d dependency ts h g tag p e = full_of dependency ts refl (g (record_plan dependency) (suc p) refl (record_finds dependency w) e)
+record_back w d composition ts h g tag p e = full_of composition ts refl (g (record_plan composition) (suc p) refl (record_finds composition w) e)
+record_back w d license ts h g tag p e = full_of license ts refl (g (record_plan license) (suc p) refl (record_finds license w) e)
+record_back w d tool ts h g tag p e = full_of tool ts refl (g (record_plan tool) (suc p) refl (record_finds tool w) e)
+record_back w d component ts h g tag p e = full_of component ts refl (g (record_plan component) (suc p) refl (record_finds component w) e)
+record_back w d swid ts h g tag p e = full_of swid ts refl (g (record_plan swid) (suc p) refl (record_finds swid w) e)
+record_back w d pedigree ts h g tag p e = full_of pedigree ts refl (g (record_plan pedigree) (suc p) refl (record_finds pedigree w) e)
+record_back w d evidence ts h g tag p e = full_of evidence ts refl (g (record_plan evidence) (suc p) refl (record_finds evidence w) e)
+record_back w d service ts h g tag p e = full_of service ts refl (g (record_plan service) (suc p) refl (record_finds service w) e)
+record_back w d service_data ts h g tag p e = full_of service_data ts refl (g (record_plan service_data) (suc p) refl (record_finds service_data w) e)
+record_back w d tools_object ts h g tag p e = full_of tools_object ts refl (g (record_plan tools_object) (suc p) refl (record_finds tools_object w) e)
+record_back w d metadata ts h g tag p e = full_of metadata ts refl (g (record_plan metadata) (suc p) refl (record_finds metadata w) e)
+record_back w d signer ts h g tag p e = full_of signer ts refl (g (record_plan signer) (suc p) refl (record_finds signer w) e)
+record_back w d signers ts h g tag p e = full_of signers ts refl (g (record_plan signers) (suc p) refl (record_finds signers w) e)
+record_back w d chain ts h g tag p e = full_of chain ts refl (g (record_plan chain) (suc p) refl (record_finds chain w) e)
+record_back w d bill ts h g tag p e = full_of bill ts refl (g (record_plan bill) (suc p) refl (record_finds bill w) e)
 
 -- ---- kinds
 
@@ -472,7 +473,7 @@ unfolding hole nodes_of
 tools_back n w ts e v g = subst (λ (m : Name). RowsBack w m ts → Back w (fields m ts) a_tools) (sym e) (subst (λ (u : SpecVersion). RowsBack u tools_object ts → Back u (fields tools_object ts) a_tools) (sym v) at_last) g
   where
     at_last : RowsBack V1_5 tools_object ts → Back V1_5 (fields tools_object ts) a_tools
-    at_last f tag p h = full_of tools_object ts (unfold rows in refl) (f (tools_plan V1_5) (suc p) (unfold rows list in refl) tools_find h)
+    at_last f tag p h = full_of tools_object ts (unfold rows in refl) (f tools_plan (suc p) (unfold rows list in refl) tools_find h)
 
 abbrev BackAs : SpecVersion → Trees → List ℕ → ℕ → Kind → Name → Type 0
 BackAs w ts tag p k m = RecordBack w m ts → hole (lean (wrapped (fields m ts) w tag k (nodes_of (fields m ts) w k))) w p k ≡ None → has_empty (fields m ts) ≡ false
@@ -496,7 +497,7 @@ fields_case w d n ts a_signature h g tag p e = signature_solid w d (fields n ts)
 fields_case w d n ts a_bill h g tag p e = subst (BackAs w ts tag p a_bill) (sym h.0) (λ x y. x tag p y) (record_back w (inside n d) n ts h.2 g) e
 fields_case w d n ts _ h g tag p e = absurd (true≢false h.0)
 
-item_back : (w : SpecVersion) (d : Depth) (t : Tree) (k : Kind) (tag : List ℕ) (plan : Plan) (p : ℕ) (z : Bool) → is_passed_over t ≡ z → Held w d t k → Found plan (tag_of k t tag) k → Back w t k
+item_back : (w : SpecVersion) (d : Depth) (t : Tree) (k : Kind) (tag : List ℕ) (plan : Plan) (p : ℕ) (z : Bool) → is_passed_over t ≡ z → Held w d t k → Found w plan (tag_of k t tag) k → Back w t k
     → holes (lean_nodes (if z then no_nodes else lone (wrapped t w tag k (nodes_of t w k)))) w p plan ≡ None → has_empty t ≡ false
 item_back w d t k tag plan p true i h f b e = passed_solid w d t k i h
 item_back w d t k tag plan p false i h f b e = child_back w plan t k tag (tag_of k t tag) p b refl f e
@@ -526,7 +527,7 @@ mutual
   tree_items w d (number s) l plan p h c i e = absurd (true≢false h)
   tree_items w d (boolean s) l plan p h c i e = absurd (true≢false h)
   tree_items w d (fields n s) l plan p h c i e = absurd (true≢false h.0)
-  tree_items w d (items ts) l plan p h c i e = items_back w d ts (list l).kind (list l).name plan p h.1 (λ t g. subst (λ (q : List ℕ). Found plan q (list l).kind) (sym (tag_plain (list l).kind t (list l).name c)) i) e
+  tree_items w d (items ts) l plan p h c i e = items_back w d ts (list l).kind (list l).name plan p h.1 (λ t g. subst (λ (q : List ℕ). Found w plan q (list l).kind) (sym (tag_plain (list l).kind t (list l).name c)) i) e
 
   pub rows_back : (w : SpecVersion) (d : Depth) (ts : Trees) (rs : List Row) (plan : Plan) (p : ℕ) → all_right rs ≡ true → FieldsHeld w d ts rs → RowsFind plan w rs → holes (lean_nodes (fields_nodes ts w rs)) w p plan ≡ None → have_empty ts ≡ false
   rows_back w d none rs plan p c h i e = refl

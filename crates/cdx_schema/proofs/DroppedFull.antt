@@ -14,11 +14,11 @@ use Rattle.cdx_schema.specs.Depth.{Depth, inside}
 use Rattle.cdx_schema.specs.Held.{held_kind}
 use Rattle.cdx_models.specs.declared.errors.XmlReadError.{XmlReadError}
 use Rattle.cdx_schema.specs.Trips.{is_hollow, is_passed_over}
-use Rattle.cdx_schema.specs.XmlReading.{Plan, Child, last, all, once, find_child, row_children, record_plan, plan_of_list, tools_plan, data_plan, signature_plan, content_from}
+use Rattle.cdx_schema.specs.XmlReading.{Plan, Child, Place, last, all, once, find_child, row_children, record_plan, plan_of_list, tools_plan, data_plan, signature_plan, content_from}
 use Rattle.cdx_schema.specs.XmlSpelling.{nodes_of, items_nodes, fields_nodes, row_nodes, wrapped, lone, tag_of, named}
 use Rattle.cdx_schema.specs.Dropped.{lean, lean_nodes, earlier, record_hole, child_hole, node_hole, hole, holes, has_empty, have_empty, any_empty}
 use Rattle.cdx_schema.proofs.JsonBack.{is_in, distinct, same_itself, or_false, if_true, if_false, apart_first, is_in_first, and_true, same_name, Held, AllHeld, FieldsHeld, RowHeld}
-use Rattle.cdx_schema.proofs.XmlBack.{child_names, all_child_names, find_row, plan_of, append_lists, names_append, row_written, child_names_distinct}
+use Rattle.cdx_schema.proofs.XmlBack.{child_names, all_child_names, find_row, finds_first, passes_first, plan_of, append_lists, names_append, row_written, child_names_distinct}
 use Rattle.cdx_schema.proofs.XmlLaw.{is_plain, tag_plain, finds_list, finds_tool, not_false, optional_text}
 use Rattle.cdx_schema.proofs.JsonBack.{one_text_of, IsTextHeld, IsNumberHeld}
 use Rattle.cdx_schema.proofs.HeldKept.{held_kept, fits_first}
@@ -53,8 +53,8 @@ none_append : (xs ys : Nodes) (w : SpecVersion) (plan : Plan) (p : ℕ) → hole
 unfolding hole
 none_append no_nodes ys w plan p f g = g p
 none_append (node x xs) ys w plan p f g =
-    let e : (node_hole x (hole x w p) plan ≡ None) × (holes xs w (p + places x) plan ≡ None) = both_none (node_hole x (hole x w p) plan) (holes xs w (p + places x) plan) f in
-    none_both (node_hole x (hole x w p) plan) (holes (xs ⊕ ys) w (p + places x) plan) e.0 (none_append xs ys w plan (p + places x) e.1 g)
+    let e : (node_hole x w (hole x w p) plan ≡ None) × (holes xs w (p + places x) plan ≡ None) = both_none (node_hole x w (hole x w p) plan) (holes xs w (p + places x) plan) f in
+    none_both (node_hole x w (hole x w p) plan) (holes (xs ⊕ ys) w (p + places x) plan) e.0 (none_append xs ys w plan (p + places x) e.1 g)
 
 pub lean_append : (xs ys : Nodes) → lean_nodes (xs ⊕ ys) ≡ lean_nodes xs ⊕ lean_nodes ys
 lean_append no_nodes ys = refl
@@ -80,11 +80,11 @@ abbrev AllNone : SpecVersion → List Child → Type 0
 AllNone w [] = Unit {0}
 AllNone w (c ∷ cs) = KindNone w c.kind × AllNone w cs
 
-find_solid : (w : SpecVersion) (q : List ℕ) (cs : List Child) (x : Node) (p : ℕ) → AllNone w cs → child_hole (find_child q cs) (hole x w p) ≡ None
+find_solid : (w : SpecVersion) (q : List ℕ) (cs : List Child) (x : Node) (p : ℕ) → AllNone w cs → child_hole (find_child w q cs) (hole x w p) ≡ None
 find_solid w q [] x p h = refl
-find_solid w q (c ∷ cs) x p h = by (bytes_eq q c.name) (find_solid w q cs x p h.1)
+find_solid w q (c ∷ cs) x p h = by (bytes_eq q c.name && knows c.since w) (find_solid w q cs x p h.1)
   where
-    by : (b : Bool) → child_hole (find_child q cs) (hole x w p) ≡ None → child_hole (if b then Some c else find_child q cs) (hole x w p) ≡ None
+    by : (b : Bool) → child_hole (find_child w q cs) (hole x w p) ≡ None → child_hole (if b then Some c else find_child w q cs) (hole x w p) ≡ None
     by true e = h.0 x p
     by false e = e
 
@@ -94,7 +94,7 @@ plan_none w plan h no_nodes p = refl
 plan_none w plan h (node (characters s) xs) p = plan_none w plan h xs (p + 1)
 plan_none w plan h (node (cdata s) xs) p = plan_none w plan h xs (p + 1)
 plan_none w plan h (node (element n as' d ys) xs) p =
-    none_both (child_hole (find_child n.local_name plan.children) (hole (element n as' d ys) w p)) (holes xs w (p + places (element n as' d ys)) plan)
+    none_both (child_hole (find_child w n.local_name plan.children) (hole (element n as' d ys) w p)) (holes xs w (p + places (element n as' d ys)) plan)
     (find_solid w n.local_name plan.children (element n as' d ys) p h) (plan_none w plan h xs (p + places (element n as' d ys)))
 
 text_none : (w : SpecVersion) → KindNone w a_text
@@ -107,19 +107,19 @@ signer_none : (w : SpecVersion) → KindNone w (a_record signer)
 unfolding hole rows
 signer_none w (characters s) p = refl
 signer_none w (cdata s) p = refl
-signer_none w (element n as' d xs) p = plan_none w (record_plan signer w) (text_none w, (text_none w, tt)) xs (suc p)
+signer_none w (element n as' d xs) p = plan_none w (record_plan signer) (text_none w, (text_none w, tt)) xs (suc p)
 
 signers_none : (w : SpecVersion) → KindNone w (a_record signers)
 unfolding hole rows list
 signers_none w (characters s) p = refl
 signers_none w (cdata s) p = refl
-signers_none w (element n as' d xs) p = plan_none w (record_plan signers w) (signer_none w, tt) xs (suc p)
+signers_none w (element n as' d xs) p = plan_none w (record_plan signers) (signer_none w, tt) xs (suc p)
 
 chain_none : (w : SpecVersion) → KindNone w (a_record chain)
 unfolding hole rows list
 chain_none w (characters s) p = refl
 chain_none w (cdata s) p = refl
-chain_none w (element n as' d xs) p = plan_none w (record_plan chain w) (signer_none w, tt) xs (suc p)
+chain_none w (element n as' d xs) p = plan_none w (record_plan chain) (signer_none w, tt) xs (suc p)
 
 signature_none : (w : SpecVersion) → KindNone w a_signature
 unfolding hole
@@ -137,86 +137,71 @@ entry_none : (w : SpecVersion) → KindNone w an_entry
 unfolding hole rows
 entry_none w (characters s) p = refl
 entry_none w (cdata s) p = refl
-entry_none w (element n as' d xs) p = plan_none w (record_plan service_data w) (class_none w, tt) xs (suc p)
+entry_none w (element n as' d xs) p = plan_none w (record_plan service_data) (class_none w, tt) xs (suc p)
 
-data_children_none : (w : SpecVersion) → AllNone w (data_plan w).children
-data_children_none V1_3 = (class_none V1_3, tt)
-data_children_none V1_4 = (class_none V1_4, tt)
-data_children_none V1_5 = (class_none V1_5, (entry_none V1_5, tt))
+data_children_none : (w : SpecVersion) → AllNone w data_plan.children
+data_children_none w = (class_none w, (entry_none w, tt))
 
 data_none : (w : SpecVersion) → KindNone w a_data
 unfolding hole
 data_none w (characters s) p = refl
 data_none w (cdata s) p = refl
-data_none w (element n as' d xs) p = plan_none w (data_plan w) (data_children_none w) xs (suc p)
+data_none w (element n as' d xs) p = plan_none w data_plan (data_children_none w) xs (suc p)
 
 -- ---- the children of a plan
 
-abbrev pub Found : Plan → List ℕ → Kind → Type 0
-Found plan q k = (c : Child) × (find_child q plan.children ≡ Some c) × (c.kind ≡ k)
+abbrev pub Found : SpecVersion → Plan → List ℕ → Kind → Type 0
+Found w plan q k = (c : Child) × (find_child w q plan.children ≡ Some c) × (c.kind ≡ k)
 
-abbrev pub RowFinds : Plan → Row → Spelled → Type 0
-RowFinds plan r (child n) = Found plan n r.kind
-RowFinds plan r (filled_child n) = Found plan n r.kind
-RowFinds plan r (children n) = Found plan n (held_kind r.kind)
-RowFinds plan r (either_child m n) = Found plan m r.kind × (bytes_eq n m ≡ false → Found plan n r.kind)
-RowFinds plan r _ = Unit {0}
+abbrev pub RowFinds : SpecVersion → Plan → Row → Spelled → Type 0
+RowFinds w plan r (child n) = Found w plan n r.kind
+RowFinds w plan r (filled_child n) = Found w plan n r.kind
+RowFinds w plan r (children n) = Found w plan n (held_kind r.kind)
+RowFinds w plan r (either_child m n) = Found w plan m r.kind × (bytes_eq n m ≡ false → Found w plan n r.kind)
+RowFinds w plan r _ = Unit {0}
 
 abbrev pub RowsFind : Plan → SpecVersion → List Row → Type 0
 RowsFind plan w [] = Unit {0}
-RowsFind plan w (r ∷ rs) = (knows r.since w ≡ true → RowFinds plan r r.xml) × RowsFind plan w rs
+RowsFind plan w (r ∷ rs) = (knows r.since w ≡ true → RowFinds w plan r r.xml) × RowsFind plan w rs
 
 row_finds : (front : List Row) (r : Row) (rs : List Row) (rule' : Rule) (w : SpecVersion) → ((q : List ℕ) → is_in q (child_names r.xml) ≡ true → is_in q (all_child_names front) ≡ false) → knows r.since w ≡ true
-    → RowFinds (plan_of rule' (front ++ r ∷ rs) w) r r.xml
+    → RowFinds w (plan_of rule' (front ++ r ∷ rs)) r r.xml
 row_finds front r rs rule' w before known = by r.xml refl
   where
-    at : (q : List ℕ) (c : Child) → is_in q (child_names r.xml) ≡ true → ((cs : List Child) → find_child q (row_children (length front) r ++ cs) ≡ Some c) → find_child q (plan_of rule' (front ++ r ∷ rs) w).children ≡ Some c
-    at q c i f = find_row q front r rs w c (before q i) known f
+    at : (q : List ℕ) (c : Child) → is_in q (child_names r.xml) ≡ true → ((cs : List Child) → find_child w q (row_children (length front) r ++ cs) ≡ Some c) → find_child w q (plan_of rule' (front ++ r ∷ rs)).children ≡ Some c
+    at q c i f = find_row w q front r rs c (before q i) f
 
-    by : (x : Spelled) → r.xml ≡ x → RowFinds (plan_of rule' (front ++ r ∷ rs) w) r x
-    by (child n) e = (
-      record { name = n; kind = r.kind; field = length front; place = last },
-      at n _ (subst (λ (x : Spelled). is_in n (child_names x) ≡ true) (sym e) (rw (same_itself n) refl))
-          (λ cs. subst (λ (x : Spelled). find_child n (row_children (length front) (record r { xml = x }) ++ cs) ≡ Some (record { name = n; kind = r.kind; field = length front; place = last })) (sym e) (if_true (bytes_eq n n) _ _ (same_itself n))),
-      refl,
-    )
-    by (filled_child n) e = (
-      record { name = n; kind = r.kind; field = length front; place = last },
-      at n _ (subst (λ (x : Spelled). is_in n (child_names x) ≡ true) (sym e) (rw (same_itself n) refl))
-          (λ cs. subst (λ (x : Spelled). find_child n (row_children (length front) (record r { xml = x }) ++ cs) ≡ Some (record { name = n; kind = r.kind; field = length front; place = last })) (sym e) (if_true (bytes_eq n n) _ _ (same_itself n))),
-      refl,
-    )
-    by (children n) e = (
-      record { name = n; kind = held_kind r.kind; field = length front; place = all },
-      at n _ (subst (λ (x : Spelled). is_in n (child_names x) ≡ true) (sym e) (rw (same_itself n) refl))
-          (λ cs. subst (λ (x : Spelled). find_child n (row_children (length front) (record r { xml = x }) ++ cs) ≡ Some (record { name = n; kind = held_kind r.kind; field = length front; place = all })) (sym e) (if_true (bytes_eq n n) _ _ (same_itself n))),
-      refl,
-    )
+    one_found : (x : Spelled) (n : List ℕ) (c : Child) → r.xml ≡ x → is_in n (child_names x) ≡ true → ((cs : List Child) → find_child w n (row_children (length front) (record r { xml = x }) ++ cs) ≡ Some c) → find_child w n (plan_of rule' (front ++ r ∷ rs)).children ≡ Some c
+    one_found x n c e i f = at n c (subst (λ (y : Spelled). is_in n (child_names y) ≡ true) (sym e) i)
+        (λ cs. subst (λ (y : Spelled). find_child w n (row_children (length front) (record r { xml = y }) ++ cs) ≡ Some c) (sym e) (f cs))
+
+    first : (n : List ℕ) (k : Kind) (place' : Place) (cs : List Child) → find_child w n (record { name = n; since = r.since; kind = k; field = length front; place = place' } ∷ cs) ≡ Some (record { name = n; since = r.since; kind = k; field = length front; place = place' })
+    first n k place' cs = finds_first w n _ cs (same_itself n) known
+
+    second : (b : Bool) (q : List ℕ) → (b || (bytes_eq q q || false)) ≡ true
+    second true q = refl
+    second false q = rw (same_itself q) refl
+
+    by : (x : Spelled) → r.xml ≡ x → RowFinds w (plan_of rule' (front ++ r ∷ rs)) r x
+    by (child n) e = (_, one_found (child n) n _ e (rw (same_itself n) refl) (λ cs. first n r.kind last cs), refl)
+    by (filled_child n) e = (_, one_found (filled_child n) n _ e (rw (same_itself n) refl) (λ cs. first n r.kind last cs), refl)
+    by (children n) e = (_, one_found (children n) n _ e (rw (same_itself n) refl) (λ cs. first n (held_kind r.kind) all cs), refl)
     by (either_child m n) e = (
-      (
-        record { name = m; kind = r.kind; field = length front; place = once },
-        at m _ (subst (λ (x : Spelled). is_in m (child_names x) ≡ true) (sym e) (rw (same_itself m) refl))
-            (λ cs. subst (λ (x : Spelled). find_child m (row_children (length front) (record r { xml = x }) ++ cs) ≡ Some (record { name = m; kind = r.kind; field = length front; place = once })) (sym e) (if_true (bytes_eq m m) _ _ (same_itself m))),
-        refl,
-      ),
+      (_, one_found (either_child m n) m _ e (rw (same_itself m) refl) (λ cs. first m r.kind once (record { name = n; since = r.since; kind = r.kind; field = length front; place = once } ∷ cs)), refl),
       (λ d. (
-        record { name = n; kind = r.kind; field = length front; place = once },
-        at n _ (subst (λ (x : Spelled). is_in n (child_names x) ≡ true) (sym e) (second (bytes_eq n m) n))
-            (λ cs. subst (λ (x : Spelled). find_child n (row_children (length front) (record r { xml = x }) ++ cs) ≡ Some (record { name = n; kind = r.kind; field = length front; place = once })) (sym e) (if_false (bytes_eq n m) _ _ d ∙ if_true (bytes_eq n n) _ _ (same_itself n))),
+        _,
+        one_found (either_child m n) n _ e (second (bytes_eq n m) n)
+            (λ cs. passes_first w n (record { name = m; since = r.since; kind = r.kind; field = length front; place = once }) (record { name = n; since = r.since; kind = r.kind; field = length front; place = once } ∷ cs) d ∙ first n r.kind once cs),
         refl,
       )),
     )
-      where
-        second : (b : Bool) (q : List ℕ) → (b || (bytes_eq q q || false)) ≡ true
-        second true q = refl
-        second false q = rw (same_itself q) refl
     by _ e = tt
 
-rows_find : (front rs : List Row) (rule' : Rule) (w : SpecVersion) → distinct (all_child_names front ++ all_child_names rs) ≡ true → RowsFind (plan_of rule' (front ++ rs) w) w rs
+rows_find : (front rs : List Row) (rule' : Rule) (w : SpecVersion) → distinct (all_child_names front ++ all_child_names rs) ≡ true → RowsFind (plan_of rule' (front ++ rs)) w rs
 rows_find front [] rule' w h = tt
 rows_find front (r ∷ rs) rule' w h = (
   row_finds front r rs rule' w (λ q e. apart_first q (all_child_names front) (child_names r.xml ++ all_child_names rs) h (is_in_first q (child_names r.xml) (all_child_names rs) e)),
-  subst (λ (xs : List Row). RowsFind (plan_of rule' xs w) w rs) (sym (append_lists front (r ∷ []) rs)) (rows_find (front ++ r ∷ []) rs rule' w later),
+  subst (λ (xs : List Row). RowsFind (plan_of rule' xs) w rs) (sym (append_lists front (r ∷ []) rs)) (rows_find (front ++ r ∷ []) rs rule' w later),
 )
   where
     later : distinct (all_child_names (front ++ r ∷ []) ++ all_child_names rs) ≡ true
@@ -226,7 +211,7 @@ rows_find front (r ∷ rs) rule' w h = (
         nothing_more [] = refl
         nothing_more (y ∷ ys) = ap (y ∷◌) (nothing_more ys)
 
-pub record_finds : (n : Name) (w : SpecVersion) → RowsFind (record_plan n w) w (rows n)
+pub record_finds : (n : Name) (w : SpecVersion) → RowsFind (record_plan n) w (rows n)
 record_finds n w = rows_find [] (rows n) (rule n) w (child_names_distinct n)
 
 -- ---- rows
@@ -263,30 +248,30 @@ all_clear (r ∷ rs) = (clear_need r.need r.xml && is_clear r.kind r.xml) && all
 abbrev Whole : SpecVersion → Tree → Kind → Type 0
 Whole w t k = (tag : List ℕ) (p : ℕ) → hole (lean (wrapped t w tag k (nodes_of t w k))) w p k ≡ None
 
-one_child : (w : SpecVersion) (plan : Plan) (t : Tree) (k : Kind) (n q : List ℕ) → Whole w t k → tag_of k t n ≡ q → Found plan q k → HasNone (lean_nodes (lone (wrapped t w n k (nodes_of t w k)))) w plan
+one_child : (w : SpecVersion) (plan : Plan) (t : Tree) (k : Kind) (n q : List ℕ) → Whole w t k → tag_of k t n ≡ q → Found w plan q k → HasNone (lean_nodes (lone (wrapped t w n k (nodes_of t w k)))) w plan
 unfolding hole
 one_child w plan t k n q h e f p =
-    none_both (child_hole (find_child (tag_of k t n) plan.children) (hole (lean (wrapped t w n k (nodes_of t w k))) w p)) None
-    (ap (λ x. child_hole (find_child x plan.children) (hole (lean (wrapped t w n k (nodes_of t w k))) w p)) e
+    none_both (child_hole (find_child w (tag_of k t n) plan.children) (hole (lean (wrapped t w n k (nodes_of t w k))) w p)) None
+    (ap (λ x. child_hole (find_child w x plan.children) (hole (lean (wrapped t w n k (nodes_of t w k))) w p)) e
     ∙ (ap (λ o. child_hole o (hole (lean (wrapped t w n k (nodes_of t w k))) w p)) f.1
     ∙ (ap (hole (lean (wrapped t w n k (nodes_of t w k))) w p) f.2 ∙ h n p))) refl
 
 abbrev ItemsWhole : SpecVersion → Depth → Tree → Type 0
-ItemsWhole w d t = (l : Lists) (plan : Plan) → Held w d t (a_list l) → has_empty t ≡ false → is_plain (list l).kind ≡ true → Found plan (list l).name (list l).kind → HasNone (lean_nodes (nodes_of t w (a_list l))) w plan
+ItemsWhole w d t = (l : Lists) (plan : Plan) → Held w d t (a_list l) → has_empty t ≡ false → is_plain (list l).kind ≡ true → Found w plan (list l).name (list l).kind → HasNone (lean_nodes (nodes_of t w (a_list l))) w plan
 
-row_whole : (w : SpecVersion) (d : Depth) (plan : Plan) (t : Tree) (r : Row) → is_clear r.kind r.xml ≡ true → knows r.since w ≡ true → RowFinds plan r r.xml
+row_whole : (w : SpecVersion) (d : Depth) (plan : Plan) (t : Tree) (r : Row) → is_clear r.kind r.xml ≡ true → knows r.since w ≡ true → RowFinds w plan r r.xml
     → Held w d t r.kind → has_empty t ≡ false → Whole w t r.kind → ItemsWhole w d t → HasNone (lean_nodes (row_nodes r.xml t w r.kind (nodes_of t w r.kind))) w plan
 row_whole w d plan t r clear known finds held full h its = by r.kind r.xml clear finds held h
   where
-    lists : (k : Kind) (n : List ℕ) → clear_list k n ≡ true → Found plan n (held_kind k) → Held w d t k → HasNone (lean_nodes (nodes_of t w k)) w plan
-    lists (a_list l) n c f g = its l plan g full (and_true (is_plain (list l).kind) (bytes_eq (list l).name n) c).0 (subst (λ (q : List ℕ). Found plan q (list l).kind) (sym (same_name (list l).name n (and_true (is_plain (list l).kind) (bytes_eq (list l).name n) c).1)) f)
+    lists : (k : Kind) (n : List ℕ) → clear_list k n ≡ true → Found w plan n (held_kind k) → Held w d t k → HasNone (lean_nodes (nodes_of t w k)) w plan
+    lists (a_list l) n c f g = its l plan g full (and_true (is_plain (list l).kind) (bytes_eq (list l).name n) c).0 (subst (λ (q : List ℕ). Found w plan q (list l).kind) (sym (same_name (list l).name n (and_true (is_plain (list l).kind) (bytes_eq (list l).name n) c).1)) f)
     lists _ n c f g = absurd (true≢false (sym c))
 
     filled : (b : Bool) (xs : Nodes) → HasNone (lean_nodes xs) w plan → HasNone (lean_nodes (if b then no_nodes else xs)) w plan
     filled true xs f = nothing_none w plan
     filled false xs f = f
 
-    by : (k : Kind) (x : Spelled) → is_clear k x ≡ true → RowFinds plan (record r { kind = k; xml = x }) x → Held w d t k → Whole w t k → HasNone (lean_nodes (row_nodes x t w k (nodes_of t w k))) w plan
+    by : (k : Kind) (x : Spelled) → is_clear k x ≡ true → RowFinds w plan (record r { kind = k; xml = x }) x → Held w d t k → Whole w t k → HasNone (lean_nodes (row_nodes x t w k (nodes_of t w k))) w plan
     by k (attribute n) c f g e = nothing_none w plan
     by k (attribute_or n m) c f g e = nothing_none w plan
     by k content c f g e = absurd (true≢false (sym c))
@@ -299,13 +284,13 @@ row_whole w d plan t r clear known finds held full h its = by r.kind r.xml clear
     by k the_version c f g e = nothing_none w plan
     by k (either_child m n) c f g e = either k m n c f g e
       where
-        either : (k : Kind) (m n : List ℕ) → is_clear k (either_child m n) ≡ true → Found plan m k × (bytes_eq n m ≡ false → Found plan n k) → Held w d t k → Whole w t k → HasNone (lean_nodes (lone (wrapped t w m k (nodes_of t w k)))) w plan
+        either : (k : Kind) (m n : List ℕ) → is_clear k (either_child m n) ≡ true → Found w plan m k × (bytes_eq n m ≡ false → Found w plan n k) → Held w d t k → Whole w t k → HasNone (lean_nodes (lone (wrapped t w m k (nodes_of t w k)))) w plan
         either a_license_identifier m n c f g e =
             let a : (bytes_eq (codes "id") m ≡ true) × (bytes_eq (codes "name") n ≡ true) = and_true (bytes_eq (codes "id") m) (bytes_eq (codes "name") n) c in
-            at t g e (subst (λ (q : List ℕ). Found plan q a_license_identifier) (sym (same_name (codes "id") m a.0)) f.0)
-            (subst (λ (q : List ℕ). Found plan q a_license_identifier) (sym (same_name (codes "name") n a.1)) (f.1 (subst (λ (x : List ℕ). bytes_eq n x ≡ false) (same_name (codes "id") m a.0) (subst (λ (x : List ℕ). bytes_eq x (codes "id") ≡ false) (same_name (codes "name") n a.1) refl))))
+            at t g e (subst (λ (q : List ℕ). Found w plan q a_license_identifier) (sym (same_name (codes "id") m a.0)) f.0)
+            (subst (λ (q : List ℕ). Found w plan q a_license_identifier) (sym (same_name (codes "name") n a.1)) (f.1 (subst (λ (x : List ℕ). bytes_eq n x ≡ false) (same_name (codes "id") m a.0) (subst (λ (x : List ℕ). bytes_eq x (codes "id") ≡ false) (same_name (codes "name") n a.1) refl))))
           where
-            at : (t : Tree) → Held w d t a_license_identifier → Whole w t a_license_identifier → Found plan (codes "id") a_license_identifier → Found plan (codes "name") a_license_identifier → HasNone (lean_nodes (lone (wrapped t w m a_license_identifier (nodes_of t w a_license_identifier)))) w plan
+            at : (t : Tree) → Held w d t a_license_identifier → Whole w t a_license_identifier → Found w plan (codes "id") a_license_identifier → Found w plan (codes "name") a_license_identifier → HasNone (lean_nodes (lone (wrapped t w m a_license_identifier (nodes_of t w a_license_identifier)))) w plan
             at (fields spdx_id ts) g e i j = one_child w plan (fields spdx_id ts) a_license_identifier m (codes "id") e refl i
             at (fields o ts) g e i j = named_by o g.0 e
               where
@@ -345,7 +330,7 @@ held_or w d t r c (inr (inl h)) = by r.need t (and_true (clear_need r.need r.xml
     by else_empty (boolean x) e f = absurd (true≢false f)
     by else_empty (fields m xs) e f = absurd (true≢false f)
 
-written_whole : (w : SpecVersion) (d : Depth) (plan : Plan) (t : Tree) (r : Row) → (clear_need r.need r.xml && is_clear r.kind r.xml) ≡ true → (knows r.since w ≡ true → RowFinds plan r r.xml)
+written_whole : (w : SpecVersion) (d : Depth) (plan : Plan) (t : Tree) (r : Row) → (clear_need r.need r.xml && is_clear r.kind r.xml) ≡ true → (knows r.since w ≡ true → RowFinds w plan r r.xml)
     → RowHeld w d t r → has_empty t ≡ false → (Held w d t r.kind → Whole w t r.kind) → ItemsWhole w d t → HasNone (lean_nodes (row_written r t w)) w plan
 written_whole w d plan t r c finds held full h its = by (held_or w d t r c held)
   where
@@ -421,36 +406,36 @@ unfolding rows list
 record_whole w d hash ts h f g tag p = refl
 record_whole w d property ts h f g tag p = refl
 record_whole w d attached_text ts h f g tag p = attached_whole w d ts h f tag p
-record_whole w d contact ts h f g tag p = g (record_plan contact w) refl (record_finds contact w) (suc p)
-record_whole w d entity ts h f g tag p = g (record_plan entity w) refl (record_finds entity w) (suc p)
-record_whole w d commit ts h f g tag p = g (record_plan commit w) refl (record_finds commit w) (suc p)
-record_whole w d action ts h f g tag p = g (record_plan action w) refl (record_finds action w) (suc p)
-record_whole w d patch ts h f g tag p = g (record_plan patch w) refl (record_finds patch w) (suc p)
-record_whole w d diff ts h f g tag p = g (record_plan diff w) refl (record_finds diff w) (suc p)
-record_whole w d issue ts h f g tag p = g (record_plan issue w) refl (record_finds issue w) (suc p)
-record_whole w d source ts h f g tag p = g (record_plan source w) refl (record_finds source w) (suc p)
-record_whole w d reference ts h f g tag p = g (record_plan reference w) refl (record_finds reference w) (suc p)
-record_whole w d dependency ts h f g tag p = g (record_plan dependency w) refl (record_finds dependency w) (suc p)
-record_whole w d composition ts h f g tag p = g (record_plan composition w) refl (record_finds composition w) (suc p)
-record_whole w d license ts h f g tag p = g (record_plan license w) refl (record_finds license w) (suc p)
+record_whole w d contact ts h f g tag p = g (record_plan contact) refl (record_finds contact w) (suc p)
+record_whole w d entity ts h f g tag p = g (record_plan entity) refl (record_finds entity w) (suc p)
+record_whole w d commit ts h f g tag p = g (record_plan commit) refl (record_finds commit w) (suc p)
+record_whole w d action ts h f g tag p = g (record_plan action) refl (record_finds action w) (suc p)
+record_whole w d patch ts h f g tag p = g (record_plan patch) refl (record_finds patch w) (suc p)
+record_whole w d diff ts h f g tag p = g (record_plan diff) refl (record_finds diff w) (suc p)
+record_whole w d issue ts h f g tag p = g (record_plan issue) refl (record_finds issue w) (suc p)
+record_whole w d source ts h f g tag p = g (record_plan source) refl (record_finds source w) (suc p)
+record_whole w d reference ts h f g tag p = g (record_plan reference) refl (record_finds reference w) (suc p)
+record_whole w d dependency ts h f g tag p = g (record_plan dependency) refl (record_finds dependency w) (suc p)
+record_whole w d composition ts h f g tag p = g (record_plan composition) refl (record_finds composition w) (suc p)
+record_whole w d license ts h f g tag p = g (record_plan license) refl (record_finds license w) (suc p)
 record_whole w d expression ts h f g tag p = refl
 record_whole w d spdx_id ts h f g tag p = id_whole w d ts h f tag p
 record_whole w d license_name ts h f g tag p = name_whole w d ts h f tag p
-record_whole w d tool ts h f g tag p = g (record_plan tool w) refl (record_finds tool w) (suc p)
-record_whole w d component ts h f g tag p = g (record_plan component w) refl (record_finds component w) (suc p)
-record_whole w d swid ts h f g tag p = g (record_plan swid w) refl (record_finds swid w) (suc p)
-record_whole w d pedigree ts h f g tag p = g (record_plan pedigree w) refl (record_finds pedigree w) (suc p)
-record_whole w d evidence ts h f g tag p = g (record_plan evidence w) refl (record_finds evidence w) (suc p)
+record_whole w d tool ts h f g tag p = g (record_plan tool) refl (record_finds tool w) (suc p)
+record_whole w d component ts h f g tag p = g (record_plan component) refl (record_finds component w) (suc p)
+record_whole w d swid ts h f g tag p = g (record_plan swid) refl (record_finds swid w) (suc p)
+record_whole w d pedigree ts h f g tag p = g (record_plan pedigree) refl (record_finds pedigree w) (suc p)
+record_whole w d evidence ts h f g tag p = g (record_plan evidence) refl (record_finds evidence w) (suc p)
 record_whole w d copyright ts h f g tag p = refl
-record_whole w d service ts h f g tag p = g (record_plan service w) refl (record_finds service w) (suc p)
+record_whole w d service ts h f g tag p = g (record_plan service) refl (record_finds service w) (suc p)
 record_whole w d classification ts h f g tag p = refl
-record_whole w d service_data ts h f g tag p = g (record_plan service_data w) refl (record_finds service_data w) (suc p)
-record_whole w d tools_object ts h f g tag p = g (record_plan tools_object w) refl (record_finds tools_object w) (suc p)
-record_whole w d metadata ts h f g tag p = g (record_plan metadata w) refl (record_finds metadata w) (suc p)
-record_whole w d signer ts h f g tag p = g (record_plan signer w) refl (record_finds signer w) (suc p)
-record_whole w d signers ts h f g tag p = g (record_plan signers w) refl (record_finds signers w) (suc p)
-record_whole w d chain ts h f g tag p = g (record_plan chain w) refl (record_finds chain w) (suc p)
-record_whole w d bill ts h f g tag p = g (record_plan bill w) refl (record_finds bill w) (suc p)
+record_whole w d service_data ts h f g tag p = g (record_plan service_data) refl (record_finds service_data w) (suc p)
+record_whole w d tools_object ts h f g tag p = g (record_plan tools_object) refl (record_finds tools_object w) (suc p)
+record_whole w d metadata ts h f g tag p = g (record_plan metadata) refl (record_finds metadata w) (suc p)
+record_whole w d signer ts h f g tag p = g (record_plan signer) refl (record_finds signer w) (suc p)
+record_whole w d signers ts h f g tag p = g (record_plan signers) refl (record_finds signers w) (suc p)
+record_whole w d chain ts h f g tag p = g (record_plan chain) refl (record_finds chain w) (suc p)
+record_whole w d bill ts h f g tag p = g (record_plan bill) refl (record_finds bill w) (suc p)
 
 -- ---- kinds
 
@@ -472,13 +457,13 @@ boolean_whole w b a_boolean h tag p = refl
 boolean_whole w b _ h tag p = absurd (true≢false h)
 
 abbrev pub ItemFinds : SpecVersion → Depth → Plan → Kind → List ℕ → Type 0
-ItemFinds w d plan k tag = (t : Tree) → Held w d t k → Found plan (tag_of k t tag) k
+ItemFinds w d plan k tag = (t : Tree) → Held w d t k → Found w plan (tag_of k t tag) k
 
 pub list_finds : (w : SpecVersion) (d : Depth) (l : Lists) → ItemFinds w d (plan_of_list l) (list l).kind (list l).name
-list_finds w d l t h = let f : (c : Child) × (find_child (tag_of (list l).kind t (list l).name) (plan_of_list l).children ≡ Some c) × (c.field ≡ 0) × (c.place ≡ all) × (c.kind ≡ (list l).kind) = finds_list w d l t h in (f.0, f.1, f.4)
+list_finds w d l t h = let f : (c : Child) × (find_child w (tag_of (list l).kind t (list l).name) (plan_of_list l).children ≡ Some c) × (c.field ≡ 0) × (c.place ≡ all) × (c.kind ≡ (list l).kind) = finds_list w d l t h in (f.0, f.1, f.4)
 
 pub tool_finds : (w : SpecVersion) (d : Depth) → ItemFinds w d tools_plan (a_record tool) (codes "tool")
-tool_finds w d t h = let f : (c : Child) × (find_child (tag_of (a_record tool) t (codes "tool")) tools_plan.children ≡ Some c) × (c.field ≡ 0) × (c.place ≡ all) × (c.kind ≡ a_record tool) = finds_tool w d t h in (f.0, f.1, f.4)
+tool_finds w d t h = let f : (c : Child) × (find_child w (tag_of (a_record tool) t (codes "tool")) tools_plan.children ≡ Some c) × (c.field ≡ 0) × (c.place ≡ all) × (c.kind ≡ a_record tool) = finds_tool w d t h in (f.0, f.1, f.4)
 
 abbrev ListWhole : SpecVersion → Depth → Trees → Type 0
 ListWhole w d ts = (k : Kind) (tag : List ℕ) (plan : Plan) → AllHeld w d ts k → ItemFinds w d plan k tag → HasNone (lean_nodes (items_nodes ts w (named tag) k)) w plan
@@ -490,16 +475,16 @@ items_case w d ts a_tools h f tag p = f (a_record tool) (codes "tool") tools_pla
 items_case w d ts a_data h f tag p = data_none w (lean (wrapped (items ts) w tag a_data (nodes_of (items ts) w a_data))) p
 items_case w d ts _ h f tag p = absurd (true≢false h.0)
 
-pub tools_find : RowsFind (tools_plan V1_5) V1_5 (rows tools_object)
+pub tools_find : RowsFind tools_plan V1_5 (rows tools_object)
 unfolding rows
-tools_find = ((λ k. (record { name = codes "services"; kind = a_list services; field = 1; place = last }, refl, refl)), ((λ k. (record { name = codes "components"; kind = a_list components; field = 2; place = last }, refl, refl)), tt))
+tools_find = ((λ k. (record { name = codes "services"; since = V1_5; kind = a_list services; field = 1; place = last }, refl, refl)), ((λ k. (record { name = codes "components"; since = V1_5; kind = a_list components; field = 2; place = last }, refl, refl)), tt))
 
 tools_whole : (n : Name) (w : SpecVersion) (ts : Trees) → n ≡ tools_object → w ≡ V1_5 → RowsWhole w n ts → Whole w (fields n ts) a_tools
 unfolding hole nodes_of
 tools_whole n w ts e v g = subst (λ (m : Name). RowsWhole w m ts → Whole w (fields m ts) a_tools) (sym e) (subst (λ (u : SpecVersion). RowsWhole u tools_object ts → Whole u (fields tools_object ts) a_tools) (sym v) at) g
   where
     at : RowsWhole V1_5 tools_object ts → Whole V1_5 (fields tools_object ts) a_tools
-    at f tag p = f (tools_plan V1_5) (unfold rows list in refl) tools_find (suc p)
+    at f tag p = f tools_plan (unfold rows list in refl) tools_find (suc p)
 
 fields_case : (w : SpecVersion) (d : Depth) (n : Name) (ts : Trees) (k : Kind) → Held w d (fields n ts) k → has_empty (fields n ts) ≡ false → RowsWhole w n ts → Whole w (fields n ts) k
 unfolding hole nodes_of
@@ -551,7 +536,7 @@ mutual
   tree_items w d (number s) l plan h f c i = absurd (true≢false h)
   tree_items w d (boolean s) l plan h f c i = absurd (true≢false h)
   tree_items w d (fields n s) l plan h f c i = absurd (true≢false h.0)
-  tree_items w d (items ts) l plan h f c i = items_whole w d ts (list l).kind (list l).name plan h.1 f (λ t g. subst (λ (q : List ℕ). Found plan q (list l).kind) (sym (tag_plain (list l).kind t (list l).name c)) i)
+  tree_items w d (items ts) l plan h f c i = items_whole w d ts (list l).kind (list l).name plan h.1 f (λ t g. subst (λ (q : List ℕ). Found w plan q (list l).kind) (sym (tag_plain (list l).kind t (list l).name c)) i)
 
   pub rows_whole : (w : SpecVersion) (d : Depth) (ts : Trees) (rs : List Row) (plan : Plan) → all_clear rs ≡ true → FieldsHeld w d ts rs → have_empty ts ≡ false → RowsFind plan w rs → HasNone (lean_nodes (fields_nodes ts w rs)) w plan
   rows_whole w d none rs plan c h f i = nothing_none w plan

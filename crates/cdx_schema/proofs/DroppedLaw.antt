@@ -9,7 +9,7 @@ use Rattle.cdx_models.specs.declared.errors.XmlReadError.{XmlReadError}
 use Rattle.cdx_schema.specs.Membership.{IsOf}
 use Rattle.cdx_schema.specs.Keeping.{keep, fits, is_shallow}
 use Rattle.cdx_schema.specs.XmlReading.{xml_denotes}
-use Rattle.cdx_schema.specs.XmlSpelling.{root}
+use Rattle.cdx_schema.specs.XmlSpelling.{root, nodes_of}
 use Rattle.cdx_schema.specs.Dropped.{without_empty, lean, lean_nodes, hole, unless, has_empty, DropsTexts}
 use Rattle.cdx_schema.proofs.XmlLaw.{tripped}
 use Rattle.cdx_schema.proofs.BillRead.{reads_xml}
@@ -17,6 +17,7 @@ use Rattle.cdx_schema.proofs.DroppedRead.{lean_denotes}
 use Rattle.cdx_events.specs.declared.name.OwnedAttribute.{OwnedAttribute}
 use Rattle.cdx_events.specs.declared.event.XmlEvent.{XmlEvent}
 use Rattle.cdx_events.specs.declared.name.OwnedName.{OwnedName}
+use Rattle.cdx_events.specs.declared.name.Namespace.{Namespace}
 use Rattle.cdx_events.specs.declared.event.XmlEvent.TheVariants.{CData, Characters, EndDocument, EndElement, StartDocument, StartElement}
 use Rattle.cdx_events.specs.Nodes.{Nodes, cdata, characters, document, element, events_of_all, no_nodes, node}
 
@@ -45,7 +46,7 @@ lean_events (node (element n as' d ys) xs) =
     ∙ (ap (λ es. es ++ without_empty (events_of_all xs)) (without_append (events_of_all ys) (EndElement n ∷ []) ∙ ap (λ es. es ++ (EndElement n ∷ [])) (lean_events ys))
     ∙ ap ((events_of_all (lean_nodes ys) ++ (EndElement n ∷ [])) ++◌) (lean_events xs)))
 
-pub lean_document : (n : OwnedName) (as' : List OwnedAttribute) (d : Option (List ℕ)) (xs : Nodes) → document (lean (element n as' d xs)) ≡ without_empty (document (element n as' d xs))
+pub lean_document : (n : OwnedName) (as' : List OwnedAttribute) (d : Namespace) (xs : Nodes) → document (lean (element n as' d xs)) ≡ without_empty (document (element n as' d xs))
 lean_document n as' d xs = ap (λ es. StartDocument ∷ StartElement n as' d ∷ es) (sym (
     without_append (events_of_all xs ++ (EndElement n ∷ [])) (EndDocument ∷ [])
     ∙ ap (λ es. es ++ (EndDocument ∷ [])) (without_append (events_of_all xs) (EndElement n ∷ []) ∙ ap (λ es. es ++ (EndElement n ∷ [])) (lean_events xs))))
@@ -69,7 +70,7 @@ EmptyHasOne = (b : Tree) (w : SpecVersion) → IsOf b a_bill → is_shallow b to
 
 pub drops_texts : FullHasNone → EmptyHasOne → DropsTexts
 drops_texts full empty b w h s f = (
-  lean_document _ _ _ (Rattle.cdx_schema.specs.XmlSpelling.nodes_of (keep w b a_bill) w a_bill),
+  lean_document _ _ _ (nodes_of (keep w b a_bill) w a_bill),
   (λ e. lean_spelling b w h s f ∙ (ap (λ o. unless o (tripped w (keep w b a_bill) a_bill)) (full b w h s f e) ∙ sym (reads_xml b w h f s))),
   (λ e. by (hole (lean (root (keep w b a_bill) w)) w 1 a_bill) refl (empty b w h s f e)),
 )

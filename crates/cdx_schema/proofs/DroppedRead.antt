@@ -12,8 +12,7 @@ use Rattle.cdx_schema.specs.Results.{◌>>=◌}
 use Rattle.cdx_events.specs.declared.event.EventKind.{EventKind}
 use Rattle.cdx_models.specs.declared.errors.XmlReadError.{XmlReadError}
 use Rattle.cdx_schema.specs.Faults.{unexpected, lacking, namespaced, nested}
-use Rattle.cdx_schema.specs.Faults as faults
-use Rattle.cdx_schema.specs.Depth.{Depth, inside, name_too_deep}
+use Rattle.cdx_schema.specs.Depth.{Depth, top, inside, name_too_deep}
 use Rattle.cdx_models.specs.Entries.{entry_of}
 use Rattle.cdx_schema.specs.JsonReading.{is_required}
 use Rattle.cdx_schema.specs.XmlTexts.{boolean_of, number_of, boolean_tree, of_text}
@@ -22,6 +21,7 @@ use Rattle.cdx_schema.specs.Dropped.{lean, lean_nodes, earlier, if_nothing, reco
 use Rattle.cdx_events.specs.declared.event.EventKind.TheVariants as kinds
 use Rattle.cdx_events.specs.declared.name.OwnedAttribute.{OwnedAttribute}
 use Rattle.cdx_events.specs.declared.name.OwnedName.{OwnedName}
+use Rattle.cdx_events.specs.declared.name.Namespace.{Namespace}
 use Rattle.cdx_events.specs.Nodes.{Node, Nodes, cdata, characters, element, no_nodes, node}
 use Rattle.cdx_schema.specs.Nodes.{places}
 
@@ -64,26 +64,26 @@ attribute_or_ok : (o : Option (List ℕ)) (a : List ℕ) (m : ℕ) (r : Row) (p 
 attribute_or_ok None a m r p q t h = h
 attribute_or_ok (Some s) a m r p q t h = parsed_ok (of_text r.kind s) p q a s r.kind t h
 
+known_ok : (b : Bool) (x y : Result Tree XmlReadError) (t : Tree) → (x ≡ Ok t → y ≡ Ok t) → (if b then x else Ok absent) ≡ Ok t → (if b then y else Ok absent) ≡ Ok t
+known_ok true x y t f h = f h
+known_ok false x y t f h = h
+
 row_ok : (r : Row) (as' : List OwnedAttribute) (v : SpecVersion) (n : List ℕ) (p q : ℕ) (t : Tree) → row_attribute r as' v n p ≡ Ok t → row_attribute r as' v n q ≡ Ok t
 row_ok r as' v n p q t h = by r.xml h
   where
     by : (x : Spelled) → row_attribute (record r { xml = x }) as' v n p ≡ Ok t → row_attribute (record r { xml = x }) as' v n q ≡ Ok t
-    by (attribute a) g = attribute_ok (find_attribute a as') a (record r { xml = attribute a }) v n p q t g
-    by (attribute_or a m) g = attribute_or_ok (find_attribute a as') a m (record r { xml = attribute_or a m }) p q t g
+    by (attribute a) g = known_ok (knows r.since v) (attribute_read (find_attribute a as') a (record r { xml = attribute a }) v n p) (attribute_read (find_attribute a as') a (record r { xml = attribute a }) v n q) t (attribute_ok (find_attribute a as') a (record r { xml = attribute a }) v n p q t) g
+    by (attribute_or a m) g = known_ok (knows r.since v) (attribute_or_read (find_attribute a as') a m (record r { xml = attribute_or a m }) p) (attribute_or_read (find_attribute a as') a m (record r { xml = attribute_or a m }) q) t (attribute_or_ok (find_attribute a as') a m (record r { xml = attribute_or a m }) p q t) g
     by the_version g = g
     by _ g = g
-
-known_ok : (b : Bool) (r : Row) (as' : List OwnedAttribute) (v : SpecVersion) (n : List ℕ) (p q : ℕ) (t : Tree) → (if b then row_attribute r as' v n p else Ok absent) ≡ Ok t → (if b then row_attribute r as' v n q else Ok absent) ≡ Ok t
-known_ok true r as' v n p q t h = row_ok r as' v n p q t h
-known_ok false r as' v n p q t h = h
 
 attributes_ok : (rs : List Row) (as' : List OwnedAttribute) (v : SpecVersion) (n : List ℕ) (p q : ℕ) (ts : Trees) → attributes_read rs as' v n p ≡ Ok ts → attributes_read rs as' v n q ≡ Ok ts
 unfolding attributes_read
 attributes_ok [] as' v n p q ts h = h
 attributes_ok (r ∷ rs) as' v n p q ts h =
-    bind_ok (if knows r.since v then row_attribute r as' v n p else Ok absent) (λ t. attributes_read rs as' v n p >>= (λ us. Ok (more t us))) ts h
+    bind_ok (row_attribute r as' v n p) (λ t. attributes_read rs as' v n p >>= (λ us. Ok (more t us))) ts h
     (λ t i g. bind_ok (attributes_read rs as' v n p) (λ us. Ok (more t us)) ts g
-    (λ us j k. ap (λ z. z >>= (λ u. attributes_read rs as' v n q >>= (λ vs. Ok (more u vs)))) (known_ok (knows r.since v) r as' v n p q t i)
+    (λ us j k. ap (λ z. z >>= (λ u. attributes_read rs as' v n q >>= (λ vs. Ok (more u vs)))) (row_ok r as' v n p q t i)
     ∙ (ap (λ z. z >>= (λ vs. Ok (more t vs))) (attributes_ok rs as' v n p q us j) ∙ k)))
 
 lacking_ok : (o : Option (List ℕ)) (n : List ℕ) (p q : ℕ) (us : Trees) → lacking_row o n p (Ok none) ≡ Ok us → lacking_row o n q (Ok none) ≡ Ok us
@@ -278,8 +278,8 @@ module _ (n : List ℕ) (as' : List OwnedAttribute) (nsp : Option (List ℕ)) (p
   kind_lean v a_reference d t g = reference_lean (find_attribute (codes "ref") as') v d t g
   kind_lean v a_license_choice d t g = either_lean (bytes_eq n (codes "license")) (bytes_eq n (codes "expression")) license expression (codes "license or expression") v d t g
   kind_lean v a_license_identifier d t g = either_lean (bytes_eq n (codes "id")) (bytes_eq n (codes "name")) spdx_id license_name (codes "id or name") v d t g
-  kind_lean v a_tools d t g = plan_lean (tools_plan) v d (more absent (two absent absent)) (λ ts. tools_of E v ts) (λ ts. tools_of F v ts) t g (λ us j. tools_ok v us (field 0 us) t j)
-  kind_lean v a_data d t g = plan_lean (data_plan) v d (two absent absent) (λ ts. Ok (data_of ts)) (λ ts. Ok (data_of ts)) t g (λ us j. j)
+  kind_lean v a_tools d t g = plan_lean tools_plan v d (more absent (two absent absent)) (λ ts. tools_of E v ts) (λ ts. tools_of F v ts) t g (λ us j. tools_ok v us (field 0 us) t j)
+  kind_lean v a_data d t g = plan_lean data_plan v d (two absent absent) (λ ts. Ok (data_of ts)) (λ ts. Ok (data_of ts)) t g (λ us j. j)
   kind_lean v an_entry d t g = bind_ok (record_read E service_data v d) (λ z. Ok (entry_of z)) t g (λ u i j. unless_then (R service_data v) (record_read F service_data v d) u (λ z. Ok (entry_of z)) t (record_lean service_data v d u i) j)
   kind_lean v a_signature d t g = plan_lean signature_plan v d (more absent (two absent absent)) (λ ts. signature_of E v ts) (λ ts. signature_of F v ts) t g (λ us j. signature_ok v us (field 0 us) t j)
   kind_lean v a_bill d t g = root_lean (bytes_eq n (codes "bom")) (in_namespace nsp (namespace v)) (namespaced (namespace v) nsp) (namespaced (namespace v) nsp) (unexpected p (codes "bom") kinds.StartElement) (unexpected q (codes "bom") kinds.StartElement) v d t g
@@ -297,34 +297,34 @@ child_lean (Some c) r read read' look around v d p q ts us f h = by (is_second c
     by true g = fault_ok g
     by false g = bind_ok (read v c.kind p d) (λ t. Ok (stored c.place c.field t ts)) us g (λ t i j. unless_then (look c.kind) (read' v c.kind q d) t (λ z. Ok (stored c.place c.field z ts)) us (f c.kind t i) j)
 
-element_lean : (n : OwnedName) (as' : List OwnedAttribute) (nsp : Option (List ℕ)) (xs : Nodes) (v : SpecVersion) (k : Kind) (p q : ℕ) (d : Depth) (t : Tree)
+element_lean : (n : OwnedName) (as' : List OwnedAttribute) (nsp : Namespace) (xs : Nodes) (v : SpecVersion) (k : Kind) (p q : ℕ) (d : Depth) (t : Tree)
     → ((plan : Plan) (w : SpecVersion) (e : Depth) (ts us : Trees) → nodes_read xs plan n.local_name w e (suc p) ts ≡ Ok us → nodes_read (lean_nodes xs) plan n.local_name w e (suc q) ts ≡ unless (holes (lean_nodes xs) w (suc q) plan) us)
     → xread (element n as' nsp xs) v k p d ≡ Ok t → xread (element n as' nsp (lean_nodes xs)) v k q d ≡ unless (hole (element n as' nsp (lean_nodes xs)) v q k) t
 unfolding xread hole
 element_lean n as' nsp xs v k p q d t f h =
-    kind_lean n.local_name as' nsp p q xs (λ plan w e ts. nodes_read xs plan n.local_name w e (suc p) ts) (λ plan w e ts. nodes_read (lean_nodes xs) plan n.local_name w e (suc q) ts) f v k d t h
+    kind_lean n.local_name as' nsp.default p q xs (λ plan w e ts. nodes_read xs plan n.local_name w e (suc p) ts) (λ plan w e ts. nodes_read (lean_nodes xs) plan n.local_name w e (suc q) ts) f v k d t h
 
 nodes_lean : (xs : Nodes) (plan : Plan) (around : List ℕ) (v : SpecVersion) (d : Depth) (p q : ℕ) (ts us : Trees) → nodes_read xs plan around v d p ts ≡ Ok us
     → nodes_read (lean_nodes xs) plan around v d q ts ≡ unless (holes (lean_nodes xs) v q plan) us
 unfolding xread hole
 nodes_lean no_nodes plan around v d p q ts us h = h
 nodes_lean (node (characters []) xs) plan around v d p q ts us h =
-    nodes_lean xs plan around v d (p + 1) q ts us (stray_same plan.rule faults.characters around p ts us (λ ws. nodes_read xs plan around v d (p + 1) ws) h)
+    nodes_lean xs plan around v d (p + 1) q ts us (stray_same plan.rule kinds.Characters around p ts us (λ ws. nodes_read xs plan around v d (p + 1) ws) h)
 nodes_lean (node (cdata []) xs) plan around v d p q ts us h =
-    nodes_lean xs plan around v d (p + 1) q ts us (stray_same plan.rule faults.cdata around p ts us (λ ws. nodes_read xs plan around v d (p + 1) ws) h)
+    nodes_lean xs plan around v d (p + 1) q ts us (stray_same plan.rule kinds.CData around p ts us (λ ws. nodes_read xs plan around v d (p + 1) ws) h)
 nodes_lean (node (characters (c ∷ s)) xs) plan around v d p q ts us h =
-    bind_ok (stray plan.rule faults.characters around p ts) (λ ws. nodes_read xs plan around v d (p + 1) ws) us h
-    (λ ws i j. earlier_then None (holes (lean_nodes xs) v (q + 1) plan) (stray plan.rule faults.characters around q ts) ws (λ ys. nodes_read (lean_nodes xs) plan around v d (q + 1) ys) us
-    (stray_ok plan.rule faults.characters around p q ts ws i) (nodes_lean xs plan around v d (p + 1) (q + 1) ws us j))
+    bind_ok (stray plan.rule kinds.Characters around p ts) (λ ws. nodes_read xs plan around v d (p + 1) ws) us h
+    (λ ws i j. earlier_then None (holes (lean_nodes xs) v (q + 1) plan) (stray plan.rule kinds.Characters around q ts) ws (λ ys. nodes_read (lean_nodes xs) plan around v d (q + 1) ys) us
+    (stray_ok plan.rule kinds.Characters around p q ts ws i) (nodes_lean xs plan around v d (p + 1) (q + 1) ws us j))
 nodes_lean (node (cdata (c ∷ s)) xs) plan around v d p q ts us h =
-    bind_ok (stray plan.rule faults.cdata around p ts) (λ ws. nodes_read xs plan around v d (p + 1) ws) us h
-    (λ ws i j. earlier_then None (holes (lean_nodes xs) v (q + 1) plan) (stray plan.rule faults.cdata around q ts) ws (λ ys. nodes_read (lean_nodes xs) plan around v d (q + 1) ys) us
-    (stray_ok plan.rule faults.cdata around p q ts ws i) (nodes_lean xs plan around v d (p + 1) (q + 1) ws us j))
+    bind_ok (stray plan.rule kinds.CData around p ts) (λ ws. nodes_read xs plan around v d (p + 1) ws) us h
+    (λ ws i j. earlier_then None (holes (lean_nodes xs) v (q + 1) plan) (stray plan.rule kinds.CData around q ts) ws (λ ys. nodes_read (lean_nodes xs) plan around v d (q + 1) ys) us
+    (stray_ok plan.rule kinds.CData around p q ts ws i) (nodes_lean xs plan around v d (p + 1) (q + 1) ws us j))
 nodes_lean (node (element n as' nsp zs) xs) plan around v d p q ts us h =
-    bind_ok (child_read (find_child n.local_name plan.children) plan.rule (xread (element n as' nsp zs)) around v d p ts) (λ ws. nodes_read xs plan around v d (p + places (element n as' nsp zs)) ws) us h
-    (λ ws i j. earlier_then (child_hole (find_child n.local_name plan.children) (hole (element n as' nsp (lean_nodes zs)) v q)) (holes (lean_nodes xs) v (q + places (element n as' nsp (lean_nodes zs))) plan)
-    (child_read (find_child n.local_name plan.children) plan.rule (xread (element n as' nsp (lean_nodes zs))) around v d q ts) ws (λ ys. nodes_read (lean_nodes xs) plan around v d (q + places (element n as' nsp (lean_nodes zs))) ys) us
-    (child_lean (find_child n.local_name plan.children) plan.rule (xread (element n as' nsp zs)) (xread (element n as' nsp (lean_nodes zs))) (hole (element n as' nsp (lean_nodes zs)) v q) around v d p q ts ws
+    bind_ok (child_read (find_child v n.local_name plan.children) plan.rule (xread (element n as' nsp zs)) around v d p ts) (λ ws. nodes_read xs plan around v d (p + places (element n as' nsp zs)) ws) us h
+    (λ ws i j. earlier_then (child_hole (find_child v n.local_name plan.children) (hole (element n as' nsp (lean_nodes zs)) v q)) (holes (lean_nodes xs) v (q + places (element n as' nsp (lean_nodes zs))) plan)
+    (child_read (find_child v n.local_name plan.children) plan.rule (xread (element n as' nsp (lean_nodes zs))) around v d q ts) ws (λ ys. nodes_read (lean_nodes xs) plan around v d (q + places (element n as' nsp (lean_nodes zs))) ys) us
+    (child_lean (find_child v n.local_name plan.children) plan.rule (xread (element n as' nsp zs)) (xread (element n as' nsp (lean_nodes zs))) (hole (element n as' nsp (lean_nodes zs)) v q) around v d p q ts ws
     (λ k t g. element_lean n as' nsp zs v k p q d t (λ pl w e as'' bs. nodes_lean zs pl n.local_name w e (suc p) (suc q) as'' bs) g) i)
     (nodes_lean xs plan around v d (p + places (element n as' nsp zs)) (q + places (element n as' nsp (lean_nodes zs))) ws us j))
 
@@ -333,4 +333,4 @@ pub lean_denotes : (x : Node) (v : SpecVersion) (t : Tree) → xml_denotes x v �
 unfolding xread hole
 lean_denotes (characters s) v t h = fault_ok h
 lean_denotes (cdata s) v t h = fault_ok h
-lean_denotes (element n as' nsp xs) v t h = element_lean n as' nsp xs v a_bill 1 1 Rattle.cdx_schema.specs.Depth.top t (λ pl w e ts us. nodes_lean xs pl n.local_name w e 2 2 ts us) h
+lean_denotes (element n as' nsp xs) v t h = element_lean n as' nsp xs v a_bill 1 1 top t (λ pl w e ts us. nodes_lean xs pl n.local_name w e 2 2 ts us) h

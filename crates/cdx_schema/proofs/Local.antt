@@ -1,13 +1,13 @@
 -- A fault depends on no event after its place.
-use Rattle.std.specs.Prelude.{◌≡◌, refl, ℕ, zero, suc, ◌+◌, ◌<◌, ◌≤◌, List, [], ◌∷◌, ◌++◌, Bool, true, false, ◌&&◌, nat_le, if◌then◌else◌, Option, Some, None, Result, Ok, Err, codes}
+use Rattle.std.specs.Prelude.{◌≡◌, refl, ℕ, zero, suc, ◌+◌, ◌<◌, ◌≤◌, ◌⊎◌, List, [], ◌∷◌, ◌++◌, Bool, true, false, ◌&&◌, nat_le, if◌then◌else◌, Option, Some, None, Result, Ok, Err, codes}
 use Rattle.std.proofs.Common.{true≢false, inl, inr}
 use Rattle.std.specs.Str.{bytes_eq, trim}
 use mathlib.Core.Path.{ap, sym, ◌∙◌, subst}
 use native.Mathlib.Omega.{arith}
 use Rattle.cdx_models.specs.declared.bom.SpecVersion.{SpecVersion}
 use Rattle.cdx_models.specs.declared.bom.SpecVersion.TheVariants.{V1_3, V1_4, V1_5}
-use Rattle.cdx_models.specs.Versions.{knows, namespace}
-use Rattle.cdx_models.specs.Trees.{Name, hash, property, attached_text, contact, entity, commit, action, patch, diff, issue, source, reference, dependency, composition, license, expression, spdx_id, license_name, tool, component, swid, pedigree, evidence, copyright, service, classification, service_data, tools_object, metadata, signer, signers, chain, bill, Tree, absent, text, number, boolean, items, fields, Trees, none, more, one, two, field, is_absent}
+use Rattle.cdx_models.specs.Versions.{knows, label, namespace}
+use Rattle.cdx_models.specs.Trees.{Name, hash, property, attached_text, contact, entity, commit, action, patch, diff, issue, source, reference, dependency, composition, license, expression, spdx_id, license_name, tool, component, swid, pedigree, evidence, copyright, service, classification, service_data, tools_object, metadata, signer, signers, chain, bill, Tree, absent, text, number, boolean, items, fields, Trees, none, more, one, two, field, with_field, is_absent}
 use Rattle.cdx_schema.specs.Kinds.{Lists, hashes, properties, urls, contacts, commits, patches, resolved, links, external_references, dependencies, depended, compositions, assemblies, composed, vulnerabilities, licenses, components, services, copyright_texts, endpoints, authors, tool_list, signer_list, chain_list, classifications, flows, Kind, a_text, a_boolean, a_number, a_version, a_list, a_record, a_reference, a_license_choice, a_license_identifier, a_tools, a_data, an_entry, a_signature, a_bill, Rule, lax, strict, passing, Spelled, attribute, attribute_or, child, filled_child, read_child, children, either_child, the_version, Row}
 use Rattle.cdx_schema.specs.Table.{rows, list}
 use Rattle.cdx_schema.specs.Held.{held_kind}
@@ -21,15 +21,32 @@ use Rattle.cdx_schema.specs.JsonReading.{is_required}
 use Rattle.cdx_schema.specs.XmlTexts.{boolean_of, number_of, boolean_tree, of_text}
 use Rattle.cdx_schema.specs.XmlReading.{Reading, Child, Plan, row_children, children_from, record_plan, plan_of_list, tools_plan, data_plan, signature_plan, no_plan, find_child, stored, stray, unknown, is_second, child_read, node_read, find_attribute, parsed, attribute_read, attribute_or_read, row_attribute, attributes_read, in_force, after_text, text_in, exact_text, Content, no_content, any_text, one_text_alone, content_from, owed, lacks, lacking_row, filled, ended, Element, end_of, text_read, boolean_read, number_alone, number_in, list_of, content_read, record_so_far, record_read, tools_object_of, tools_of, data_of, signature_of, tools_read, signature_read, in_namespace, kind_read, xread, nodes_read, xml_denotes}
 use Rattle.cdx_schema.specs.Membership.{Never}
-use Rattle.cdx_schema.specs.Locality.{fault_place, AgreeIn, AgreeOn, AreSame, IsLocal}
+use Rattle.cdx_schema.specs.Locality.{fault_place, AreSame, IsLocal}
 use Rattle.cdx_schema.proofs.JsonBack.{and_true}
 use Rattle.cdx_events.specs.declared.event.EventKind.TheVariants as kinds
 use Rattle.cdx_events.specs.declared.name.OwnedAttribute.{OwnedAttribute}
 use Rattle.cdx_events.specs.declared.event.XmlEvent.{XmlEvent}
 use Rattle.cdx_events.specs.declared.name.OwnedName.{OwnedName}
+use Rattle.cdx_events.specs.declared.name.Namespace.{Namespace}
 use Rattle.cdx_events.specs.declared.event.XmlEvent.TheVariants.{CData, Characters, EndDocument, EndElement, StartDocument, StartElement}
 use Rattle.cdx_events.specs.Nodes.{Node, Nodes, cdata, characters, document, element, events_of, events_of_all, no_nodes, node}
 use Rattle.cdx_schema.specs.Nodes.{places, places_of}
+
+-- ---- documents whose events are the same through a place
+
+-- The events of both are the same through place p, where both begin at place s.
+abbrev mutual
+  AgreeIn : ℕ → ℕ → Node → Node → Type 0
+  AgreeIn p s (characters t) (characters u) = t ≡ u
+  AgreeIn p s (cdata t) (cdata u) = t ≡ u
+  AgreeIn p s (element n as' d xs) (element m bs e ys) = (n ≡ m) × (as' ≡ bs) × (d ≡ e) × AgreeOn p (suc s) xs ys
+  AgreeIn p s _ _ = Never
+
+  AgreeOn : ℕ → ℕ → Nodes → Nodes → Type 0
+  AgreeOn p s no_nodes no_nodes = Unit {0}
+  AgreeOn p s no_nodes (node y ys) = p < s
+  AgreeOn p s (node x xs) no_nodes = p < s
+  AgreeOn p s (node x xs) (node y ys) = (p < s) ⊎ (AgreeIn p s x y × AgreeOn p (s + places x) xs ys)
 
 -- ---- results
 
@@ -75,25 +92,25 @@ attribute_or_place : (o : Option (List ℕ)) (q : List ℕ) (n : ℕ) (r : Row) 
 attribute_or_place None q n r p f h = ok_err h
 attribute_or_place (Some s) q n r p f h = parsed_place (of_text r.kind s) p q s r.kind f h
 
+known_place : (b : Bool) (r : Result Tree XmlReadError) (f : XmlReadError) (p : ℕ) → (if b then r else Ok absent) ≡ Err f → (r ≡ Err f → fault_place f ≡ p) → fault_place f ≡ p
+known_place true r f p h g = g h
+known_place false r f p h g = ok_err h
+
 row_place : (r : Row) (as' : List OwnedAttribute) (v : SpecVersion) (around : List ℕ) (p : ℕ) (f : XmlReadError) → row_attribute r as' v around p ≡ Err f → fault_place f ≡ p
 row_place r as' v around p f h = by r.xml h
   where
     by : (x : Spelled) → row_attribute (record r { xml = x }) as' v around p ≡ Err f → fault_place f ≡ p
-    by (attribute q) g = attribute_place (find_attribute q as') q (record r { xml = attribute q }) v around p f g
-    by (attribute_or q n) g = attribute_or_place (find_attribute q as') q n (record r { xml = attribute_or q n }) p f g
-    by the_version g = ok_err g
+    by (attribute q) g = known_place (knows r.since v) (attribute_read (find_attribute q as') q (record r { xml = attribute q }) v around p) f p g (attribute_place (find_attribute q as') q (record r { xml = attribute q }) v around p f)
+    by (attribute_or q n) g = known_place (knows r.since v) (attribute_or_read (find_attribute q as') q n (record r { xml = attribute_or q n }) p) f p g (attribute_or_place (find_attribute q as') q n (record r { xml = attribute_or q n }) p f)
+    by the_version g = known_place (knows r.since v) (Ok (text (label v))) f p g (λ i. ok_err i)
     by _ g = ok_err g
-
-known_place : (b : Bool) (r : Row) (as' : List OwnedAttribute) (v : SpecVersion) (around : List ℕ) (p : ℕ) (f : XmlReadError) → (if b then row_attribute r as' v around p else Ok absent) ≡ Err f → fault_place f ≡ p
-known_place true r as' v around p f h = row_place r as' v around p f h
-known_place false r as' v around p f h = ok_err h
 
 attributes_place : (rs : List Row) (as' : List OwnedAttribute) (v : SpecVersion) (around : List ℕ) (p : ℕ) (f : XmlReadError) → attributes_read rs as' v around p ≡ Err f → fault_place f ≡ p
 unfolding attributes_read
 attributes_place [] as' v around p f h = ok_err h
 attributes_place (r ∷ rs) as' v around p f h =
-    bind_err (if knows r.since v then row_attribute r as' v around p else Ok absent) (λ t. attributes_read rs as' v around p >>= (λ ts. Ok (more t ts))) f h
-    (known_place (knows r.since v) r as' v around p f)
+    bind_err (row_attribute r as' v around p) (λ t. attributes_read rs as' v around p >>= (λ ts. Ok (more t ts))) f h
+    (row_place r as' v around p f)
     (λ t i g. bind_err (attributes_read rs as' v around p) (λ ts. Ok (more t ts)) f g (attributes_place rs as' v around p f) (λ ts j k. ok_err k))
 
 lacking_place : (o : Option (List ℕ)) (around : List ℕ) (p : ℕ) (f : XmlReadError) → lacking_row o around p (Ok none) ≡ Err f → fault_place f ≡ p
@@ -178,16 +195,12 @@ row_no_bill i r p q = by r.xml
     by (either_child m n) = rw p refl
     by _ = refl
 
-known_no_bill : (b : Bool) (i : ℕ) (r : Row) → no_bills (row_children i r) ≡ true → no_bills (if b then row_children i r else []) ≡ true
-known_no_bill true i r h = h
-known_no_bill false i r h = refl
-
-children_no_bill : (i : ℕ) (rs : List Row) (v : SpecVersion) → no_bill_rows rs ≡ true → no_bills (children_from i rs v) ≡ true
-children_no_bill i [] v h = refl
-children_no_bill i (r ∷ rs) v h =
+children_no_bill : (i : ℕ) (rs : List Row) → no_bill_rows rs ≡ true → no_bills (children_from i rs) ≡ true
+children_no_bill i [] h = refl
+children_no_bill i (r ∷ rs) h =
     let a : ((no_bill r.kind && no_bill (held_kind r.kind)) ≡ true) × (no_bill_rows rs ≡ true) = and_true (no_bill r.kind && no_bill (held_kind r.kind)) (no_bill_rows rs) h in
     let b : (no_bill r.kind ≡ true) × (no_bill (held_kind r.kind) ≡ true) = and_true (no_bill r.kind) (no_bill (held_kind r.kind)) a.0 in
-    no_bills_append (if knows r.since v then row_children i r else []) (children_from (suc i) rs v) (known_no_bill (knows r.since v) i r (row_no_bill i r b.0 b.1)) (children_no_bill (suc i) rs v a.1)
+    no_bills_append (row_children i r) (children_from (suc i) rs) (row_no_bill i r b.0 b.1) (children_no_bill (suc i) rs a.1)
 
 list_no_bill : (l : Lists) → no_bills (plan_of_list l).children ≡ true
 unfolding list
@@ -218,17 +231,7 @@ list_no_bill chain_list = refl
 list_no_bill classifications = refl
 list_no_bill flows = refl
 
-tools_no_bill : (v : SpecVersion) → no_bills (tools_plan).children ≡ true
-tools_no_bill V1_3 = refl
-tools_no_bill V1_4 = refl
-tools_no_bill V1_5 = refl
-
-data_no_bill : (v : SpecVersion) → no_bills (data_plan).children ≡ true
-data_no_bill V1_3 = refl
-data_no_bill V1_4 = refl
-data_no_bill V1_5 = refl
-
--- ---- one element beside another of the same StartElement
+-- ---- one element beside another of the same start
 
 abbrev Rd : Type 0
 Rd = Plan → SpecVersion → Depth → Trees → Result Trees XmlReadError
@@ -243,7 +246,7 @@ out_bind true Q f r g h = err_bind r g f h
 out_bind false Q f r g h = h
 
 abbrev elem : List ℕ → List OwnedAttribute → Option (List ℕ) → ℕ → Nodes → Rd → Element
-elem n as' nsp s xs rd = record { name = n; attributes = as'; namespace = nsp; nodes = xs; StartElement = s; read = rd }
+elem n as' nsp s xs rd = record { name = n; attributes = as'; namespace = nsp; nodes = xs; start = s; read = rd }
 
 -- How the faults of the one element's nodes show in the other's.
 abbrev Shows : Bool → Type 0 → XmlReadError → List ℕ → ℕ → Nodes → Nodes → Rd → Rd → Type 0
@@ -268,11 +271,11 @@ module _ (m : Bool) (Q : Type 0) (f : XmlReadError) (n : List ℕ) (as' : List O
   exact_out g = h.1 (Err (unexpected (suc s) n kinds.EndElement)) (λ z. subst (λ (p : ℕ). suc s ≤ p) (ap fault_place (err_same z)) (omega arith)) g
 
   content_out : (c : Content) (k : Name) (ts : Trees) (v : SpecVersion) (d : Depth) → content_read c E k ts v d ≡ Err f → Out m Q f (content_read c F k ts v d)
-  content_out no_content k ts v d g = h.0 (record_plan k) v d ts (children_no_bill 0 (rows k) v (rows_no_bill k)) g
-  content_out (any_text i) k ts v d g = bind_err (text_read E) (λ t. Ok (Rattle.cdx_schema.specs.Trees.with_field i (text t) ts)) f g
-      (λ z. out_bind m Q f (text_read F) (λ t. Ok (Rattle.cdx_schema.specs.Trees.with_field i (text t) ts)) (simple_out z)) (λ t i j. ok_err j)
-  content_out (one_text_alone i) k ts v d g = bind_err (exact_text xs n (suc s)) (λ t. Ok (Rattle.cdx_schema.specs.Trees.with_field i (text t) ts)) f g
-      (λ z. out_bind m Q f (exact_text ys n (suc s)) (λ t. Ok (Rattle.cdx_schema.specs.Trees.with_field i (text t) ts)) (exact_out z)) (λ t i j. ok_err j)
+  content_out no_content k ts v d g = h.0 (record_plan k) v d ts (children_no_bill 0 (rows k) (rows_no_bill k)) g
+  content_out (any_text i) k ts v d g = bind_err (text_read E) (λ t. Ok (with_field i (text t) ts)) f g
+      (λ z. out_bind m Q f (text_read F) (λ t. Ok (with_field i (text t) ts)) (simple_out z)) (λ t i j. ok_err j)
+  content_out (one_text_alone i) k ts v d g = bind_err (exact_text xs n (suc s)) (λ t. Ok (with_field i (text t) ts)) f g
+      (λ z. out_bind m Q f (exact_text ys n (suc s)) (λ t. Ok (with_field i (text t) ts)) (exact_out z)) (λ t i j. ok_err j)
 
   abbrev Ends : Element → Name → SpecVersion → Trees → Result Tree XmlReadError
   Ends e k v us = ended (rows k) us v e.name (end_of e) >>= (λ zs. Ok (fields k zs))
@@ -332,7 +335,7 @@ module _ (m : Bool) (Q : Type 0) (f : XmlReadError) (n : List ℕ) (as' : List O
   plan_out plan v d ts g g' b z k = bind_err (rd plan v d ts) g f z (λ a. out_bind m Q f (rd' plan v d ts) g' (h.0 plan v d ts b a)) (λ us i a. k us a)
 
   kind_out : (v : SpecVersion) (k : Kind) (d : Depth) → no_bill k ≡ true → kind_read E v k d ≡ Err f → Out m Q f (kind_read F v k d)
-  kind_out v Characters d b g = bind_err (text_read E) (λ t. Ok (text t)) f g (λ z. out_bind m Q f (text_read F) (λ t. Ok (text t)) (simple_out z)) (λ t i j. ok_err j)
+  kind_out v a_text d b g = bind_err (text_read E) (λ t. Ok (text t)) f g (λ z. out_bind m Q f (text_read F) (λ t. Ok (text t)) (simple_out z)) (λ t i j. ok_err j)
   kind_out v a_boolean d b g = bind_err (text_read E) (λ t. parsed (boolean_tree (boolean_of t)) (end_of E) n t a_boolean) f g
       (λ z. out_bind m Q f (text_read F) (λ t. parsed (boolean_tree (boolean_of t)) (end_of F) n t a_boolean) (simple_out z))
       (λ t i j. h.4 (boolean_read F) (parsed_place (boolean_tree (boolean_of t)) (end_of E) n t a_boolean f j))
@@ -343,8 +346,8 @@ module _ (m : Bool) (Q : Type 0) (f : XmlReadError) (n : List ℕ) (as' : List O
   kind_out v a_reference d b g = reference_out (find_attribute (codes "ref") as') v d g
   kind_out v a_license_choice d b g = either_out (bytes_eq n (codes "license")) (bytes_eq n (codes "expression")) license expression (codes "license or expression") v d g
   kind_out v a_license_identifier d b g = either_out (bytes_eq n (codes "id")) (bytes_eq n (codes "name")) spdx_id license_name (codes "id or name") v d g
-  kind_out v a_tools d b g = plan_out (tools_plan) v d (more absent (two absent absent)) (λ ts. tools_of E v ts) (λ ts. tools_of F v ts) (tools_no_bill v) g (λ us j. tools_out v us (field 0 us) (tools_read F v d) j)
-  kind_out v a_data d b g = plan_out (data_plan) v d (two absent absent) (λ ts. Ok (data_of ts)) (λ ts. Ok (data_of ts)) (data_no_bill v) g (λ us j. ok_err j)
+  kind_out v a_tools d b g = plan_out tools_plan v d (more absent (two absent absent)) (λ ts. tools_of E v ts) (λ ts. tools_of F v ts) refl g (λ us j. tools_out v us (field 0 us) (tools_read F v d) j)
+  kind_out v a_data d b g = plan_out data_plan v d (two absent absent) (λ ts. Ok (data_of ts)) (λ ts. Ok (data_of ts)) refl g (λ us j. ok_err j)
   kind_out v an_entry d b g = bind_err (record_read E service_data v d) (λ t. Ok (entry_of t)) f g (λ z. out_bind m Q f (record_read F service_data v d) (λ t. Ok (entry_of t)) (record_out service_data v d z)) (λ t i j. ok_err j)
   kind_out v a_signature d b g = plan_out signature_plan v d (more absent (two absent absent)) (λ ts. signature_of E v ts) (λ ts. signature_of F v ts) refl g (λ us j. signature_out v us (field 0 us) (signature_read F v d) j)
   kind_out v a_bill d b g = absurd (true≢false (sym b))
@@ -392,12 +395,12 @@ abbrev NoBillIn : Option Child → Type 0
 NoBillIn None = Unit {0}
 NoBillIn (Some c) = no_bill c.kind ≡ true
 
-find_no_bill : (q : List ℕ) (cs : List Child) → no_bills cs ≡ true → NoBillIn (find_child q cs)
-find_no_bill q [] h = tt
-find_no_bill q (c ∷ cs) h =
-    let a : (no_bill c.kind ≡ true) × (no_bills cs ≡ true) = and_true (no_bill c.kind) (no_bills cs) h in by a.0 (bytes_eq q c.name) (find_no_bill q cs a.1)
+find_no_bill : (v : SpecVersion) (q : List ℕ) (cs : List Child) → no_bills cs ≡ true → NoBillIn (find_child v q cs)
+find_no_bill v q [] h = tt
+find_no_bill v q (c ∷ cs) h =
+    let a : (no_bill c.kind ≡ true) × (no_bills cs ≡ true) = and_true (no_bill c.kind) (no_bills cs) h in by a.0 (bytes_eq q c.name && knows c.since v) (find_no_bill v q cs a.1)
   where
-    by : no_bill c.kind ≡ true → (b : Bool) → NoBillIn (find_child q cs) → NoBillIn (if b then Some c else find_child q cs)
+    by : no_bill c.kind ≡ true → (b : Bool) → NoBillIn (find_child v q cs) → NoBillIn (if b then Some c else find_child v q cs)
     by i true g = i
     by i false g = g
 
@@ -425,7 +428,7 @@ node_low : (x : Node) (read : Reading) (plan : Plan) (around : List ℕ) (v : Sp
     → node_read x read plan around v d p ts ≡ Err f → p ≤ fault_place f
 node_low (characters t) read plan around v d p ts f b g h = stray_low plan.rule _ around p ts f h
 node_low (cdata t) read plan around v d p ts f b g h = stray_low plan.rule _ around p ts f h
-node_low (element n as' nsp xs) read plan around v d p ts f b g h = child_low (find_child n.local_name plan.children) plan.rule read around v d p ts f (find_no_bill n.local_name plan.children b) g h
+node_low (element n as' nsp xs) read plan around v d p ts f b g h = child_low (find_child v n.local_name plan.children) plan.rule read around v d p ts f (find_no_bill v n.local_name plan.children b) g h
 
 mutual
   unfolding xread
@@ -434,7 +437,7 @@ mutual
   xread_low (characters t) v k s d f b h = at_least s (fault_place f) (ap fault_place (sym (err_same h)))
   xread_low (cdata t) v k s d f b h = at_least s (fault_place f) (ap fault_place (sym (err_same h)))
   xread_low (element n as' nsp xs) v k s d f b h =
-      kind_out false (s ≤ fault_place f) f n.local_name as' nsp s xs xs (λ plan w e ts. nodes_read xs plan n.local_name w e (suc s) ts) (λ plan w e ts. nodes_read xs plan n.local_name w e (suc s) ts) (
+      kind_out false (s ≤ fault_place f) f n.local_name as' nsp.default s xs xs (λ plan w e ts. nodes_read xs plan n.local_name w e (suc s) ts) (λ plan w e ts. nodes_read xs plan n.local_name w e (suc s) ts) (
         λ plan w e ts g z. le_less s (fault_place f) (nodes_low xs plan n.local_name w e (suc s) ts f g z),
         λ o g z. le_less s (fault_place f) (text_low o xs n.local_name (suc s) f g z),
         λ z. le_less s (fault_place f) (number_low xs n.local_name (suc s) f z),
@@ -449,7 +452,7 @@ mutual
       (λ z. node_low x (xread x) plan around v d s ts f b (λ k i j. xread_low x v k s d f i j) z)
       (λ us i z. le_sum s (places x) (fault_place f) (nodes_low xs plan around v d (s + places x) us f b z))
 
--- ---- what is the same through the EndElement is the same
+-- ---- what is the same through the end is the same
 
 too_low : {A : Type 0} (p s q : ℕ) → p < s → s ≤ q → q ≤ p → A
 too_low p s q a b c = absurd (nope p s q a b c)
@@ -460,7 +463,7 @@ too_low p s q a b c = absurd (nope p s q a b c)
 node_same : {x y : Node} {xs ys : Nodes} → x ≡ y → xs ≡ ys → node x xs ≡ node y ys
 node_same p q = rw (p, q) refl
 
-element_same : {n m : OwnedName} {as' bs : List OwnedAttribute} {c e : Option (List ℕ)} {xs ys : Nodes} → n ≡ m → as' ≡ bs → c ≡ e → xs ≡ ys → element n as' c xs ≡ element m bs e ys
+element_same : {n m : OwnedName} {as' bs : List OwnedAttribute} {c e : Namespace} {xs ys : Nodes} → n ≡ m → as' ≡ bs → c ≡ e → xs ≡ ys → element n as' c xs ≡ element m bs e ys
 element_same p q r t = rw (p, q, r, t) refl
 
 mutual
@@ -555,8 +558,8 @@ node_agree : (x y : Node) (q : ℕ) (read read' : Reading) (plan : Plan) (around
 node_agree (characters t) (characters u) q read read' plan around v d p ts f b a g h = h
 node_agree (cdata t) (cdata u) q read read' plan around v d p ts f b a g h = h
 node_agree (element n as' c xs) (element m bs e ys) q read read' plan around v d p ts f b a g h =
-    subst (λ (i : OwnedName). child_read (find_child i.local_name plan.children) plan.rule read' around v d p ts ≡ Err f) a.0
-    (child_agree (find_child n.local_name plan.children) plan.rule read read' around v d p ts f (find_no_bill n.local_name plan.children b) g h)
+    subst (λ (i : OwnedName). child_read (find_child v i.local_name plan.children) plan.rule read' around v d p ts ≡ Err f) a.0
+    (child_agree (find_child v n.local_name plan.children) plan.rule read read' around v d p ts f (find_no_bill v n.local_name plan.children b) g h)
 node_agree (characters t) (cdata u) q read read' plan around v d p ts f b a g h = absurd (true≢false a)
 node_agree (characters t) (element m bs e ys) q read read' plan around v d p ts f b a g h = absurd (true≢false a)
 node_agree (cdata t) (characters u) q read read' plan around v d p ts f b a g h = absurd (true≢false a)
@@ -574,7 +577,7 @@ is_le m n h = grind arith
 is_more : (m n : ℕ) → nat_le m n ≡ false → n < m
 is_more m n h = grind arith
 
--- The EndElement stands after p, and the fault doesn't.
+-- The end stands after p, and the fault doesn't.
 past_end : {A : Type 0} (p e q : ℕ) → p < e → q ≤ p → q ≡ e → A
 past_end p e q a l i = too_low p e q a (subst (λ (j : ℕ). e ≤ j) (sym i) (le_self e)) l
 
@@ -591,7 +594,7 @@ mutual
       choose (nat_le (suc (s + places_of xs)) p)
       (λ i. subst (λ (y : Node). Fails y v k s d f) (element_same {xs = xs} {ys = ys} a.0 a.1 a.2 (nodes_whole xs ys p (suc s) (omega (arith, is_le (suc (s + places_of xs)) p i)) a.3)) h)
       (λ i. subst (λ (y : Node). Fails y v k s d f) (element_same {xs = ys} {ys = ys} a.0 a.1 a.2 refl)
-      (kind_out true Never f n.local_name as' c s xs ys (λ plan w e' ts. nodes_read xs plan n.local_name w e' (suc s) ts) (λ plan w e' ts. nodes_read ys plan n.local_name w e' (suc s) ts) (
+      (kind_out true Never f n.local_name as' c.default s xs ys (λ plan w e' ts. nodes_read xs plan n.local_name w e' (suc s) ts) (λ plan w e' ts. nodes_read ys plan n.local_name w e' (suc s) ts) (
         λ plan w e' ts g z. nodes_agree xs ys plan n.local_name p w e' (suc s) ts f g l a.3 z,
         λ o g z. text_agree o xs ys n.local_name p (suc s) f g a.3 l z,
         λ z. number_agree xs ys n.local_name p (suc s) f a.3 l z,
@@ -625,12 +628,12 @@ root_out true true e e' r r' f h g = g h
 root_out true false e e' r r' f h g = h
 root_out false c e e' r r' f h g = h
 
-root_agree : (n : OwnedName) (as' : List OwnedAttribute) (c : Option (List ℕ)) (xs ys : Nodes) (p : ℕ) (v : SpecVersion) (f : XmlReadError) → fault_place f ≤ p → AgreeOn p 2 xs ys → p < suc (1 + places_of xs) → Fails (element n as' c xs) v a_bill 1 top f → Fails (element n as' c ys) v a_bill 1 top f
+root_agree : (n : OwnedName) (as' : List OwnedAttribute) (c : Namespace) (xs ys : Nodes) (p : ℕ) (v : SpecVersion) (f : XmlReadError) → fault_place f ≤ p → AgreeOn p 2 xs ys → p < suc (1 + places_of xs) → Fails (element n as' c xs) v a_bill 1 top f → Fails (element n as' c ys) v a_bill 1 top f
 unfolding xread
 root_agree n as' c xs ys p v f l a i h =
-    root_out (bytes_eq n.local_name (codes "bom")) (in_namespace c (namespace v)) (namespaced (namespace v) c) (unexpected 1 (codes "bom") kinds.StartElement)
-    (record_read (elem n.local_name as' c 1 xs (λ plan w e' ts. nodes_read xs plan n.local_name w e' 2 ts)) bill v top) (record_read (elem n.local_name as' c 1 ys (λ plan w e' ts. nodes_read ys plan n.local_name w e' 2 ts)) bill v top) f h
-    (record_out true Never f n.local_name as' c 1 xs ys (λ plan w e' ts. nodes_read xs plan n.local_name w e' 2 ts) (λ plan w e' ts. nodes_read ys plan n.local_name w e' 2 ts) (
+    root_out (bytes_eq n.local_name (codes "bom")) (in_namespace c.default (namespace v)) (namespaced (namespace v) c.default) (unexpected 1 (codes "bom") kinds.StartElement)
+    (record_read (elem n.local_name as' c.default 1 xs (λ plan w e' ts. nodes_read xs plan n.local_name w e' 2 ts)) bill v top) (record_read (elem n.local_name as' c.default 1 ys (λ plan w e' ts. nodes_read ys plan n.local_name w e' 2 ts)) bill v top) f h
+    (record_out true Never f n.local_name as' c.default 1 xs ys (λ plan w e' ts. nodes_read xs plan n.local_name w e' 2 ts) (λ plan w e' ts. nodes_read ys plan n.local_name w e' 2 ts) (
       λ plan w e' ts g z. nodes_agree xs ys plan n.local_name p w e' 2 ts f g l a z,
       λ o g z. text_agree o xs ys n.local_name p 2 f g a l z,
       λ z. number_agree xs ys n.local_name p 2 f a l z,
@@ -654,7 +657,7 @@ local_nodes (cdata t) (element m bs e ys) v f h a = absurd (true≢false a)
 local_nodes (element n as' c xs) (characters u) v f h a = absurd (true≢false a)
 local_nodes (element n as' c xs) (cdata u) v f h a = absurd (true≢false a)
 
--- ---- from events_of to nodes
+-- ---- from events to nodes
 
 append_again : (as' bs cs : List XmlEvent) → (as' ++ bs) ++ cs ≡ as' ++ (bs ++ cs)
 append_again [] bs cs = refl
@@ -673,7 +676,7 @@ abbrev attributes_or : List OwnedAttribute → XmlEvent → List OwnedAttribute
 attributes_or as' (StartElement m bs c) = bs
 attributes_or as' _ = as'
 
-abbrev default_or : Option (List ℕ) → XmlEvent → Option (List ℕ)
+abbrev default_or : Namespace → XmlEvent → Namespace
 default_or c (StartElement m bs e) = e
 default_or c _ = c
 
@@ -696,7 +699,7 @@ is_end _ = false
 other : {A : Type 0} (g : XmlEvent → Bool) {a b : XmlEvent} → a ≡ b → g a ≡ true → g b ≡ false → A
 other g e p q = absurd (true≢false (sym p ∙ (ap g e ∙ q)))
 
--- the events_of after a node, as far as they are the same
+-- the events after a node, as far as they are the same
 abbrev Beyond : ℕ → ℕ → List XmlEvent → List XmlEvent → Type 0
 Beyond n i r r' = (k : ℕ) × (n ≤ i + k) × AreSame k r r'
 
@@ -750,10 +753,10 @@ root_low : (x : Node) (v : SpecVersion) (f : XmlReadError) → xml_denotes x v �
 unfolding xread
 root_low (characters t) v f h = at_least 1 (fault_place f) (ap fault_place (sym (err_same h)))
 root_low (cdata t) v f h = at_least 1 (fault_place f) (ap fault_place (sym (err_same h)))
-root_low (element n as' c xs) v f h = by (bytes_eq n.local_name (codes "bom")) (in_namespace c (namespace v)) h
+root_low (element n as' c xs) v f h = by (bytes_eq n.local_name (codes "bom")) (in_namespace c.default (namespace v)) h
   where
-    by : (b e : Bool) → (if b then (if e then record_read (elem n.local_name as' c 1 xs (λ plan w e' ts. nodes_read xs plan n.local_name w e' 2 ts)) bill v top else Err (namespaced (namespace v) c)) else Err (unexpected 1 (codes "bom") kinds.StartElement)) ≡ Err f → 1 ≤ fault_place f
-    by true true g = record_out false (1 ≤ fault_place f) f n.local_name as' c 1 xs xs (λ plan w e' ts. nodes_read xs plan n.local_name w e' 2 ts) (λ plan w e' ts. nodes_read xs plan n.local_name w e' 2 ts) (
+    by : (b e : Bool) → (if b then (if e then record_read (elem n.local_name as' c.default 1 xs (λ plan w e' ts. nodes_read xs plan n.local_name w e' 2 ts)) bill v top else Err (namespaced (namespace v) c.default)) else Err (unexpected 1 (codes "bom") kinds.StartElement)) ≡ Err f → 1 ≤ fault_place f
+    by true true g = record_out false (1 ≤ fault_place f) f n.local_name as' c.default 1 xs xs (λ plan w e' ts. nodes_read xs plan n.local_name w e' 2 ts) (λ plan w e' ts. nodes_read xs plan n.local_name w e' 2 ts) (
       λ plan w e' ts i z. le_less 1 (fault_place f) (nodes_low xs plan n.local_name w e' 2 ts f i z),
       λ o i z. le_less 1 (fault_place f) (text_low o xs n.local_name 2 f i z),
       λ z. le_less 1 (fault_place f) (number_low xs n.local_name 2 f z),

@@ -140,7 +140,7 @@ appended_slot (number x) t s d l h g f = alone t s d l g f
 appended_slot (boolean x) t s d l h g f = alone t s d l g f
 appended_slot (fields n x) t s d l h g f = alone t s d l g f
 
--- Both: the kinds of all, and the fields that are there.
+-- Both: the row_kinds of all, and the fields that are there.
 abbrev Holds : Trees → List Kind → List Bool → Depth → Type 0
 Holds ts ks bs d = AreSlots ts ks d × Present ts bs
 
@@ -175,11 +175,11 @@ abbrev GoodSome : Option Child → List Kind → Type 0
 GoodSome None ks = Unit {0}
 GoodSome (Some c) ks = GoodChild c ks
 
-find_good : (s : List ℕ) (cs : List Child) (ks : List Kind) → GoodChildren cs ks → GoodSome (find_child s cs) ks
-find_good s [] ks h = tt
-find_good s (c ∷ cs) ks h = by (bytes_eq s c.name) (find_good s cs ks h.1)
+find_good : (v : SpecVersion) (s : List ℕ) (cs : List Child) (ks : List Kind) → GoodChildren cs ks → GoodSome (find_child v s cs) ks
+find_good v s [] ks h = tt
+find_good v s (c ∷ cs) ks h = by (bytes_eq s c.name && knows c.since v) (find_good v s cs ks h.1)
   where
-    by : (b : Bool) → GoodSome (find_child s cs) ks → GoodSome (if b then Some c else find_child s cs) ks
+    by : (b : Bool) → GoodSome (find_child v s cs) ks → GoodSome (if b then Some c else find_child v s cs) ks
     by true g = h.0
     by false g = g
 
@@ -196,7 +196,7 @@ node_holds : (x : Node) (read : Reading) (plan : Plan) (around : List ℕ) (v : 
     → node_read x read plan around v d p ts ≡ Ok us → Holds us ks bs d
 node_holds (characters s) read plan around v d p ts us ks bs g f h e = subst (λ (x : Trees). Holds x ks bs d) (stray_holds plan.rule _ around p ts us e) h
 node_holds (cdata s) read plan around v d p ts us ks bs g f h e = subst (λ (x : Trees). Holds x ks bs d) (stray_holds plan.rule _ around p ts us e) h
-node_holds (element n as' default xs) read plan around v d p ts us ks bs g f h e = child_holds (find_child n.local_name plan.children) plan.rule read around v d p ts us ks bs (find_good n.local_name plan.children ks g) f h e
+node_holds (element n as' default xs) read plan around v d p ts us ks bs g f h e = child_holds (find_child v n.local_name plan.children) plan.rule read around v d p ts us ks bs (find_good v n.local_name plan.children ks g) f h e
 
 -- ---- texts
 
@@ -379,9 +379,9 @@ row_parts r rs h =
     let q : (sound_since r.since r.need r.kind ≡ true) × (reads_xml r.xml r.need r.kind ≡ true) = and_true (sound_since r.since r.need r.kind) (reads_xml r.xml r.need r.kind) p.0 in
     (q.0, q.1, p.1)
 
-abbrev kinds : List Row → List Kind
-kinds [] = []
-kinds (r ∷ rs) = r.kind ∷ kinds rs
+abbrev row_kinds : List Row → List Kind
+row_kinds [] = []
+row_kinds (r ∷ rs) = r.kind ∷ row_kinds rs
 
 -- whether a field is there once the attributes are read
 abbrev flag_by : Bool → Spelled → Need → SpecVersion → Bool
@@ -435,15 +435,32 @@ unfolding is_shallow
 version_good a_version v d t h e = subst (λ (x : Tree). IsReadOf a_version d x) e (label_is v, refl)
 version_good _ v d t h e = absurd (true≢false (sym h))
 
+-- What a row gives where the version knows it, and elsewhere.
+known_attributed : (b : Bool) (k : Kind) (d : Depth) (f : Bool) (g : Result Tree XmlReadError) (t : Tree) → (b ≡ true → g ≡ Ok t → Attributed k d f t) → (b ≡ false → f ≡ false) → (if b then g else Ok absent) ≡ Ok t → Attributed k d f t
+known_attributed true k d f g t there gone e = there refl e
+known_attributed false k d f g t there gone e = absent_attributed k d f t (gone refl) (ok_same e)
+
+and_known : (b c : Bool) → b ≡ false → (b && c) ≡ false
+and_known true c h = absurd (true≢false h)
+and_known false c h = refl
+
+known_and : (k : Kind) (d : Depth) (b c : Bool) (t : Tree) → b ≡ true → Attributed k d c t → Attributed k d (b && c) t
+known_and k d true c t h a = a
+known_and k d false c t h a = absurd (true≢false (sym h))
+
 row_attributed : (r : Row) (as' : List OwnedAttribute) (v : SpecVersion) (around : List ℕ) (p : ℕ) (d : Depth) (t : Tree) → AttributeTexts as' → reads_xml r.xml r.need r.kind ≡ true → row_attribute r as' v around p ≡ Ok t
-    → Attributed r.kind d (flag_by true r.xml r.need v) t
+    → Attributed r.kind d (flag_by (knows r.since v) r.xml r.need v) t
 row_attributed r as' v around p d t u h e = by r.xml h e
   where
-    by : (x : Spelled) → reads_xml x r.need r.kind ≡ true → row_attribute (record r { xml = x }) as' v around p ≡ Ok t → Attributed r.kind d (flag_by true x r.need v) t
-    by (attribute q) g f = attribute_good (find_attribute q as') q (record r { xml = attribute q }) v around p d t (find_texts q as' u) (and_true (is_leaf r.kind) (is_plain_need r.need) g).0 f
+    by : (x : Spelled) → reads_xml x r.need r.kind ≡ true → row_attribute (record r { xml = x }) as' v around p ≡ Ok t → Attributed r.kind d (flag_by (knows r.since v) x r.need v) t
+    by (attribute q) g f = known_attributed (knows r.since v) r.kind d (knows r.since v && is_required r.need v) (attribute_read (find_attribute q as') q (record r { xml = attribute q }) v around p) t
+        (λ k o. known_and r.kind d (knows r.since v) (is_required r.need v) t k (attribute_good (find_attribute q as') q (record r { xml = attribute q }) v around p d t (find_texts q as' u) (and_true (is_leaf r.kind) (is_plain_need r.need) g).0 o))
+        (λ k. and_known (knows r.since v) (is_required r.need v) k) f
     by (attribute_or q m) g f = let a : (nat_lt m (2 ^ 32) ≡ true) × (is_number_kind r.kind ≡ true) = and_true (nat_lt m (2 ^ 32)) (is_number_kind r.kind) g in
-        read_attributed r.kind d true t (attribute_or_good (find_attribute q as') q m (record r { xml = attribute_or q m }) p d t (find_texts q as' u) a.0 a.1 f)
-    by the_version g f = read_attributed r.kind d true t (version_good r.kind v d t g (ok_same f))
+        known_attributed (knows r.since v) r.kind d (knows r.since v) (attribute_or_read (find_attribute q as') q m (record r { xml = attribute_or q m }) p) t
+        (λ k o. read_attributed r.kind d (knows r.since v) t (attribute_or_good (find_attribute q as') q m (record r { xml = attribute_or q m }) p d t (find_texts q as' u) a.0 a.1 o)) (λ k. k) f
+    by the_version g f = known_attributed (knows r.since v) r.kind d (knows r.since v) (Ok (text (label v))) t
+        (λ k o. read_attributed r.kind d (knows r.since v) t (version_good r.kind v d t g (ok_same o))) (λ k. k) f
     by content g f = absent_attributed r.kind d false t refl (ok_same f)
     by one_text g f = absent_attributed r.kind d false t refl (ok_same f)
     by as_cdata g f = absent_attributed r.kind d false t refl (ok_same f)
@@ -453,20 +470,15 @@ row_attributed r as' v around p d t u h e = by r.xml h e
     by (children q) g f = absent_attributed r.kind d false t refl (ok_same f)
     by (either_child q m) g f = absent_attributed r.kind d false t refl (ok_same f)
 
-known_attributed : (b : Bool) (r : Row) (as' : List OwnedAttribute) (v : SpecVersion) (around : List ℕ) (p : ℕ) (d : Depth) (t : Tree) → AttributeTexts as' → reads_xml r.xml r.need r.kind ≡ true
-    → (if b then row_attribute r as' v around p else Ok absent) ≡ Ok t → Attributed r.kind d (flag_by b r.xml r.need v) t
-known_attributed true r as' v around p d t u h e = row_attributed r as' v around p d t u h e
-known_attributed false r as' v around p d t u h e = absent_attributed r.kind d (flag_by false r.xml r.need v) t (no_flag r.xml r.need v) (ok_same e)
-
-attributes_hold : (rs : List Row) (as' : List OwnedAttribute) (v : SpecVersion) (around : List ℕ) (p : ℕ) (d : Depth) (ts : Trees) → AttributeTexts as' → all_xml rs ≡ true → attributes_read rs as' v around p ≡ Ok ts → Holds ts (kinds rs) (flags rs v) d
+attributes_hold : (rs : List Row) (as' : List OwnedAttribute) (v : SpecVersion) (around : List ℕ) (p : ℕ) (d : Depth) (ts : Trees) → AttributeTexts as' → all_xml rs ≡ true → attributes_read rs as' v around p ≡ Ok ts → Holds ts (row_kinds rs) (flags rs v) d
 unfolding attributes_read
 attributes_hold [] as' v around p d ts u h e = subst (λ (x : Trees). Holds x [] [] d) (ok_same e) (tt, tt)
 attributes_hold (r ∷ rs) as' v around p d ts u h e =
-    let x : (t : Tree) × ((if knows r.since v then row_attribute r as' v around p else Ok absent) ≡ Ok t) × ((attributes_read rs as' v around p >>= (λ us. Ok (more t us))) ≡ Ok ts) = bind_ok (if knows r.since v then row_attribute r as' v around p else Ok absent) (λ t. attributes_read rs as' v around p >>= (λ us. Ok (more t us))) ts e in
+    let x : (t : Tree) × (row_attribute r as' v around p ≡ Ok t) × ((attributes_read rs as' v around p >>= (λ us. Ok (more t us))) ≡ Ok ts) = bind_ok (row_attribute r as' v around p) (λ t. attributes_read rs as' v around p >>= (λ us. Ok (more t us))) ts e in
     let y : (us : Trees) × (attributes_read rs as' v around p ≡ Ok us) × (Ok (more x.0 us) ≡ Ok ts) = bind_ok (attributes_read rs as' v around p) (λ us. Ok (more x.0 us)) ts x.2 in
-    let a : Attributed r.kind d (flag_by (knows r.since v) r.xml r.need v) x.0 = known_attributed (knows r.since v) r as' v around p d x.0 u (row_parts r rs h).1 x.1 in
-    let b : Holds y.0 (kinds rs) (flags rs v) d = attributes_hold rs as' v around p d y.0 u (row_parts r rs h).2 y.1 in
-    subst (λ (z : Trees). Holds z (kinds (r ∷ rs)) (flags (r ∷ rs) v) d) (ok_same y.2) ((a.0, b.0), (a.1, b.1))
+    let a : Attributed r.kind d (flag_by (knows r.since v) r.xml r.need v) x.0 = row_attributed r as' v around p d x.0 u (row_parts r rs h).1 x.1 in
+    let b : Holds y.0 (row_kinds rs) (flags rs v) d = attributes_hold rs as' v around p d y.0 u (row_parts r rs h).2 y.1 in
+    subst (λ (z : Trees). Holds z (row_kinds (r ∷ rs)) (flags (r ∷ rs) v) d) (ok_same y.2) ((a.0, b.0), (a.1, b.1))
 
 -- ---- the end of a record
 
@@ -486,7 +498,7 @@ lacks_was None r t v true around p rest us h e f = absurd (true≢false (sym h))
 lacks_was (Some q) r t v true around p rest us h e f = absurd (err_ok e)
 lacks_was o r t v false around p rest us h e f = f refl e
 
-three : (a b c : Bool) → (a && b && c) ≡ false → a ≡ true → c ≡ true → b ≡ false
+three : (a b c : Bool) → (b && (a && c)) ≡ false → a ≡ true → c ≡ true → b ≡ false
 three true true true h p q = absurd (true≢false h)
 three true true false h p q = absurd (true≢false (sym q))
 three true false c h p q = refl
@@ -499,7 +511,7 @@ not_owed required v e h = absurd (true≢false h)
 not_owed required_first v e h = refl
 not_owed else_empty v e h = absurd (true≢false (sym e))
 
-child_lacks : (b : Bool) (r : Row) (v : SpecVersion) → knows r.since v ≡ b → sound_since r.since r.need r.kind ≡ true → is_not_else r.need ≡ true → (knows r.since v && is_required r.need v && is_absent absent) ≡ false → may_lack r.need ≡ true
+child_lacks : (b : Bool) (r : Row) (v : SpecVersion) → knows r.since v ≡ b → sound_since r.since r.need r.kind ≡ true → is_not_else r.need ≡ true → (is_required r.need v && (knows r.since v && is_absent absent)) ≡ false → may_lack r.need ≡ true
 child_lacks true r v k s e h = not_owed r.need v e (three (knows r.since v) (is_required r.need v) true h k refl)
 child_lacks false r v k s e h = since_lacks r.since r.need r.kind v s k
 
@@ -564,7 +576,7 @@ row_ended : (r : Row) (v : SpecVersion) (d : Depth) (t : Tree) → sound_since r
 row_ended r v d t s h (inr is, sh) l f = subst (λ (x : Tree). Ended r d x) (sym (filled_there r t (of_there t r.kind is))) (inr is, sh)
 row_ended r v d t s h (inl is, sh) l f = subst (λ (x : Tree). Ended r d (filled r x)) (sym is) (absent_ended r v d s h (sym (ap (λ x. lacks (owed r.xml) r x v) is) ∙ l) (λ e. sym (ap is_absent is) ∙ f e))
 
-pub ended_good : (rs : List Row) (ts : Trees) (v : SpecVersion) (around : List ℕ) (p : ℕ) (d : Depth) (us : Trees) → all_xml rs ≡ true → Holds ts (kinds rs) (last_flags rs v) d → ended rs ts v around p ≡ Ok us → AreRead rs d us
+pub ended_good : (rs : List Row) (ts : Trees) (v : SpecVersion) (around : List ℕ) (p : ℕ) (d : Depth) (us : Trees) → all_xml rs ≡ true → Holds ts (row_kinds rs) (last_flags rs v) d → ended rs ts v around p ≡ Ok us → AreRead rs d us
 unfolding ended is_shallow
 ended_good [] ts v around p d us h holds e = subst (λ (x : Trees). AreRead [] d x) (ok_same e) (tt, refl)
 ended_good (r ∷ rs) none v around p d us h holds e = absurd (true≢false holds.0)
@@ -599,10 +611,6 @@ row_children_good i r ks h e = by r.xml h
     by (either_child q m) g = (same_kind e, (same_kind e, tt))
     by _ g = tt
 
-known_children : (b : Bool) (i : ℕ) (r : Row) (ks : List Kind) → reads_xml r.xml r.need r.kind ≡ true → kind_at i ks ≡ r.kind → GoodChildren (if b then row_children i r else []) ks
-known_children true i r ks h e = row_children_good i r ks h e
-known_children false i r ks h e = tt
-
 plus_none : (i : ℕ) → i + 0 ≡ i
 plus_none i = omega arith
 
@@ -612,14 +620,14 @@ none_plus j = omega arith
 plus_one : (i j : ℕ) → suc i + j ≡ i + suc j
 plus_one i j = omega arith
 
-children_good : (i : ℕ) (rs : List Row) (v : SpecVersion) (ks : List Kind) → all_xml rs ≡ true → ((j : ℕ) → kind_at (i + j) ks ≡ kind_at j (kinds rs)) → GoodChildren (children_from i rs v) ks
-children_good i [] v ks h f = tt
-children_good i (r ∷ rs) v ks h f = good_append (if knows r.since v then row_children i r else []) (children_from (suc i) rs v) ks
-    (known_children (knows r.since v) i r ks (row_parts r rs h).1 (ap (λ j. kind_at j ks) (sym (plus_none i)) ∙ f 0))
-    (children_good (suc i) rs v ks (row_parts r rs h).2 (λ j. ap (λ m. kind_at m ks) (plus_one i j) ∙ f (suc j)))
+children_good : (i : ℕ) (rs : List Row) (ks : List Kind) → all_xml rs ≡ true → ((j : ℕ) → kind_at (i + j) ks ≡ kind_at j (row_kinds rs)) → GoodChildren (children_from i rs) ks
+children_good i [] ks h f = tt
+children_good i (r ∷ rs) ks h f = good_append (row_children i r) (children_from (suc i) rs) ks
+    (row_children_good i r ks (row_parts r rs h).1 (ap (λ j. kind_at j ks) (sym (plus_none i)) ∙ f 0))
+    (children_good (suc i) rs ks (row_parts r rs h).2 (λ j. ap (λ m. kind_at m ks) (plus_one i j) ∙ f (suc j)))
 
-plan_good : (n : Name) (v : SpecVersion) → GoodChildren (children_from 0 (rows n) v) (kinds (rows n))
-plan_good n v = children_good 0 (rows n) v (kinds (rows n)) (reads_rows n) (λ j. ap (λ m. kind_at m (kinds (rows n))) (none_plus j))
+plan_good : (n : Name) → GoodChildren (children_from 0 (rows n)) (row_kinds (rows n))
+plan_good n = children_good 0 (rows n) (row_kinds (rows n)) (reads_rows n) (λ j. ap (λ m. kind_at m (row_kinds (rows n))) (none_plus j))
 
 -- ---- elements
 
@@ -639,7 +647,7 @@ is_text_at no_content ks = true
 is_text_at (any_text i) ks = is_text_kind (kind_at i ks)
 is_text_at (one_text_alone i) ks = is_text_kind (kind_at i ks)
 
-texts_at : (n : Name) → is_text_at (content_from 0 (rows n)) (kinds (rows n)) ≡ true
+texts_at : (n : Name) → is_text_at (content_from 0 (rows n)) (row_kinds (rows n)) ≡ true
 unfolding rows
 texts_at hash = refl
 texts_at property = refl
@@ -720,24 +728,24 @@ text_set : (i : ℕ) (s : List ℕ) (ts us : Trees) (ks : List Kind) (bs : List 
 text_set i s ts us ks bs d h u holds e = subst (λ (x : Trees). Holds x ks (flag_at i bs) d) e
     (with_slot i (text s) ts ks d holds.0 (slot_of (kind_at i ks) d (text s) (text_kind_read (kind_at i ks) s d h u)), now_present i (text s) ts bs refl holds.1)
 
-content_good : (c : Content) (e : Element) (n : Name) (ts us : Trees) (v : SpecVersion) (bs : List Bool) (d : Depth) → GoodElement e → is_text_at c (kinds (rows n)) ≡ true → Holds ts (kinds (rows n)) bs d
-    → content_read c e n ts v d ≡ Ok us → Holds us (kinds (rows n)) (at_end c bs) d
-content_good no_content e n ts us v bs d g h holds o = g.0 (record_plan n) (kinds (rows n)) bs v d ts us (plan_good n v) holds o
+content_good : (c : Content) (e : Element) (n : Name) (ts us : Trees) (v : SpecVersion) (bs : List Bool) (d : Depth) → GoodElement e → is_text_at c (row_kinds (rows n)) ≡ true → Holds ts (row_kinds (rows n)) bs d
+    → content_read c e n ts v d ≡ Ok us → Holds us (row_kinds (rows n)) (at_end c bs) d
+content_good no_content e n ts us v bs d g h holds o = g.0 (record_plan n) (row_kinds (rows n)) bs v d ts us (plan_good n) holds o
 content_good (any_text i) e n ts us v bs d g h holds o =
     let x : (s : List ℕ) × (text_read e ≡ Ok s) × (Ok (with_field i (text s) ts) ≡ Ok us) = bind_ok (text_read e) (λ s. Ok (with_field i (text s) ts)) us o in
-    text_set i x.0 ts us (kinds (rows n)) bs d h (simple_good e.nodes e.name (suc e.start) x.0 g.2 x.1) holds (ok_same x.2)
+    text_set i x.0 ts us (row_kinds (rows n)) bs d h (simple_good e.nodes e.name (suc e.start) x.0 g.2 x.1) holds (ok_same x.2)
 content_good (one_text_alone i) e n ts us v bs d g h holds o =
     let x : (s : List ℕ) × (exact_text e.nodes e.name (suc e.start) ≡ Ok s) × (Ok (with_field i (text s) ts) ≡ Ok us) = bind_ok (exact_text e.nodes e.name (suc e.start)) (λ s. Ok (with_field i (text s) ts)) us o in
-    text_set i x.0 ts us (kinds (rows n)) bs d h (exact_good e.nodes e.name (suc e.start) x.0 g.2 x.1) holds (ok_same x.2)
+    text_set i x.0 ts us (row_kinds (rows n)) bs d h (exact_good e.nodes e.name (suc e.start) x.0 g.2 x.1) holds (ok_same x.2)
 
 record_good : (e : Element) (n : Name) (v : SpecVersion) (d : Depth) (t : Tree) → GoodElement e → record_read e n v d ≡ Ok t → IsRecordRead n (inside n d) t
 record_good e n v d t g o =
     let x : (us : Trees) × (record_so_far e n v (inside n d) ≡ Ok us) × ((ended (rows n) us v e.name (end_of e) >>= (λ zs. Ok (fields n zs))) ≡ Ok t) = bind_ok (record_so_far e n v (inside n d)) (λ us. ended (rows n) us v e.name (end_of e) >>= (λ zs. Ok (fields n zs))) t o in
     let y : (zs : Trees) × (ended (rows n) x.0 v e.name (end_of e) ≡ Ok zs) × (Ok (fields n zs) ≡ Ok t) = bind_ok (ended (rows n) x.0 v e.name (end_of e)) (λ zs. Ok (fields n zs)) t x.2 in
     let z : (ts : Trees) × (attributes_read (rows n) (in_force n e.attributes) v e.name e.start ≡ Ok ts) × (content_read (content_from 0 (rows n)) e n ts v (inside n d) ≡ Ok x.0) = bind_ok (attributes_read (rows n) (in_force n e.attributes) v e.name e.start) (λ ts. content_read (content_from 0 (rows n)) e n ts v (inside n d)) x.0 x.1 in
-    let a : Holds z.0 (kinds (rows n)) (flags (rows n) v) (inside n d) = attributes_hold (rows n) (in_force n e.attributes) v e.name e.start (inside n d) z.0 (force_texts n e.attributes g.1) (reads_rows n) z.1 in
-    let b : Holds x.0 (kinds (rows n)) (at_end (content_from 0 (rows n)) (flags (rows n) v)) (inside n d) = content_good (content_from 0 (rows n)) e n z.0 x.0 v (flags (rows n) v) (inside n d) g (texts_at n) a z.2 in
-    (y.0, sym (ok_same y.2), ended_good (rows n) x.0 v e.name (end_of e) (inside n d) y.0 (reads_rows n) (subst (λ (bs : List Bool). Holds x.0 (kinds (rows n)) bs (inside n d)) (flags_end n v) b) y.1)
+    let a : Holds z.0 (row_kinds (rows n)) (flags (rows n) v) (inside n d) = attributes_hold (rows n) (in_force n e.attributes) v e.name e.start (inside n d) z.0 (force_texts n e.attributes g.1) (reads_rows n) z.1 in
+    let b : Holds x.0 (row_kinds (rows n)) (at_end (content_from 0 (rows n)) (flags (rows n) v)) (inside n d) = content_good (content_from 0 (rows n)) e n z.0 x.0 v (flags (rows n) v) (inside n d) g (texts_at n) a z.2 in
+    (y.0, sym (ok_same y.2), ended_good (rows n) x.0 v e.name (end_of e) (inside n d) y.0 (reads_rows n) (subst (λ (bs : List Bool). Holds x.0 (row_kinds (rows n)) bs (inside n d)) (flags_end n v) b) y.1)
 
 -- ---- forms of their own
 
@@ -830,11 +838,9 @@ identifier_good e v d t g o = by (either_was (bytes_eq e.name (codes "id")) (byt
 abbrev tools_kinds : List Kind
 tools_kinds = a_list tool_list ∷ a_list services ∷ a_list components ∷ []
 
-tools_children : (v : SpecVersion) → GoodChildren (tools_plan).children tools_kinds
+tools_children : GoodChildren tools_plan.children tools_kinds
 unfolding list
-tools_children V1_3 = ((tt, λ t h. h), tt)
-tools_children V1_4 = ((tt, λ t h. h), tt)
-tools_children V1_5 = ((tt, λ t h. h), ((λ t h. h), ((λ t h. h), tt)))
+tools_children = ((tt, λ t h. h), ((λ t h. h), ((λ t h. h), tt)))
 
 tool_list_tools : (t : Tree) → IsOf t (a_list tool_list) → IsOf t a_tools
 unfolding list
@@ -889,8 +895,8 @@ no_flags = []
 
 tools_good : (e : Element) (v : SpecVersion) (d : Depth) (t : Tree) → GoodElement e → tools_read e v d ≡ Ok t → IsReadOf a_tools d t
 tools_good e v d t g o =
-    let x : (ts : Trees) × (e.read (tools_plan) v d (more absent (two absent absent)) ≡ Ok ts) × (tools_of e v ts ≡ Ok t) = bind_ok (e.read (tools_plan) v d (more absent (two absent absent))) (λ ts. tools_of e v ts) t o in
-    let h : Holds x.0 tools_kinds [] d = g.0 (tools_plan) tools_kinds [] v d (more absent (two absent absent)) x.0 (tools_children v) ((absent_slot (a_list tool_list) d, (absent_slot (a_list services) d, (absent_slot (a_list components) d, tt))), tt) x.1 in
+    let x : (ts : Trees) × (e.read tools_plan v d (more absent (two absent absent)) ≡ Ok ts) × (tools_of e v ts ≡ Ok t) = bind_ok (e.read tools_plan v d (more absent (two absent absent))) (λ ts. tools_of e v ts) t o in
+    let h : Holds x.0 tools_kinds [] d = g.0 tools_plan tools_kinds [] v d (more absent (two absent absent)) x.0 tools_children ((absent_slot (a_list tool_list) d, (absent_slot (a_list services) d, (absent_slot (a_list components) d, tt))), tt) x.1 in
     tools_of_good e v x.0 d t h.0 x.2
 
 -- ---- data
@@ -898,11 +904,9 @@ tools_good e v d t g o =
 abbrev data_kinds : List Kind
 data_kinds = a_list classifications ∷ a_data ∷ []
 
-data_children : (v : SpecVersion) → GoodChildren (data_plan).children data_kinds
+data_children : GoodChildren data_plan.children data_kinds
 unfolding list
-data_children V1_3 = ((tt, λ t h. h), tt)
-data_children V1_4 = ((tt, λ t h. h), tt)
-data_children V1_5 = ((tt, λ t h. h), ((tt, λ t h. h), tt))
+data_children = ((tt, λ t h. h), ((tt, λ t h. h), tt))
 
 entries_of : (ts : Trees) → AreOf ts (a_record classification) → AreOf ts an_entry
 entries_of none h = tt
@@ -937,8 +941,8 @@ data_of_good ts d h = by (field 1 ts) (slot_at 1 ts data_kinds d h)
 
 data_good : (e : Element) (v : SpecVersion) (d : Depth) (t : Tree) → GoodElement e → data_read e v d ≡ Ok t → IsReadOf a_data d t
 data_good e v d t g o =
-    let x : (ts : Trees) × (e.read (data_plan) v d (two absent absent) ≡ Ok ts) × (Ok (data_of ts) ≡ Ok t) = bind_ok (e.read (data_plan) v d (two absent absent)) (λ ts. Ok (data_of ts)) t o in
-    let h : Holds x.0 data_kinds [] d = g.0 (data_plan) data_kinds [] v d (two absent absent) x.0 (data_children v) ((absent_slot (a_list classifications) d, (absent_slot a_data d, tt)), tt) x.1 in
+    let x : (ts : Trees) × (e.read data_plan v d (two absent absent) ≡ Ok ts) × (Ok (data_of ts) ≡ Ok t) = bind_ok (e.read data_plan v d (two absent absent)) (λ ts. Ok (data_of ts)) t o in
+    let h : Holds x.0 data_kinds [] d = g.0 data_plan data_kinds [] v d (two absent absent) x.0 data_children ((absent_slot (a_list classifications) d, (absent_slot a_data d, tt)), tt) x.1 in
     subst (λ (y : Tree). IsReadOf a_data d y) (ok_same x.2) (data_of_good x.0 d h.0)
 
 -- ---- signatures
@@ -996,7 +1000,7 @@ signature_good e v d t g o =
     let h : Holds x.0 signature_kinds [] d = g.0 signature_plan signature_kinds [] v d (more absent (two absent absent)) x.0 (signers_signature, (chain_signature, ((λ t h. h), ((λ t h. h), tt)))) ((absent_slot a_signature d, (absent_slot a_text d, (absent_slot a_text d, tt))), tt) x.1 in
     signature_of_good e v x.0 d t h.0 x.2
 
--- ---- all kinds
+-- ---- all row_kinds
 
 bill_good : (e : Element) (v : SpecVersion) (d : Depth) (t : Tree) → GoodElement e → bill_read e v d ≡ Ok t → IsReadOf a_bill d t
 bill_good e v d t g o = by (bytes_eq e.name (codes "bom")) (in_namespace e.namespace (namespace v)) o
@@ -1061,7 +1065,7 @@ mutual
   xread_of (characters s) u v k p d t o = absurd (err_ok o)
   xread_of (cdata s) u v k p d t o = absurd (err_ok o)
   xread_of (element n as' default xs) u v k p d t o =
-      kind_good (record { name = n.local_name; attributes = as'; namespace = default; nodes = xs; start = p; read = λ plan w e ts. nodes_read xs plan n.local_name w e (suc p) ts }) v k d t
+      kind_good (record { name = n.local_name; attributes = as'; namespace = default.default; nodes = xs; start = p; read = λ plan w e ts. nodes_read xs plan n.local_name w e (suc p) ts }) v k d t
       ((λ plan ks bs w e ts us g h q. nodes_hold xs u.1 plan n.local_name w e (suc p) ts us ks bs g h q), u.0, u.1) o
 
   nodes_hold : (xs : Nodes) → NodesTexts xs → (plan : Plan) (around : List ℕ) (v : SpecVersion) (d : Depth) (p : ℕ) (ts us : Trees) (ks : List Kind) (bs : List Bool) → GoodChildren plan.children ks → Holds ts ks bs d
