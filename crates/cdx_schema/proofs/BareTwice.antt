@@ -6,7 +6,7 @@ use Rattle.cdx_models.specs.Trees.{Name, contact, entity, diff, source, evidence
 use Rattle.cdx_schema.specs.Kinds.{Kind, a_record, Need, optional, Spelled, attribute, attribute_or, content, one_text, as_cdata, child, filled_child, read_child, children, either_child, the_version, Row}
 use Rattle.cdx_schema.specs.Table.{rows}
 use Rattle.cdx_schema.specs.Held.{held_kind}
-use Rattle.cdx_schema.specs.Membership.{IsOf, AreOf, AreFields}
+use Rattle.cdx_schema.specs.Membership.{AnyText, HasShape, HaveShape, FieldsHaveShape}
 use Rattle.cdx_schema.specs.Trips.{bare, items_bare, rows_bare, is_hollow, is_passed_over, field_after, none_is_absent, no_child}
 use Rattle.cdx_schema.proofs.JsonBack.{and_true}
 use Rattle.cdx_schema.proofs.Sound.{sound_xml, all_sound, sound, sound_parts, whole_kind, whole_name}
@@ -69,7 +69,7 @@ steady_rows evidence h e = refl
 steady_rows entity h e = absurd (true≢false e)
 steady_rows _ h e = absurd (true≢false (sym h))
 
-hollow_bare : (t : Tree) (k : Kind) → whole_kind k ≡ true → is_entity_kind k ≡ false → IsOf t k → is_hollow (bare t) ≡ is_hollow t
+hollow_bare : (t : Tree) (k : Kind) → whole_kind k ≡ true → is_entity_kind k ≡ false → HasShape t k → is_hollow (bare t) ≡ is_hollow t
 unfolding bare is_hollow
 hollow_bare absent k w e h = refl
 hollow_bare (text s) k w e h = refl
@@ -141,7 +141,7 @@ items_step : (b : Bool) (t : Tree) (ts : Trees) → is_passed_over (bare t) ≡ 
 items_step true t ts i e f = f
 items_step false t ts i e f = item_twice false (bare t) ts i e f refl
 
-absent_bare : (t : Tree) (r : Row) → IsField t r → (IsOf t r.kind → bare (bare t) ≡ unsupplied (bare t)) → bare (bare t) ≡ unsupplied (bare t)
+absent_bare : (t : Tree) (r : Row) → IsField t r → (HasShape t r.kind → bare (bare t) ≡ unsupplied (bare t)) → bare (bare t) ≡ unsupplied (bare t)
 unfolding bare unsupplied
 absent_bare t r (inl h) f = ap (λ x. bare (bare x)) h.0 ∙ sym (ap (λ x. unsupplied (bare x)) h.0)
 absent_bare t r (inr h) f = f h
@@ -150,7 +150,7 @@ mutual
   unfolding bare unsupplied
 
   -- What the second trip takes.
-  pub bare_twice : (t : Tree) (k : Kind) → IsOf t k → bare (bare t) ≡ unsupplied (bare t)
+  pub bare_twice : (t : Tree) (k : Kind) → HasShape t k → bare (bare t) ≡ unsupplied (bare t)
   bare_twice absent k h = refl
   bare_twice (text s) k h = refl
   bare_twice (number n) k h = refl
@@ -158,11 +158,11 @@ mutual
   bare_twice (items ts) k h = ap items (items_bare_twice ts (held_kind k) h.1)
   bare_twice (fields n ts) k h = ap (fields n) (rows_bare_twice ts (rows n) (sound n) h.1)
 
-  items_bare_twice : (ts : Trees) (k : Kind) → AreOf ts k → items_bare (items_bare ts) ≡ items_unsupplied (items_bare ts)
+  items_bare_twice : (ts : Trees) (k : Kind) → HaveShape ts k → items_bare (items_bare ts) ≡ items_unsupplied (items_bare ts)
   items_bare_twice none k h = refl
   items_bare_twice (more t ts) k h = items_step (is_passed_over t) t (items_bare ts) (passed_bare t) (bare_twice t k h.0) (items_bare_twice ts k h.1)
 
-  rows_bare_twice : (ts : Trees) (rs : List Row) → all_sound rs ≡ true → AreFields ts rs → rows_bare (rows_bare ts rs) rs ≡ rows_unsupplied (rows_bare ts rs) rs
+  rows_bare_twice : (ts : Trees) (rs : List Row) → all_sound rs ≡ true → FieldsHaveShape ts rs → rows_bare (rows_bare ts rs) rs ≡ rows_unsupplied (rows_bare ts rs) rs
   rows_bare_twice none rs s h = refl
   rows_bare_twice (more t ts) [] s h = refl
   rows_bare_twice (more t ts) (r ∷ rs) s h = more_is (field_twice r t (sound_parts r rs s).1 h.0 (absent_bare t r h.0 (bare_twice t r.kind))) (rows_bare_twice ts rs (sound_parts r rs s).2 h.1)
@@ -199,7 +199,7 @@ unfolding rows
 entity_rows entity h = refl
 entity_rows _ h = absurd (true≢false (sym h))
 
-hollow_unsupplied : (t : Tree) (k : Kind) → is_entity_kind k ≡ true → IsOf t k → is_hollow (unsupplied t) ≡ is_hollow t
+hollow_unsupplied : (t : Tree) (k : Kind) → is_entity_kind k ≡ true → HasShape t k → is_hollow (unsupplied t) ≡ is_hollow t
 unfolding unsupplied is_hollow
 hollow_unsupplied absent k e h = refl
 hollow_unsupplied (text s) k e h = refl
@@ -226,7 +226,7 @@ again false t b i h e = e
 again true t true i h e = unfold is_hollow unsupplied in refl
 again true t false i h e = ap (λ c. if c then absent else unsupplied (unsupplied t)) (h refl ∙ i) ∙ e
 
-absent_again : (t : Tree) (r : Row) → IsField t r → (IsOf t r.kind → unsupplied (unsupplied t) ≡ unsupplied t) → unsupplied (unsupplied t) ≡ unsupplied t
+absent_again : (t : Tree) (r : Row) → IsField t r → (HasShape t r.kind → unsupplied (unsupplied t) ≡ unsupplied t) → unsupplied (unsupplied t) ≡ unsupplied t
 unfolding unsupplied
 absent_again t r (inl h) f = ap (λ x. unsupplied (unsupplied x)) h.0 ∙ sym (ap unsupplied h.0)
 absent_again t r (inr h) f = f h
@@ -234,7 +234,7 @@ absent_again t r (inr h) f = f h
 mutual
   unfolding unsupplied
 
-  unsupplied_twice : (t : Tree) (k : Kind) → IsOf t k → unsupplied (unsupplied t) ≡ unsupplied t
+  unsupplied_twice : (t : Tree) (k : Kind) → HasShape t k → unsupplied (unsupplied t) ≡ unsupplied t
   unsupplied_twice absent k h = refl
   unsupplied_twice (text s) k h = refl
   unsupplied_twice (number n) k h = refl
@@ -242,16 +242,16 @@ mutual
   unsupplied_twice (items ts) k h = ap items (items_unsupplied_twice ts (held_kind k) h.1)
   unsupplied_twice (fields n ts) k h = ap (fields n) (rows_unsupplied_twice ts (rows n) h.1)
 
-  items_unsupplied_twice : (ts : Trees) (k : Kind) → AreOf ts k → items_unsupplied (items_unsupplied ts) ≡ items_unsupplied ts
+  items_unsupplied_twice : (ts : Trees) (k : Kind) → HaveShape ts k → items_unsupplied (items_unsupplied ts) ≡ items_unsupplied ts
   items_unsupplied_twice none k h = refl
   items_unsupplied_twice (more t ts) k h = more_is (unsupplied_twice t k h.0) (items_unsupplied_twice ts k h.1)
 
-  rows_unsupplied_twice : (ts : Trees) (rs : List Row) → AreFields ts rs → rows_unsupplied (rows_unsupplied ts rs) rs ≡ rows_unsupplied ts rs
+  rows_unsupplied_twice : (ts : Trees) (rs : List Row) → FieldsHaveShape ts rs → rows_unsupplied (rows_unsupplied ts rs) rs ≡ rows_unsupplied ts rs
   rows_unsupplied_twice none rs h = refl
   rows_unsupplied_twice (more t ts) [] h = refl
   rows_unsupplied_twice (more t ts) (r ∷ rs) h = more_is (again (is_supplier r.xml r.kind) t (is_hollow t) refl (λ e. hollow_field t r e h.0) (absent_again t r h.0 (unsupplied_twice t r.kind))) (rows_unsupplied_twice ts rs h.1)
 
 -- A third trip takes nothing.
-pub bare_thrice : (t : Tree) (k : Kind) → IsOf t k → bare (bare (bare t)) ≡ bare (bare t)
-bare_thrice t k h = bare_twice (bare t) k (bare_of t k h)
-    ∙ (ap unsupplied (bare_twice t k h) ∙ (unsupplied_twice (bare t) k (bare_of t k h) ∙ sym (bare_twice t k h)))
+pub bare_thrice : (t : Tree) (k : Kind) → HasShape t k → bare (bare (bare t)) ≡ bare (bare t)
+bare_thrice t k h = bare_twice (bare t) k (bare_of AnyText t k h)
+    ∙ (ap unsupplied (bare_twice t k h) ∙ (unsupplied_twice (bare t) k (bare_of AnyText t k h) ∙ sym (bare_twice t k h)))

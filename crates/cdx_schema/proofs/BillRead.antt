@@ -12,7 +12,7 @@ use Rattle.cdx_schema.specs.JsonSpelling.{jspell}
 use Rattle.cdx_schema.specs.XmlReading.{xml_denotes}
 use Rattle.cdx_schema.specs.XmlSpelling.{root}
 use Rattle.cdx_schema.specs.Keeping.{kept, rows_kept, keep, fits, is_shallow}
-use Rattle.cdx_schema.specs.Membership.{IsOf, AreFields}
+use Rattle.cdx_schema.specs.Membership.{HasShape, FieldsHaveShape}
 use Rattle.cdx_schema.proofs.NoFloats.{no_float}
 use Rattle.cdx_schema.proofs.KeptTwice.{stays}
 use Rattle.cdx_schema.proofs.JsonBack.{Held}
@@ -20,11 +20,11 @@ use Rattle.cdx_schema.proofs.HeldKept.{json_law, held_kept, fits_first, below}
 use Rattle.cdx_schema.proofs.XmlLaw.{tripped}
 use Rattle.cdx_schema.proofs.BillLaw.{bill_xback, bill_rest, IsSerial}
 
-pub reads_json : (b : Tree) (w : SpecVersion) → IsOf b a_bill → fits w b a_bill ≡ true → is_shallow b top ≡ true
+pub reads_json : (b : Tree) (w : SpecVersion) → HasShape b a_bill → fits w b a_bill ≡ true → is_shallow b top ≡ true
     → json_denotes (jspell (keep w b a_bill) w a_bill) w ≡ Ok (keep w b a_bill)
 reads_json b w h f s = rw (no_float (keep w b a_bill) w a_bill) (json_law w top b a_bill h f s)
 
-version_is : (t : Tree) → ((t ≡ absent) × (false ≡ true)) ⊎ IsOf t a_version → (x : List ℕ) × (t ≡ text x)
+version_is : (t : Tree) → ((t ≡ absent) × (false ≡ true)) ⊎ HasShape t a_version → (x : List ℕ) × (t ≡ text x)
 version_is t (inl h) = absurd (true≢false (sym h.1))
 version_is absent (inr h) = absurd (true≢false h)
 version_is (text x) (inr h) = (x, refl)
@@ -33,7 +33,7 @@ version_is (boolean x) (inr h) = absurd (true≢false h)
 version_is (items x) (inr h) = absurd (true≢false h.0)
 version_is (fields n x) (inr h) = absurd (true≢false h.0)
 
-number_is : (t : Tree) → ((t ≡ absent) × (false ≡ true)) ⊎ IsOf t a_number → (m : ℕ) × (t ≡ number m) × (nat_lt m (2 ^ 32) ≡ true)
+number_is : (t : Tree) → ((t ≡ absent) × (false ≡ true)) ⊎ HasShape t a_number → (m : ℕ) × (t ≡ number m) × (nat_lt m (2 ^ 32) ≡ true)
 number_is t (inl h) = absurd (true≢false (sym h.1))
 number_is absent (inr h) = absurd (true≢false h)
 number_is (text x) (inr h) = absurd (true≢false h)
@@ -42,7 +42,7 @@ number_is (boolean x) (inr h) = absurd (true≢false h)
 number_is (items x) (inr h) = absurd (true≢false h.0)
 number_is (fields n x) (inr h) = absurd (true≢false h.0)
 
-serial_is : (w : SpecVersion) (t : Tree) → ((t ≡ absent) × (true ≡ true)) ⊎ IsOf t a_text → IsSerial (kept w w t a_text)
+serial_is : (w : SpecVersion) (t : Tree) → ((t ≡ absent) × (true ≡ true)) ⊎ HasShape t a_text → IsSerial (kept w w t a_text)
 unfolding kept
 serial_is w t (inl h) = inl (ap (λ x. kept w w x a_text) h.0)
 serial_is w absent (inr h) = absurd (true≢false h)
@@ -62,7 +62,7 @@ of_three w x m s us lt serial held =
     subst (Reads w) (sym (stays w a_bill bill (rows_kept w w (more (text x) (more (number m) (more s us))) (rows bill)) refl))
     (bill_xback w top m (rows_kept w w us bill_rest) (kept w w s a_text) lt serial (subst (λ t. Held w top t a_bill) (stays w a_bill bill (rows_kept w w (more (text x) (more (number m) (more s us))) (rows bill)) refl) held).2.1.1.1)
 
-of_fields : (w : SpecVersion) (ts : Trees) → AreFields ts (rows bill) → Held w top (kept w w (fields bill ts) a_bill) a_bill → Reads w (kept w w (fields bill ts) a_bill)
+of_fields : (w : SpecVersion) (ts : Trees) → FieldsHaveShape ts (rows bill) → Held w top (kept w w (fields bill ts) a_bill) a_bill → Reads w (kept w w (fields bill ts) a_bill)
 unfolding rows
 of_fields w none h held = absurd (true≢false h)
 of_fields w (more a none) h held = absurd (true≢false h.1)
@@ -73,10 +73,10 @@ of_fields w (more a (more c (more s us))) h held =
     let P : Tree → Tree → Type 0 = (λ x y. Held w top (kept w w (fields bill (more x (more y (more s us)))) a_bill) a_bill → Reads w (kept w w (fields bill (more x (more y (more s us)))) a_bill)) in
     subst (λ x. P x c) (sym p.1) (subst (P (text p.0)) (sym q.1) (of_three w p.0 q.0 s us q.2 (serial_is w s h.1.1.0))) held
 
-of_record : (w : SpecVersion) (n : Name) (ts : Trees) → n ≡ bill → AreFields ts (rows n) → Held w top (kept w w (fields n ts) a_bill) a_bill → Reads w (kept w w (fields n ts) a_bill)
-of_record w n ts is = subst (λ (m : Name). AreFields ts (rows m) → Held w top (kept w w (fields m ts) a_bill) a_bill → Reads w (kept w w (fields m ts) a_bill)) (sym is) (of_fields w ts)
+of_record : (w : SpecVersion) (n : Name) (ts : Trees) → n ≡ bill → FieldsHaveShape ts (rows n) → Held w top (kept w w (fields n ts) a_bill) a_bill → Reads w (kept w w (fields n ts) a_bill)
+of_record w n ts is = subst (λ (m : Name). FieldsHaveShape ts (rows m) → Held w top (kept w w (fields m ts) a_bill) a_bill → Reads w (kept w w (fields m ts) a_bill)) (sym is) (of_fields w ts)
 
-of_bill : (b : Tree) (w : SpecVersion) → IsOf b a_bill → Held w top (kept w w b a_bill) a_bill → Reads w (kept w w b a_bill)
+of_bill : (b : Tree) (w : SpecVersion) → HasShape b a_bill → Held w top (kept w w b a_bill) a_bill → Reads w (kept w w b a_bill)
 of_bill absent w h held = absurd (true≢false h)
 of_bill (text x) w h held = absurd (true≢false h)
 of_bill (number x) w h held = absurd (true≢false h)
@@ -85,6 +85,6 @@ of_bill (items x) w h held = absurd (true≢false h.0)
 of_bill (fields n ts) w h held = of_record w n ts h.0 h.1 held
 
 -- The XML spelling is read back as exactly what the trip makes of it.
-pub reads_xml : (b : Tree) (w : SpecVersion) → IsOf b a_bill → fits w b a_bill ≡ true → is_shallow b top ≡ true
+pub reads_xml : (b : Tree) (w : SpecVersion) → HasShape b a_bill → fits w b a_bill ≡ true → is_shallow b top ≡ true
     → xml_denotes (root (keep w b a_bill) w) w ≡ Ok (tripped w (keep w b a_bill) a_bill)
 reads_xml b w h f s = of_bill b w h (held_kept w w top b a_bill h (fits_first w b a_bill f) s)

@@ -10,7 +10,7 @@ use Rattle.cdx_schema.specs.Kinds.{Kind, a_version, a_list, a_record, a_license_
 use Rattle.cdx_schema.specs.Table.{rows}
 use Rattle.cdx_schema.specs.Held.{held_kind}
 use Rattle.cdx_schema.specs.Keeping.{kept, items_kept, rows_kept, kept_text, kept_record, before_1_5}
-use Rattle.cdx_schema.specs.Membership.{IsOf, AreOf, AreFields, IsRecordOf}
+use Rattle.cdx_schema.specs.Membership.{AnyText, HasShape, HaveShape, FieldsHaveShape, IsRecordOf}
 use Rattle.cdx_schema.specs.Trips.{bare, items_bare, rows_bare, is_hollow, is_passed_over, field_after, none_is_absent, no_child, is_child}
 use Rattle.cdx_schema.proofs.JsonBack.{and_true}
 use Rattle.cdx_schema.proofs.KeptTwice.{stays}
@@ -47,7 +47,7 @@ known_absent : (b : Bool) (x : Tree) (c : Bool) → b ≡ true → is_absent x �
 known_absent true x c h e = e
 known_absent false x c h e = absurd (true≢false (sym h))
 
-no_child_kept : (w l : SpecVersion) (ts : Trees) (rs : List Row) → all_first rs ≡ true → AreFields ts rs → no_child (rows_kept w l ts rs) rs ≡ no_child ts rs
+no_child_kept : (w l : SpecVersion) (ts : Trees) (rs : List Row) → all_first rs ≡ true → FieldsHaveShape ts rs → no_child (rows_kept w l ts rs) rs ≡ no_child ts rs
 unfolding kept
 no_child_kept w l none rs f h = refl
 no_child_kept w l (more t ts) [] f h = refl
@@ -55,7 +55,7 @@ no_child_kept w l (more t ts) (r ∷ rs) f h =
     let p : (is_first r.since ≡ true) × (all_first rs ≡ true) = and_true (is_first r.since) (all_first rs) f in
     no_child_row r (if knows r.since w then kept w l t r.kind else absent) t (rows_kept w l ts rs) ts rs (known_absent (knows r.since w) (kept w l t r.kind) (is_absent t) (first_known r.since w p.0) (absent_kept w l t r h.0)) (no_child_kept w l ts rs p.1 h.1)
 
-hollow_kept : (w l : SpecVersion) (t : Tree) (k : Kind) → whole_kind k ≡ true → IsOf t k → is_hollow (kept w l t k) ≡ is_hollow t
+hollow_kept : (w l : SpecVersion) (t : Tree) (k : Kind) → whole_kind k ≡ true → HasShape t k → is_hollow (kept w l t k) ≡ is_hollow t
 unfolding kept is_hollow
 hollow_kept w l (fields n ts) (a_record m) e h =
     ap is_hollow (stays w (a_record m) n (rows_kept w l ts (rows n)) refl) ∙ no_child_kept w l ts (rows n) (whole_rows n (ap whole_name h.0 ∙ e)) h.1
@@ -95,7 +95,7 @@ record_passed a_signature n ts e is = by is
 record_passed a_bill n ts e is = ap is_contact is
 record_passed _ n ts e is = absurd (true≢false is)
 
-pub passed_not : (t : Tree) (k : Kind) → is_contact_kind k ≡ false → IsOf t k → is_passed_over t ≡ false
+pub passed_not : (t : Tree) (k : Kind) → is_contact_kind k ≡ false → HasShape t k → is_passed_over t ≡ false
 passed_not (fields n ts) k e h = name_passed n ts (record_passed k n ts e h.0)
 passed_not absent k e h = refl
 passed_not (text s) k e h = refl
@@ -116,24 +116,24 @@ contact_cases (a_record n) = by (is_contact n) refl
     by false e = inr e
 contact_cases _ = inr refl
 
-passed_contact : (w l : SpecVersion) (ts : Trees) → AreFields ts (rows contact) → is_passed_over (kept w l (fields contact ts) (a_record contact)) ≡ is_passed_over (fields contact ts)
+passed_contact : (w l : SpecVersion) (ts : Trees) → FieldsHaveShape ts (rows contact) → is_passed_over (kept w l (fields contact ts) (a_record contact)) ≡ is_passed_over (fields contact ts)
 unfolding kept is_hollow
 passed_contact w l ts h = ap is_passed_over (stays w (a_record contact) contact (rows_kept w l ts (rows contact)) refl) ∙ no_child_kept w l ts (rows contact) (unfold rows in refl) h
 
-passed_at : (w l : SpecVersion) (t : Tree) → IsOf t (a_record contact) → is_passed_over (kept w l t (a_record contact)) ≡ is_passed_over t
+passed_at : (w l : SpecVersion) (t : Tree) → HasShape t (a_record contact) → is_passed_over (kept w l t (a_record contact)) ≡ is_passed_over t
 passed_at w l absent h = absurd (true≢false h)
 passed_at w l (text s) h = absurd (true≢false h)
 passed_at w l (number s) h = absurd (true≢false h)
 passed_at w l (boolean s) h = absurd (true≢false h)
 passed_at w l (items s) h = absurd (true≢false h.0)
-passed_at w l (fields n ts) h = subst (λ (m : Name). AreFields ts (rows m) → is_passed_over (kept w l (fields m ts) (a_record contact)) ≡ is_passed_over (fields m ts)) (sym h.0) (passed_contact w l ts) h.1
+passed_at w l (fields n ts) h = subst (λ (m : Name). FieldsHaveShape ts (rows m) → is_passed_over (kept w l (fields m ts) (a_record contact)) ≡ is_passed_over (fields m ts)) (sym h.0) (passed_contact w l ts) h.1
 
-pub passed_kept : (w l : SpecVersion) (t : Tree) (k : Kind) → IsOf t k → is_passed_over (kept w l t k) ≡ is_passed_over t
+pub passed_kept : (w l : SpecVersion) (t : Tree) (k : Kind) → HasShape t k → is_passed_over (kept w l t k) ≡ is_passed_over t
 passed_kept w l t k h = by (contact_cases k)
   where
     by : (k ≡ a_record contact) ⊎ (is_contact_kind k ≡ false) → is_passed_over (kept w l t k) ≡ is_passed_over t
-    by (inl e) = subst (λ (j : Kind). IsOf t j → is_passed_over (kept w l t j) ≡ is_passed_over t) (sym e) (passed_at w l t) h
-    by (inr e) = passed_not (kept w l t k) k e (kept_of w l t k h) ∙ sym (passed_not t k e h)
+    by (inl e) = subst (λ (j : Kind). HasShape t j → is_passed_over (kept w l t j) ≡ is_passed_over t) (sym e) (passed_at w l t) h
+    by (inr e) = passed_not (kept w l t k) k e (kept_of AnyText w l t k h) ∙ sym (passed_not t k e h)
 
 -- ---- a version and a trip
 
@@ -240,7 +240,7 @@ unfolding bare
 row_commute w l r t true s h e = field_commute w l r t s h e
 row_commute w l r t false s h e = gone_after r
 
-absent_commute : (w l : SpecVersion) (t : Tree) (r : Row) → IsField t r → (IsOf t r.kind → bare (kept w l t r.kind) ≡ kept w l (bare t) r.kind) → bare (kept w l t r.kind) ≡ kept w l (bare t) r.kind
+absent_commute : (w l : SpecVersion) (t : Tree) (r : Row) → IsField t r → (HasShape t r.kind → bare (kept w l t r.kind) ≡ kept w l (bare t) r.kind) → bare (kept w l t r.kind) ≡ kept w l (bare t) r.kind
 unfolding kept bare
 absent_commute w l t r (inl h) f = ap (λ x. bare (kept w l x r.kind)) h.0 ∙ sym (ap (λ x. kept w l (bare x) r.kind) h.0)
 absent_commute w l t r (inr h) f = f h
@@ -248,7 +248,7 @@ absent_commute w l t r (inr h) f = f h
 mutual
   unfolding kept bare
 
-  pub bare_kept : (w l : SpecVersion) (t : Tree) (k : Kind) → IsOf t k → bare (kept w l t k) ≡ kept w l (bare t) k
+  pub bare_kept : (w l : SpecVersion) (t : Tree) (k : Kind) → HasShape t k → bare (kept w l t k) ≡ kept w l (bare t) k
   bare_kept w l absent k h = refl
   bare_kept w l (text s) k h = text_bare l k s
   bare_kept w l (number n) k h = refl
@@ -256,11 +256,11 @@ mutual
   bare_kept w l (items ts) k h = ap items (items_bare_kept w l ts (held_kind k) h.1)
   bare_kept w l (fields n ts) k h = record_bare w k n (rows_kept w l ts (rows n)) ∙ ap (kept_record w k n) (rows_bare_kept w l ts (rows n) (sound n) h.1)
 
-  items_bare_kept : (w l : SpecVersion) (ts : Trees) (k : Kind) → AreOf ts k → items_bare (items_kept w l ts k) ≡ items_kept w l (items_bare ts) k
+  items_bare_kept : (w l : SpecVersion) (ts : Trees) (k : Kind) → HaveShape ts k → items_bare (items_kept w l ts k) ≡ items_kept w l (items_bare ts) k
   items_bare_kept w l none k h = refl
   items_bare_kept w l (more t ts) k h = item_commute w l (is_passed_over (kept w l t k)) (is_passed_over t) (bare (kept w l t k)) (bare t) (items_bare (items_kept w l ts k)) (items_bare ts) k (passed_kept w l t k h.0) (bare_kept w l t k h.0) (items_bare_kept w l ts k h.1)
 
-  rows_bare_kept : (w l : SpecVersion) (ts : Trees) (rs : List Row) → all_sound rs ≡ true → AreFields ts rs → rows_bare (rows_kept w l ts rs) rs ≡ rows_kept w l (rows_bare ts rs) rs
+  rows_bare_kept : (w l : SpecVersion) (ts : Trees) (rs : List Row) → all_sound rs ≡ true → FieldsHaveShape ts rs → rows_bare (rows_kept w l ts rs) rs ≡ rows_kept w l (rows_bare ts rs) rs
   rows_bare_kept w l none rs s h = refl
   rows_bare_kept w l (more t ts) [] s h = refl
   rows_bare_kept w l (more t ts) (r ∷ rs) s h = more_is

@@ -6,7 +6,7 @@ use Rattle.cdx_models.specs.Trees.{Tree}
 use Rattle.cdx_schema.specs.Kinds.{a_bill}
 use Rattle.cdx_schema.specs.Depth.{top}
 use Rattle.cdx_models.specs.declared.errors.XmlReadError.{XmlReadError}
-use Rattle.cdx_schema.specs.Membership.{IsOf}
+use Rattle.cdx_schema.specs.Membership.{HasShape}
 use Rattle.cdx_schema.specs.Keeping.{keep, fits, is_shallow}
 use Rattle.cdx_schema.specs.XmlReading.{xml_denotes}
 use Rattle.cdx_schema.specs.XmlSpelling.{root, nodes_of}
@@ -53,19 +53,19 @@ lean_document n as' d xs = ap (λ es. StartDocument ∷ StartElement n as' d ∷
 
 -- ---- the law, where it is read off the document without empty texts
 
-pub lean_spelling : (b : Tree) (w : SpecVersion) → IsOf b a_bill → is_shallow b top ≡ true → fits w b a_bill ≡ true
+pub lean_spelling : (b : Tree) (w : SpecVersion) → HasShape b a_bill → is_shallow b top ≡ true → fits w b a_bill ≡ true
     → xml_denotes (lean (root (keep w b a_bill) w)) w ≡ unless (hole (lean (root (keep w b a_bill) w)) w 1 a_bill) (tripped w (keep w b a_bill) a_bill)
 lean_spelling b w h s f = lean_denotes (root (keep w b a_bill) w) w (tripped w (keep w b a_bill) a_bill) (reads_xml b w h f s)
 
 -- ---- the law, from the two halves on trees
 
 abbrev pub FullHasNone : Type 0
-FullHasNone = (b : Tree) (w : SpecVersion) → IsOf b a_bill → is_shallow b top ≡ true → fits w b a_bill ≡ true
+FullHasNone = (b : Tree) (w : SpecVersion) → HasShape b a_bill → is_shallow b top ≡ true → fits w b a_bill ≡ true
     → has_empty (keep w b a_bill) ≡ false → hole (lean (root (keep w b a_bill) w)) w 1 a_bill ≡ None
 
 -- What is read without a hole is full; what a trip leaves of a tree with an empty text still has it.
 abbrev pub EmptyHasOne : Type 0
-EmptyHasOne = (b : Tree) (w : SpecVersion) → IsOf b a_bill → is_shallow b top ≡ true → fits w b a_bill ≡ true
+EmptyHasOne = (b : Tree) (w : SpecVersion) → HasShape b a_bill → is_shallow b top ≡ true → fits w b a_bill ≡ true
     → has_empty (keep w b a_bill) ≡ true → hole (lean (root (keep w b a_bill) w)) w 1 a_bill ≡ None → ⊥
 
 pub drops_texts : FullHasNone → EmptyHasOne → DropsTexts

@@ -16,7 +16,7 @@ use Rattle.cdx_schema.specs.Depth.{Depth, inside, name_too_deep}
 use Rattle.cdx_schema.specs.JsonReading.{jread, when_nothing}
 use Rattle.cdx_schema.specs.JsonSpelling.{jspell, is_written}
 use Rattle.cdx_schema.specs.Keeping.{kept, items_kept, rows_kept, kept_text, kept_record, before_1_5, keep, fits, has_versions, items_have_versions, rows_have_versions, is_there, is_shallow, are_shallow}
-use Rattle.cdx_schema.specs.Membership.{IsOf, AreOf, AreFields, IsTextOf, IsNumberOf, IsRecordOf, may_lack}
+use Rattle.cdx_schema.specs.Membership.{HasShape, HaveShape, FieldsHaveShape, IsTextOf, AnyText, IsNumberOf, IsRecordOf, may_lack}
 use Rattle.cdx_schema.proofs.KeptTwice.{stays}
 use Rattle.cdx_schema.proofs.JsonBack.{required_held, class_row, IsNumberHeld, Held, AllHeld, FieldsHeld, RowHeld, json_back, and_true, not_true}
 
@@ -25,7 +25,7 @@ label_is V1_3 = refl
 label_is V1_4 = refl
 label_is V1_5 = refl
 
-pub text_held : (w l : SpecVersion) (d : Depth) (k : Kind) (s : List ℕ) → IsTextOf k s → Held w d (kept_text l k s) k
+pub text_held : (w l : SpecVersion) (d : Depth) (k : Kind) (s : List ℕ) → IsTextOf AnyText k s → Held w d (kept_text l k s) k
 text_held w l d a_text s h = tt
 text_held w l d a_reference s h = tt
 text_held w l d a_version s h = label_is l
@@ -174,15 +174,15 @@ first_row w l d t r false known h there = inl (known, refl)
 first_row w l d t r true known (inl h) there = subst (λ (x : Tree). (is_first w ≡ true → is_there r.need x ≡ true) → RowHeld w d (kept w l x r.kind) r) (sym h.0) (absent_row w d r known h.1) there
 first_row w l d t r true known (inr h) there = present_row w d (kept w l t r.kind) r known h
 
-pub kept_field : (w l : SpecVersion) (d : Depth) (t : Tree) (r : Row) → (IsOf t r.kind → Held w d (kept w l t r.kind) r.kind)
-    → ((t ≡ absent) × (may_lack r.need ≡ true)) ⊎ IsOf t r.kind → ((t ≡ absent) × (may_lack r.need ≡ true)) ⊎ Held w d (kept w l t r.kind) r.kind
+pub kept_field : (w l : SpecVersion) (d : Depth) (t : Tree) (r : Row) → (HasShape t r.kind → Held w d (kept w l t r.kind) r.kind)
+    → ((t ≡ absent) × (may_lack r.need ≡ true)) ⊎ HasShape t r.kind → ((t ≡ absent) × (may_lack r.need ≡ true)) ⊎ Held w d (kept w l t r.kind) r.kind
 kept_field w l d t r f (inl h) = inl h
 kept_field w l d t r f (inr h) = inr (f h)
 
 mutual
   unfolding kept has_versions is_shallow
 
-  pub held_kept : (w l : SpecVersion) (d : Depth) (t : Tree) (k : Kind) → IsOf t k → (is_first w ≡ true → has_versions t k ≡ true) → is_shallow t d ≡ true → Held w d (kept w l t k) k
+  pub held_kept : (w l : SpecVersion) (d : Depth) (t : Tree) (k : Kind) → HasShape t k → (is_first w ≡ true → has_versions t k ≡ true) → is_shallow t d ≡ true → Held w d (kept w l t k) k
   held_kept w l d absent k h v s = absurd (true≢false h)
   held_kept w l d (text x) k h v s = text_held w l d k x h
   held_kept w l d (number n) k h v s = number_held k n h
@@ -192,7 +192,7 @@ mutual
       let p : (not (name_too_deep n d) ≡ true) × (are_shallow ts (inside n d) ≡ true) = and_true (not (name_too_deep n d)) (are_shallow ts (inside n d)) s in
       record_held w l d k n ts h.0 (not_true (name_too_deep n d) p.0) v (λ u. rows_held w l (inside n d) ts (rows n) h.1 u p.1)
 
-  pub items_held : (w l : SpecVersion) (d : Depth) (ts : Trees) (k : Kind) → AreOf ts k → (is_first w ≡ true → items_have_versions ts k ≡ true) → are_shallow ts d ≡ true → AllHeld w d (items_kept w l ts k) k
+  pub items_held : (w l : SpecVersion) (d : Depth) (ts : Trees) (k : Kind) → HaveShape ts k → (is_first w ≡ true → items_have_versions ts k ≡ true) → are_shallow ts d ≡ true → AllHeld w d (items_kept w l ts k) k
   items_held w l d none k h v s = tt
   items_held w l d (more t ts) k h v s =
       let p : (is_shallow t d ≡ true) × (are_shallow ts d ≡ true) = and_true (is_shallow t d) (are_shallow ts d) s in (
@@ -200,7 +200,7 @@ mutual
         items_held w l d ts k h.1 (λ e. (and_true (has_versions t k) (items_have_versions ts k) (v e)).1) p.1,
       )
 
-  pub rows_held : (w l : SpecVersion) (d : Depth) (ts : Trees) (rs : List Row) → AreFields ts rs → (is_first w ≡ true → rows_have_versions ts rs ≡ true) → are_shallow ts d ≡ true → FieldsHeld w d (rows_kept w l ts rs) rs
+  pub rows_held : (w l : SpecVersion) (d : Depth) (ts : Trees) (rs : List Row) → FieldsHaveShape ts rs → (is_first w ≡ true → rows_have_versions ts rs ≡ true) → are_shallow ts d ≡ true → FieldsHeld w d (rows_kept w l ts rs) rs
   rows_held w l d none [] h v s = tt
   rows_held w l d none (r ∷ rs) h v s = h
   rows_held w l d (more t ts) [] h v s = absurd (true≢false h)
@@ -220,6 +220,6 @@ fits_first V1_4 t k h e = absurd (true≢false (sym e))
 fits_first V1_5 t k h e = absurd (true≢false (sym e))
 
 -- The JSON spelling of what a version keeps is read back as what the version keeps.
-pub json_law : (w : SpecVersion) (d : Depth) (t : Tree) (k : Kind) → IsOf t k → fits w t k ≡ true → is_shallow t d ≡ true
+pub json_law : (w : SpecVersion) (d : Depth) (t : Tree) (k : Kind) → HasShape t k → fits w t k ≡ true → is_shallow t d ≡ true
     → jread (jspell (keep w t k) w k) w k d ≡ Ok (keep w t k)
 json_law w d t k h f s = (json_back w d (keep w t k) k (held_kept w w d t k h (fits_first w t k f) s)).1

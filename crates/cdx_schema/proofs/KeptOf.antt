@@ -12,63 +12,66 @@ use Rattle.cdx_schema.specs.Held.{held_kind}
 use Rattle.cdx_models.specs.Entries.{is_flow}
 use Rattle.cdx_schema.specs.Depth.{Depth, inside, name_too_deep}
 use Rattle.cdx_schema.specs.Keeping.{kept, items_kept, rows_kept, kept_text, kept_record, before_1_5, has_versions, items_have_versions, rows_have_versions, is_there, is_shallow, are_shallow}
-use Rattle.cdx_schema.specs.Membership.{IsOf, AreOf, AreFields, IsTextOf, IsRecordOf, may_lack}
+use Rattle.cdx_schema.specs.Membership.{IsOfAll, AreOfAll, AreFieldsAll, AnyText, HasShape, HaveShape, FieldsHaveShape, IsTextOf, IsRecordOf, may_lack}
 use Rattle.cdx_schema.proofs.JsonBack.{and_true}
 use Rattle.cdx_schema.proofs.KeptTwice.{stays}
 use Rattle.cdx_schema.proofs.HeldKept.{label_is, flow_stays}
 use Rattle.cdx_schema.proofs.Sound.{both, free_kind, there, free_need, free_there, free_rows, sound_since, all_sound, sound, sound_parts}
 
-pub class_entry : (t : Tree) → IsOf t (a_record classification) → IsOf t an_entry
-class_entry absent h = h
-class_entry (text s) h = h
-class_entry (number n) h = h
-class_entry (boolean b) h = h
-class_entry (items ts) h = absurd (true≢false h.0)
-class_entry (fields n ts) h = (inl h.0, h.1)
+pub class_entry : (Q : List ℕ → Type 0) → (t : Tree) → IsOfAll Q t (a_record classification) → IsOfAll Q t an_entry
+class_entry Q absent h = h
+class_entry Q (text s) h = h
+class_entry Q (number n) h = h
+class_entry Q (boolean b) h = h
+class_entry Q (items ts) h = absurd (true≢false h.0)
+class_entry Q (fields n ts) h = (inl h.0, h.1)
 
-required_of : (t : Tree) (k : Kind) → ((t ≡ absent) × (false ≡ true)) ⊎ IsOf t k → IsOf t k
-required_of t k (inl h) = absurd (true≢false (sym h.1))
-required_of t k (inr h) = h
+required_of : (Q : List ℕ → Type 0) → (t : Tree) (k : Kind) → ((t ≡ absent) × (false ≡ true)) ⊎ IsOfAll Q t k → IsOfAll Q t k
+required_of Q t k (inl h) = absurd (true≢false (sym h.1))
+required_of Q t k (inr h) = h
 
-pub third_of : (ts : Trees) → AreFields ts (rows service_data) → IsOf (field 2 ts) (a_record classification)
+pub third_of : (Q : List ℕ → Type 0) → (ts : Trees) → AreFieldsAll Q ts (rows service_data) → IsOfAll Q (field 2 ts) (a_record classification)
 unfolding rows
-third_of none h = absurd (true≢false h)
-third_of (more a none) h = absurd (true≢false h.1)
-third_of (more a (more b none)) h = absurd (true≢false h.1.1)
-third_of (more a (more b (more c ts))) h = required_of c (a_record classification) h.1.1.0
+third_of Q none h = absurd (true≢false h)
+third_of Q (more a none) h = absurd (true≢false h.1)
+third_of Q (more a (more b none)) h = absurd (true≢false h.1.1)
+third_of Q (more a (more b (more c ts))) h = required_of Q c (a_record classification) h.1.1.0
 
-text_of_kept : (l : SpecVersion) (k : Kind) (s : List ℕ) → IsTextOf k s → IsOf (kept_text l k s) k
-text_of_kept l a_version s h = label_is l
-text_of_kept l _ s h = h
+text_of_kept : (Q : List ℕ → Type 0) → (l : SpecVersion) (k : Kind) (s : List ℕ) → IsTextOf Q k s → IsOfAll Q (kept_text l k s) k
+text_of_kept Q l a_version s h = label_is l
+text_of_kept Q l _ s h = h
 
-plain_of : (w : SpecVersion) (k : Kind) (n : Name) (us : Trees) → before_1_5 k n us ≡ fields n us → IsOf (fields n us) k → IsOf (kept_record w k n us) k
-plain_of w k n us e h = subst (λ (t : Tree). IsOf t k) (sym (stays w k n us e)) h
+plain_of : (Q : List ℕ → Type 0) → (w : SpecVersion) (k : Kind) (n : Name) (us : Trees) → before_1_5 k n us ≡ fields n us → IsOfAll Q (fields n us) k → IsOfAll Q (kept_record w k n us) k
+plain_of Q w k n us e h = subst (λ (t : Tree). IsOfAll Q t k) (sym (stays w k n us e)) h
 
-tools_of_kept : (w l : SpecVersion) (us : Trees) → AreFields us (rows tools_object) → IsOf (kept_record w a_tools tools_object us) a_tools
-tools_of_kept V1_3 l us h = (tt, tt)
-tools_of_kept V1_4 l us h = (tt, tt)
-tools_of_kept V1_5 l us h = (refl, h)
+tools_of_kept : (Q : List ℕ → Type 0) → (w l : SpecVersion) (us : Trees) → AreFieldsAll Q us (rows tools_object) → IsOfAll Q (kept_record w a_tools tools_object us) a_tools
+tools_of_kept Q V1_3 l us h = (tt, tt)
+tools_of_kept Q V1_4 l us h = (tt, tt)
+tools_of_kept Q V1_5 l us h = (refl, h)
 
-flow_of_kept : (w l : SpecVersion) (ts : Trees) → is_flow service_data ts ≡ true → AreFields (rows_kept w l ts (rows service_data)) (rows service_data)
-    → IsOf (kept_record w an_entry service_data (rows_kept w l ts (rows service_data))) an_entry
-flow_of_kept V1_3 l ts f h = class_entry _ (third_of (rows_kept V1_3 l ts (rows service_data)) h)
-flow_of_kept V1_4 l ts f h = class_entry _ (third_of (rows_kept V1_4 l ts (rows service_data)) h)
-flow_of_kept V1_5 l ts f h = (inr (refl, flow_stays V1_5 l ts ∙ f), h)
+flow_of_kept : (Q : List ℕ → Type 0) → (w l : SpecVersion) (ts : Trees) → is_flow service_data ts ≡ true → AreFieldsAll Q (rows_kept w l ts (rows service_data)) (rows service_data)
+    → IsOfAll Q (kept_record w an_entry service_data (rows_kept w l ts (rows service_data))) an_entry
+flow_of_kept Q V1_3 l ts f h = class_entry Q _ (third_of Q (rows_kept V1_3 l ts (rows service_data)) h)
+flow_of_kept Q V1_4 l ts f h = class_entry Q _ (third_of Q (rows_kept V1_4 l ts (rows service_data)) h)
+flow_of_kept Q V1_5 l ts f h = (inr (refl, flow_stays V1_5 l ts ∙ f), h)
 
-record_of_kept : (w l : SpecVersion) (k : Kind) (n : Name) (ts : Trees) → IsRecordOf k n ts → AreFields (rows_kept w l ts (rows n)) (rows n) → IsOf (kept_record w k n (rows_kept w l ts (rows n))) k
-record_of_kept w l (a_record m) n ts is h = plain_of w (a_record m) n (rows_kept w l ts (rows n)) refl (is, h)
-record_of_kept w l a_license_choice n ts is h = plain_of w a_license_choice n (rows_kept w l ts (rows n)) refl (is, h)
-record_of_kept w l a_license_identifier n ts is h = plain_of w a_license_identifier n (rows_kept w l ts (rows n)) refl (is, h)
-record_of_kept w l a_tools n ts is h = subst (λ (m : Name). AreFields (rows_kept w l ts (rows m)) (rows m) → IsOf (kept_record w a_tools m (rows_kept w l ts (rows m))) a_tools) (sym is) (tools_of_kept w l (rows_kept w l ts (rows tools_object))) h
-record_of_kept w l an_entry n ts (inl is) h = plain_of w an_entry n (rows_kept w l ts (rows n)) (subst (λ (m : Name). before_1_5 an_entry m (rows_kept w l ts (rows n)) ≡ fields m (rows_kept w l ts (rows n))) (sym is) refl) (inl is, h)
-record_of_kept w l an_entry n ts (inr is) h = subst (λ (m : Name). is_flow m ts ≡ true → AreFields (rows_kept w l ts (rows m)) (rows m) → IsOf (kept_record w an_entry m (rows_kept w l ts (rows m))) an_entry) (sym is.0) (flow_of_kept w l ts) is.1 h
-record_of_kept w l a_signature n ts is h = plain_of w a_signature n (rows_kept w l ts (rows n)) refl (is, h)
-record_of_kept w l a_bill n ts is h = plain_of w a_bill n (rows_kept w l ts (rows n)) refl (is, h)
-record_of_kept w l _ n ts is h = absurd (true≢false is)
+record_of_kept : (Q : List ℕ → Type 0) → (w l : SpecVersion) (k : Kind) (n : Name) (ts : Trees) → IsRecordOf k n ts → AreFieldsAll Q (rows_kept w l ts (rows n)) (rows n) → IsOfAll Q (kept_record w k n (rows_kept w l ts (rows n))) k
+record_of_kept Q w l (a_record m) n ts is h = plain_of Q w (a_record m) n (rows_kept w l ts (rows n)) refl (is, h)
+record_of_kept Q w l a_license_choice n ts is h = plain_of Q w a_license_choice n (rows_kept w l ts (rows n)) refl (is, h)
+record_of_kept Q w l a_license_identifier n ts is h = plain_of Q w a_license_identifier n (rows_kept w l ts (rows n)) refl (is, h)
+record_of_kept Q w l a_tools n ts is h = subst (λ (m : Name). AreFieldsAll Q (rows_kept w l ts (rows m)) (rows m) → IsOfAll Q (kept_record w a_tools m (rows_kept w l ts (rows m))) a_tools) (sym is) (tools_of_kept Q w l (rows_kept w l ts (rows tools_object))) h
+record_of_kept Q w l an_entry n ts (inl is) h = plain_of Q w an_entry n (rows_kept w l ts (rows n)) (subst (λ (m : Name). before_1_5 an_entry m (rows_kept w l ts (rows n)) ≡ fields m (rows_kept w l ts (rows n))) (sym is) refl) (inl is, h)
+record_of_kept Q w l an_entry n ts (inr is) h = subst (λ (m : Name). is_flow m ts ≡ true → AreFieldsAll Q (rows_kept w l ts (rows m)) (rows m) → IsOfAll Q (kept_record w an_entry m (rows_kept w l ts (rows m))) an_entry) (sym is.0) (flow_of_kept Q w l ts) is.1 h
+record_of_kept Q w l a_signature n ts is h = plain_of Q w a_signature n (rows_kept w l ts (rows n)) refl (is, h)
+record_of_kept Q w l a_bill n ts is h = plain_of Q w a_bill n (rows_kept w l ts (rows n)) refl (is, h)
+record_of_kept Q w l _ n ts is h = absurd (true≢false is)
 
 -- A field of a row: of the row's kind, or absent where it may be.
+abbrev pub IsFieldAll : (List ℕ → Type 0) → Tree → Row → Type 0
+IsFieldAll Q t r = ((t ≡ absent) × (may_lack r.need ≡ true)) ⊎ IsOfAll Q t r.kind
+
 abbrev pub IsField : Tree → Row → Type 0
-IsField t r = ((t ≡ absent) × (may_lack r.need ≡ true)) ⊎ IsOf t r.kind
+IsField t r = IsFieldAll AnyText t r
 
 pub since_lacks : (v : SpecVersion) (n : Need) (k : Kind) (w : SpecVersion) → sound_since v n k ≡ true → knows v w ≡ false → may_lack n ≡ true
 since_lacks V1_3 n k w s h = absurd (true≢false h)
@@ -77,50 +80,50 @@ since_lacks V1_4 _ k w s h = absurd (true≢false (sym s))
 since_lacks V1_5 optional k w s h = refl
 since_lacks V1_5 _ k w s h = absurd (true≢false (sym s))
 
-row_of_kept : (w l : SpecVersion) (t : Tree) (r : Row) (b : Bool) → knows r.since w ≡ b → sound_since r.since r.need r.kind ≡ true → IsField t r → (IsOf t r.kind → IsOf (kept w l t r.kind) r.kind) → IsField (if b then kept w l t r.kind else absent) r
+row_of_kept : (Q : List ℕ → Type 0) → (w l : SpecVersion) (t : Tree) (r : Row) (b : Bool) → knows r.since w ≡ b → sound_since r.since r.need r.kind ≡ true → IsFieldAll Q t r → (IsOfAll Q t r.kind → IsOfAll Q (kept w l t r.kind) r.kind) → IsFieldAll Q (if b then kept w l t r.kind else absent) r
 unfolding kept
-row_of_kept w l t r false known s h f = inl (refl, since_lacks r.since r.need r.kind w s known)
-row_of_kept w l t r true known s (inl h) f = inl (ap (λ x. kept w l x r.kind) h.0, h.1)
-row_of_kept w l t r true known s (inr h) f = inr (f h)
+row_of_kept Q w l t r false known s h f = inl (refl, since_lacks r.since r.need r.kind w s known)
+row_of_kept Q w l t r true known s (inl h) f = inl (ap (λ x. kept w l x r.kind) h.0, h.1)
+row_of_kept Q w l t r true known s (inr h) f = inr (f h)
 
 mutual
   unfolding kept
 
-  pub kept_of : (w l : SpecVersion) (t : Tree) (k : Kind) → IsOf t k → IsOf (kept w l t k) k
-  kept_of w l absent k h = absurd (true≢false h)
-  kept_of w l (text s) k h = text_of_kept l k s h
-  kept_of w l (number n) k h = h
-  kept_of w l (boolean b) k h = h
-  kept_of w l (items ts) k h = (h.0, items_kept_of w l ts (held_kind k) h.1)
-  kept_of w l (fields n ts) k h = record_of_kept w l k n ts h.0 (rows_kept_of w l ts (rows n) (sound n) h.1)
+  pub kept_of : (Q : List ℕ → Type 0) → (w l : SpecVersion) (t : Tree) (k : Kind) → IsOfAll Q t k → IsOfAll Q (kept w l t k) k
+  kept_of Q w l absent k h = absurd (true≢false h)
+  kept_of Q w l (text s) k h = text_of_kept Q l k s h
+  kept_of Q w l (number n) k h = h
+  kept_of Q w l (boolean b) k h = h
+  kept_of Q w l (items ts) k h = (h.0, items_kept_of Q w l ts (held_kind k) h.1)
+  kept_of Q w l (fields n ts) k h = record_of_kept Q w l k n ts h.0 (rows_kept_of Q w l ts (rows n) (sound n) h.1)
 
-  pub items_kept_of : (w l : SpecVersion) (ts : Trees) (k : Kind) → AreOf ts k → AreOf (items_kept w l ts k) k
-  items_kept_of w l none k h = tt
-  items_kept_of w l (more t ts) k h = (kept_of w l t k h.0, items_kept_of w l ts k h.1)
+  pub items_kept_of : (Q : List ℕ → Type 0) → (w l : SpecVersion) (ts : Trees) (k : Kind) → AreOfAll Q ts k → AreOfAll Q (items_kept w l ts k) k
+  items_kept_of Q w l none k h = tt
+  items_kept_of Q w l (more t ts) k h = (kept_of Q w l t k h.0, items_kept_of Q w l ts k h.1)
 
-  pub rows_kept_of : (w l : SpecVersion) (ts : Trees) (rs : List Row) → all_sound rs ≡ true → AreFields ts rs → AreFields (rows_kept w l ts rs) rs
-  rows_kept_of w l none [] s h = tt
-  rows_kept_of w l none (r ∷ rs) s h = h
-  rows_kept_of w l (more t ts) [] s h = absurd (true≢false h)
-  rows_kept_of w l (more t ts) (r ∷ rs) s h = (
-    row_of_kept w l t r (knows r.since w) refl (sound_parts r rs s).0 h.0 (kept_of w l t r.kind),
-    rows_kept_of w l ts rs (sound_parts r rs s).2 h.1,
+  pub rows_kept_of : (Q : List ℕ → Type 0) → (w l : SpecVersion) (ts : Trees) (rs : List Row) → all_sound rs ≡ true → AreFieldsAll Q ts rs → AreFieldsAll Q (rows_kept w l ts rs) rs
+  rows_kept_of Q w l none [] s h = tt
+  rows_kept_of Q w l none (r ∷ rs) s h = h
+  rows_kept_of Q w l (more t ts) [] s h = absurd (true≢false h)
+  rows_kept_of Q w l (more t ts) (r ∷ rs) s h = (
+    row_of_kept Q w l t r (knows r.since w) refl (sound_parts r rs s).0 h.0 (kept_of Q w l t r.kind),
+    rows_kept_of Q w l ts rs (sound_parts r rs s).2 h.1,
   )
 
 -- ---- versions
 
-pub of_there : (t : Tree) (k : Kind) → IsOf t k → is_absent t ≡ false
-of_there absent k h = absurd (true≢false h)
-of_there (text s) k h = refl
-of_there (number n) k h = refl
-of_there (boolean b) k h = refl
-of_there (items ts) k h = refl
-of_there (fields n ts) k h = refl
+pub of_there : (Q : List ℕ → Type 0) → (t : Tree) (k : Kind) → IsOfAll Q t k → is_absent t ≡ false
+of_there Q absent k h = absurd (true≢false h)
+of_there Q (text s) k h = refl
+of_there Q (number n) k h = refl
+of_there Q (boolean b) k h = refl
+of_there Q (items ts) k h = refl
+of_there Q (fields n ts) k h = refl
 
 pub absent_kept : (w l : SpecVersion) (t : Tree) (r : Row) → IsField t r → is_absent (kept w l t r.kind) ≡ is_absent t
 unfolding kept
 absent_kept w l t r (inl h) = ap (λ x. is_absent (kept w l x r.kind)) h.0 ∙ sym (ap is_absent h.0)
-absent_kept w l t r (inr h) = of_there (kept w l t r.kind) r.kind (kept_of w l t r.kind h) ∙ sym (of_there t r.kind h)
+absent_kept w l t r (inr h) = of_there AnyText (kept w l t r.kind) r.kind (kept_of AnyText w l t r.kind h) ∙ sym (of_there AnyText t r.kind h)
 
 pub there_alike : (n : Need) (t u : Tree) → is_absent t ≡ is_absent u → is_there n t ≡ is_there n u
 there_alike required_first t u h = ap not h
@@ -137,14 +140,14 @@ tools_versions V1_3 us = refl
 tools_versions V1_4 us = refl
 tools_versions V1_5 us = refl
 
-flow_versions : (w l : SpecVersion) (ts : Trees) → IsOf (kept_record w an_entry service_data (rows_kept w l ts (rows service_data))) an_entry → AreFields ts (rows service_data)
+flow_versions : (w l : SpecVersion) (ts : Trees) → HasShape (kept_record w an_entry service_data (rows_kept w l ts (rows service_data))) an_entry → FieldsHaveShape ts (rows service_data)
     → has_versions (kept_record w an_entry service_data (rows_kept w l ts (rows service_data))) an_entry ≡ rows_have_versions ts (rows service_data)
 flow_versions w l ts f h = free_there _ an_entry f refl ∙ sym (free_rows ts (rows service_data) h (unfold rows in refl))
 
 plain_versions : (w : SpecVersion) (k : Kind) (n : Name) (us : Trees) (b : Bool) → before_1_5 k n us ≡ fields n us → has_versions (fields n us) k ≡ b → has_versions (kept_record w k n us) k ≡ b
 plain_versions w k n us b e h = ap (λ t. has_versions t k) (stays w k n us e) ∙ h
 
-record_versions : (w l : SpecVersion) (k : Kind) (n : Name) (ts : Trees) → IsRecordOf k n ts → AreFields ts (rows n) → AreFields (rows_kept w l ts (rows n)) (rows n)
+record_versions : (w l : SpecVersion) (k : Kind) (n : Name) (ts : Trees) → IsRecordOf k n ts → FieldsHaveShape ts (rows n) → FieldsHaveShape (rows_kept w l ts (rows n)) (rows n)
     → rows_have_versions (rows_kept w l ts (rows n)) (rows n) ≡ rows_have_versions ts (rows n)
     → has_versions (kept_record w k n (rows_kept w l ts (rows n))) k ≡ has_versions (fields n ts) k
 unfolding has_versions
@@ -154,8 +157,8 @@ record_versions w l a_license_identifier n ts is f g h = plain_versions w a_lice
 record_versions w l a_tools n ts is f g h = subst (λ (m : Name). has_versions (kept_record w a_tools m (rows_kept w l ts (rows n))) a_tools ≡ true) (sym is) (tools_versions w (rows_kept w l ts (rows n)))
 record_versions w l an_entry n ts (inl is) f g h = plain_versions w an_entry n (rows_kept w l ts (rows n)) (rows_have_versions ts (rows n)) (subst (λ (m : Name). before_1_5 an_entry m (rows_kept w l ts (rows n)) ≡ fields m (rows_kept w l ts (rows n))) (sym is) refl) h
 record_versions w l an_entry n ts (inr is) f g h =
-    subst (λ (m : Name). IsOf (kept_record w an_entry m (rows_kept w l ts (rows m))) an_entry → AreFields ts (rows m) → has_versions (kept_record w an_entry m (rows_kept w l ts (rows m))) an_entry ≡ rows_have_versions ts (rows m)) (sym is.0)
-    (flow_versions w l ts) (record_of_kept w l an_entry n ts (inr is) g) f
+    subst (λ (m : Name). HasShape (kept_record w an_entry m (rows_kept w l ts (rows m))) an_entry → FieldsHaveShape ts (rows m) → has_versions (kept_record w an_entry m (rows_kept w l ts (rows m))) an_entry ≡ rows_have_versions ts (rows m)) (sym is.0)
+    (flow_versions w l ts) (record_of_kept AnyText w l an_entry n ts (inr is) g) f
 record_versions w l a_signature n ts is f g h = plain_versions w a_signature n (rows_kept w l ts (rows n)) (rows_have_versions ts (rows n)) refl h
 record_versions w l a_bill n ts is f g h = plain_versions w a_bill n (rows_kept w l ts (rows n)) (rows_have_versions ts (rows n)) refl h
 record_versions w l _ n ts is f g h = absurd (true≢false is)
@@ -177,7 +180,7 @@ pub and_alike : {a b c d : Bool} → a ≡ c → b ≡ d → (a && b) ≡ (c && 
 and_alike p q = rw (p, q) refl
 
 row_versions : (w l : SpecVersion) (t : Tree) (r : Row) (b : Bool) → knows r.since w ≡ b → sound_since r.since r.need r.kind ≡ true → IsField t r
-    → (IsOf t r.kind → has_versions (kept w l t r.kind) r.kind ≡ has_versions t r.kind)
+    → (HasShape t r.kind → has_versions (kept w l t r.kind) r.kind ≡ has_versions t r.kind)
     → (is_there r.need (if b then kept w l t r.kind else absent) && has_versions (if b then kept w l t r.kind else absent) r.kind) ≡ (is_there r.need t && has_versions t r.kind)
 unfolding kept has_versions
 row_versions w l t r false known s h f = dropped_versions t r (since_optional r.since r.need r.kind w s known).0 (since_optional r.since r.need r.kind w s known).1 h
@@ -187,19 +190,19 @@ row_versions w l t r true known s h f = and_alike (there_alike r.need (kept w l 
 mutual
   unfolding kept has_versions
 
-  pub kept_versions : (w l : SpecVersion) (t : Tree) (k : Kind) → IsOf t k → has_versions (kept w l t k) k ≡ has_versions t k
+  pub kept_versions : (w l : SpecVersion) (t : Tree) (k : Kind) → HasShape t k → has_versions (kept w l t k) k ≡ has_versions t k
   kept_versions w l absent k h = refl
   kept_versions w l (text s) k h = text_versions l k s
   kept_versions w l (number n) k h = refl
   kept_versions w l (boolean b) k h = refl
   kept_versions w l (items ts) k h = items_kept_versions w l ts (held_kind k) h.1
-  kept_versions w l (fields n ts) k h = record_versions w l k n ts h.0 h.1 (rows_kept_of w l ts (rows n) (sound n) h.1) (rows_kept_versions w l ts (rows n) (sound n) h.1)
+  kept_versions w l (fields n ts) k h = record_versions w l k n ts h.0 h.1 (rows_kept_of AnyText w l ts (rows n) (sound n) h.1) (rows_kept_versions w l ts (rows n) (sound n) h.1)
 
-  items_kept_versions : (w l : SpecVersion) (ts : Trees) (k : Kind) → AreOf ts k → items_have_versions (items_kept w l ts k) k ≡ items_have_versions ts k
+  items_kept_versions : (w l : SpecVersion) (ts : Trees) (k : Kind) → HaveShape ts k → items_have_versions (items_kept w l ts k) k ≡ items_have_versions ts k
   items_kept_versions w l none k h = refl
   items_kept_versions w l (more t ts) k h = and_alike (kept_versions w l t k h.0) (items_kept_versions w l ts k h.1)
 
-  rows_kept_versions : (w l : SpecVersion) (ts : Trees) (rs : List Row) → all_sound rs ≡ true → AreFields ts rs → rows_have_versions (rows_kept w l ts rs) rs ≡ rows_have_versions ts rs
+  rows_kept_versions : (w l : SpecVersion) (ts : Trees) (rs : List Row) → all_sound rs ≡ true → FieldsHaveShape ts rs → rows_have_versions (rows_kept w l ts rs) rs ≡ rows_have_versions ts rs
   rows_kept_versions w l none rs s h = refl
   rows_kept_versions w l (more t ts) [] s h = refl
   rows_kept_versions w l (more t ts) (r ∷ rs) s h = and_alike (row_versions w l t r (knows r.since w) refl (sound_parts r rs s).0 h.0 (kept_versions w l t r.kind)) (rows_kept_versions w l ts rs (sound_parts r rs s).2 h.1)

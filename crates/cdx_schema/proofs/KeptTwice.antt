@@ -10,7 +10,7 @@ use Rattle.cdx_schema.specs.Kinds.{Kind, a_text, a_boolean, a_number, a_version,
 use Rattle.cdx_schema.specs.Held.{held_kind}
 use Rattle.cdx_schema.specs.Table.{rows}
 use Rattle.cdx_schema.specs.Keeping.{kept, items_kept, rows_kept, kept_record, kept_text, before_1_5}
-use Rattle.cdx_schema.specs.Membership.{IsOf, AreOf, AreFields, IsRecordOf}
+use Rattle.cdx_schema.specs.Membership.{HasShape, HaveShape, FieldsHaveShape, IsRecordOf}
 
 -- The lower of two versions knows what both know.
 knows-lowest : (s v w : SpecVersion) → knows s (lowest v w) ≡ knows s v && knows s w
@@ -120,7 +120,7 @@ flow_twice V1_5 V1_5 l m a b c ts as_entry as_class same = ap (fields service_da
 
 -- ---- flows of their kind
 
-class_as_entry : (v w l m : SpecVersion) (c : Tree) → ((c ≡ absent) × (false ≡ true)) ⊎ IsOf c (a_record classification)
+class_as_entry : (v w l m : SpecVersion) (c : Tree) → ((c ≡ absent) × (false ≡ true)) ⊎ HasShape c (a_record classification)
     → kept v m (kept w l c (a_record classification)) (a_record classification) ≡ kept (lowest v w) m c (a_record classification)
     → kept v m (kept w l c (a_record classification)) an_entry ≡ kept (lowest v w) m c (a_record classification)
 class_as_entry v w l m c (inl h) s = absurd (true≢false (sym h.1))
@@ -131,7 +131,7 @@ class_as_entry v w l m (boolean x) (inr h) s = absurd (true≢false h)
 class_as_entry v w l m (items x) (inr h) s = absurd (true≢false h.0)
 class_as_entry v w l m (fields n cs) (inr h) s = class_twice v w l m n cs h.0 s
 
-flow_fields : (v w l m : SpecVersion) (ts : Trees) → AreFields ts (rows service_data)
+flow_fields : (v w l m : SpecVersion) (ts : Trees) → FieldsHaveShape ts (rows service_data)
     → rows_kept v m (rows_kept w l ts (rows service_data)) (rows service_data) ≡ rows_kept (lowest v w) m ts (rows service_data)
     → kept v m (kept w l (fields service_data ts) an_entry) an_entry ≡ kept (lowest v w) m (fields service_data ts) an_entry
 unfolding kept rows
@@ -140,7 +140,7 @@ flow_fields v w l m (more a none) h same = absurd (true≢false h.1)
 flow_fields v w l m (more a (more b none)) h same = absurd (true≢false h.1.1)
 flow_fields v w l m (more a (more b (more c ts))) h same = flow_twice v w l m a b c ts (class_as_entry v w l m c h.1.1.0 (ap (field 2) same)) (ap (field 2) same) same
 
-record_twice : (v w l m : SpecVersion) (k : Kind) (n : Name) (ts : Trees) → IsRecordOf k n ts → AreFields ts (rows n)
+record_twice : (v w l m : SpecVersion) (k : Kind) (n : Name) (ts : Trees) → IsRecordOf k n ts → FieldsHaveShape ts (rows n)
     → rows_kept v m (rows_kept w l ts (rows n)) (rows n) ≡ rows_kept (lowest v w) m ts (rows n)
     → kept v m (kept w l (fields n ts) k) k ≡ kept (lowest v w) m (fields n ts) k
 record_twice v w l m a_text n ts is of same = absurd (true≢false is)
@@ -159,7 +159,7 @@ record_twice v w l m a_tools n ts is of same =
 record_twice v w l m a_data n ts is of same = absurd (true≢false is)
 record_twice v w l m an_entry n ts (inl is) of same = plain_twice v w l m an_entry n ts (λ us. subst (λ (k : Name). before_1_5 an_entry k us ≡ fields k us) (sym is) refl) same
 record_twice v w l m an_entry n ts (inr is) of same =
-    let P : Name → Type 0 = (λ (k : Name). AreFields ts (rows k) → rows_kept v m (rows_kept w l ts (rows k)) (rows k) ≡ rows_kept (lowest v w) m ts (rows k)
+    let P : Name → Type 0 = (λ (k : Name). FieldsHaveShape ts (rows k) → rows_kept v m (rows_kept w l ts (rows k)) (rows k) ≡ rows_kept (lowest v w) m ts (rows k)
     → kept v m (kept w l (fields k ts) an_entry) an_entry ≡ kept (lowest v w) m (fields k ts) an_entry) in
     subst P (sym is.0) (flow_fields v w l m ts) of same
 record_twice v w l m a_signature n ts is of same = plain_twice v w l m a_signature n ts (λ us. refl) same
@@ -175,7 +175,7 @@ absent_twice v w l m r t h = rw h refl
 mutual
   unfolding kept
 
-  pub kept_twice : (v w l m : SpecVersion) (t : Tree) (k : Kind) → IsOf t k → kept v m (kept w l t k) k ≡ kept (lowest v w) m t k
+  pub kept_twice : (v w l m : SpecVersion) (t : Tree) (k : Kind) → HasShape t k → kept v m (kept w l t k) k ≡ kept (lowest v w) m t k
   kept_twice v w l m absent k h = refl
   kept_twice v w l m (text s) k h = text_twice v l m k s
   kept_twice v w l m (number n) k h = refl
@@ -183,11 +183,11 @@ mutual
   kept_twice v w l m (items ts) k h = ap items (items_twice v w l m ts (held_kind k) h.1)
   kept_twice v w l m (fields n ts) k h = record_twice v w l m k n ts h.0 h.1 (rows_twice v w l m ts (rows n) h.1)
 
-  pub items_twice : (v w l m : SpecVersion) (ts : Trees) (k : Kind) → AreOf ts k → items_kept v m (items_kept w l ts k) k ≡ items_kept (lowest v w) m ts k
+  pub items_twice : (v w l m : SpecVersion) (ts : Trees) (k : Kind) → HaveShape ts k → items_kept v m (items_kept w l ts k) k ≡ items_kept (lowest v w) m ts k
   items_twice v w l m none k h = refl
   items_twice v w l m (more t ts) k h = more_twice (kept_twice v w l m t k h.0) (items_twice v w l m ts k h.1)
 
-  pub rows_twice : (v w l m : SpecVersion) (ts : Trees) (rs : List Row) → AreFields ts rs → rows_kept v m (rows_kept w l ts rs) rs ≡ rows_kept (lowest v w) m ts rs
+  pub rows_twice : (v w l m : SpecVersion) (ts : Trees) (rs : List Row) → FieldsHaveShape ts rs → rows_kept v m (rows_kept w l ts rs) rs ≡ rows_kept (lowest v w) m ts rs
   rows_twice v w l m none rs h = refl
   rows_twice v w l m (more t ts) [] h = refl
   rows_twice v w l m (more t ts) (r ∷ rs) h = more_twice

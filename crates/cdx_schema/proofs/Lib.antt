@@ -8,6 +8,7 @@ pub mod DecimalTexts
 pub mod BillLaw
 pub mod HeldKept
 pub mod LeafLemmas
+pub mod Shape
 mod Passed
 pub mod KeptTwice
 pub mod Groups

@@ -13,7 +13,7 @@ use Rattle.cdx_schema.specs.Table.{rows, list}
 use Rattle.cdx_schema.specs.Held.{held_kind}
 use Rattle.cdx_schema.specs.Depth.{Depth, top, inside, name_too_deep}
 use Rattle.cdx_schema.specs.Keeping.{is_shallow, are_shallow}
-use Rattle.cdx_schema.specs.Membership.{IsOf, AreOf, AreFields, IsRecordOf, IsListOf, may_lack}
+use Rattle.cdx_schema.specs.Membership.{HasShape, HaveShape, FieldsHaveShape, IsRecordOf, IsListOf, may_lack}
 use Rattle.cdx_schema.specs.JsonSpelling.{jspell, items_spelled, members_spelled, own_members, stands, set_member, heading, in_choice}
 use Rattle.cdx_schema.proofs.JsonBack.{and_true, not_true}
 
@@ -378,12 +378,12 @@ set_depth false m k h d n x own ms e v p f g = p
 set_depth true (member q) k h d n x own ms e v p f g = put_depth q x ms n (trans (depth x) (value (kind_height k) d) n f (trans (value (kind_height k) d) (value h d) n (member_value q k h d e) v)) p
 set_depth true merged k h d n x own ms e v p f g = g (trans (value (kind_height k) d) (suc (value h d)) (suc n) (merged_value k h d e) (omega arith))
 
-absent_deep : (t : Tree) (w : SpecVersion) (r : Row) (n : ℕ) → ((t ≡ absent) × (may_lack r.need ≡ true)) ⊎ IsOf t r.kind → (IsOf t r.kind → depth (jspell t w r.kind) ≤ n) → depth (jspell t w r.kind) ≤ n
+absent_deep : (t : Tree) (w : SpecVersion) (r : Row) (n : ℕ) → ((t ≡ absent) × (may_lack r.need ≡ true)) ⊎ HasShape t r.kind → (HasShape t r.kind → depth (jspell t w r.kind) ≤ n) → depth (jspell t w r.kind) ≤ n
 unfolding jspell
 absent_deep t w r n (inl h) f = subst (λ (x : Tree). depth (jspell x w r.kind) ≤ n) (sym h.0) (omega arith)
 absent_deep t w r n (inr h) f = f h
 
-absent_own : (t : Tree) (w : SpecVersion) (r : Row) (n : ℕ) (ms : Members) → ((t ≡ absent) × (may_lack r.need ≡ true)) ⊎ IsOf t r.kind → members_depth ms ≤ n → (IsOf t r.kind → members_depth (own_members t w ms) ≤ n) → members_depth (own_members t w ms) ≤ n
+absent_own : (t : Tree) (w : SpecVersion) (r : Row) (n : ℕ) (ms : Members) → ((t ≡ absent) × (may_lack r.need ≡ true)) ⊎ HasShape t r.kind → members_depth ms ≤ n → (HasShape t r.kind → members_depth (own_members t w ms) ≤ n) → members_depth (own_members t w ms) ≤ n
 unfolding jspell
 absent_own t w r n ms (inl h) p f = subst (λ (x : Tree). members_depth (own_members x w ms) ≤ n) (sym h.0) p
 absent_own t w r n ms (inr h) p f = f h
@@ -391,7 +391,7 @@ absent_own t w r n ms (inr h) p f = f h
 mutual
   unfolding jspell is_shallow
 
-  deep : (t : Tree) (w : SpecVersion) (k : Kind) (d : Depth) → IsOf t k → is_shallow t d ≡ true → depth (jspell t w k) ≤ value (kind_height k) d
+  deep : (t : Tree) (w : SpecVersion) (k : Kind) (d : Depth) → HasShape t k → is_shallow t d ≡ true → depth (jspell t w k) ≤ value (kind_height k) d
   deep absent w k d is s = absurd (true≢false is)
   deep (text x) w k d is s = omega arith
   deep (number x) w k d is s = omega arith
@@ -405,13 +405,13 @@ mutual
       (choice_depth k n m d (trans (suc (members_depth m)) (suc (value (inner n) (inside n d))) (value (name_height n) d) (omega (arith, i)) (name_value n d (not_true (name_too_deep n d) p.0))))
       (record_value k n ts d is.0)
 
-  deep_items : (ts : Trees) (w : SpecVersion) (k : Kind) (d : Depth) → AreOf ts k → are_shallow ts d ≡ true → items_depth (items_spelled ts w k) ≤ value (kind_height k) d
+  deep_items : (ts : Trees) (w : SpecVersion) (k : Kind) (d : Depth) → HaveShape ts k → are_shallow ts d ≡ true → items_depth (items_spelled ts w k) ≤ value (kind_height k) d
   deep_items none w k d is s = omega arith
   deep_items (more t ts) w k d is s =
       let p : (is_shallow t d ≡ true) × (are_shallow ts d ≡ true) = and_true (is_shallow t d) (are_shallow ts d) s in
       omega (arith, deep t w k d is.0 p.0, deep_items ts w k d is.1 p.1)
 
-  deep_rows : (ts : Trees) (w : SpecVersion) (rs : List Row) (d : Depth) (h : Height) (b : ℕ) (ms : Members) → AreFields ts rs → are_shallow ts d ≡ true → are_within rs h ≡ true → value h d ≤ b → members_depth ms ≤ b
+  deep_rows : (ts : Trees) (w : SpecVersion) (rs : List Row) (d : Depth) (h : Height) (b : ℕ) (ms : Members) → FieldsHaveShape ts rs → are_shallow ts d ≡ true → are_within rs h ≡ true → value h d ≤ b → members_depth ms ≤ b
       → members_depth (members_spelled ts w rs ms) ≤ b
   deep_rows none w rs d h b ms is s e v p = p
   deep_rows (more t ts) w [] d h b ms is s e v p = p
@@ -423,7 +423,7 @@ mutual
       (absent_deep t w r (value (kind_height r.kind) d) is.0 (λ g. deep t w r.kind d g q.0))
       (λ g. absent_own t w r b ms is.0 p (λ o. deep_own t w r.kind d b ms o q.0 g p)))
 
-  deep_own : (t : Tree) (w : SpecVersion) (k : Kind) (d : Depth) (b : ℕ) (ms : Members) → IsOf t k → is_shallow t d ≡ true → value (kind_height k) d ≤ suc b → members_depth ms ≤ b → members_depth (own_members t w ms) ≤ b
+  deep_own : (t : Tree) (w : SpecVersion) (k : Kind) (d : Depth) (b : ℕ) (ms : Members) → HasShape t k → is_shallow t d ≡ true → value (kind_height k) d ≤ suc b → members_depth ms ≤ b → members_depth (own_members t w ms) ≤ b
   deep_own absent w k d b ms is s v p = p
   deep_own (text x) w k d b ms is s v p = p
   deep_own (number x) w k d b ms is s v p = p
@@ -435,5 +435,5 @@ mutual
       (omega (arith, name_value n d (not_true (name_too_deep n d) q.0), wrapped_more k n d, record_value k n ts d is.0, v)) p
 
 -- The JSON spelling of a shallow bill nests at most 104 arrays and objects.
-pub bill_nests : (b : Tree) (w : SpecVersion) → IsOf b a_bill → is_shallow b top ≡ true → depth (jspell b w a_bill) ≤ 104
+pub bill_nests : (b : Tree) (w : SpecVersion) → HasShape b a_bill → is_shallow b top ≡ true → depth (jspell b w a_bill) ≤ 104
 bill_nests b w is s = deep b w a_bill top is s

@@ -3,7 +3,6 @@ use Rattle.std.specs.Prelude.{◌≡◌, refl, ℕ, suc, ◌<◌, ◌^◌, List,
 use Rattle.std.proofs.Common.{true≢false, inl, inr, Ordering, Less, Equal, Greater}
 use Rattle.std.specs.Ordering.{nat_cmp, match_ordering}
 use Rattle.std.specs.Cmp.Lexicographic.{slice_cmp}
-use Rattle.std.specs.Str.{IsUtf8}
 use mathlib.Core.Path.{ap, sym, ◌∙◌, subst}
 use native.Mathlib.Omega.{arith}
 use Rattle.serde_json.specs.Data.{Num, unsigned, negative, float, Data, Items, no_items, item, Members, no_members}
@@ -21,7 +20,7 @@ use Rattle.cdx_schema.specs.Depth.{Depth, top, inside, name_too_deep, is_too_dee
 use Rattle.cdx_models.specs.Entries.{is_flow, entry_of}
 use Rattle.cdx_schema.specs.JsonReading.{Reading, Found, nothing, a_null, found, Object, jread, items_read, seen, as_found, rows_read, row_read, member_read, found_read, when_nothing, when_null, own_read, no_own, record_read, under_name, id_read, name_read, is_lone_license, choice_read, license_read, signature_read, chain_read, tools_read, entry_read, bill_read, format_read, object_read, text_read, boolean_read, integer_read, number_read, version_read, item_kind, array_read, json_denotes, first_float}
 use Rattle.cdx_schema.specs.Keeping.{is_shallow, are_shallow}
-use Rattle.cdx_schema.specs.Membership.{IsOf, AreOf, AreFields, IsTextOf, may_lack}
+use Rattle.cdx_schema.specs.Membership.{IsOfAll, AreOfAll, AreFieldsAll, IsTextOf, may_lack}
 use Rattle.cdx_schema.specs.Texts.{AreTexts, AreTextsIn, AreTextsOf}
 use Rattle.cdx_schema.proofs.JsonBack.{and_true, err_ok}
 use Rattle.cdx_schema.proofs.XmlLaw.{is_list_kind}
@@ -50,57 +49,57 @@ under_was s (Err e) t h = absurd (err_ok h)
 
 -- ---- what a reading gives
 
-abbrev pub IsReadOf : Kind → Depth → Tree → Type 0
-IsReadOf k d t = IsOf t k × (is_shallow t d ≡ true)
+abbrev pub IsReadOf : (Q : List ℕ → Type 0) → Kind → Depth → Tree → Type 0
+IsReadOf Q k d t = IsOfAll Q t k × (is_shallow t d ≡ true)
 
-abbrev Good : Reading → Type 0
-Good read = (v : SpecVersion) (k : Kind) (d : Depth) (t : Tree) → read v k d ≡ Ok t → IsReadOf k d t
+abbrev Good : (Q : List ℕ → Type 0) → Reading → Type 0
+Good Q read = (v : SpecVersion) (k : Kind) (d : Depth) (t : Tree) → read v k d ≡ Ok t → IsReadOf Q k d t
 
-abbrev GoodFound : Found → Type 0
-GoodFound nothing = Unit {0}
-GoodFound a_null = Unit {0}
-GoodFound (found read) = Good read
+abbrev GoodFound : (Q : List ℕ → Type 0) → Found → Type 0
+GoodFound Q nothing = Unit {0}
+GoodFound Q a_null = Unit {0}
+GoodFound Q (found read) = Good Q read
 
-abbrev GoodObject : Object → Type 0
-GoodObject o = (q : List ℕ) → GoodFound (o q)
+abbrev GoodObject : (Q : List ℕ → Type 0) → Object → Type 0
+GoodObject Q o = (q : List ℕ) → GoodFound Q (o q)
 
 -- a field of a row, or absent where it may be
-abbrev pub FieldOf : Need → Kind → Depth → Tree → Type 0
-FieldOf n k d t = (((t ≡ absent) × (may_lack n ≡ true)) ⊎ IsOf t k) × (is_shallow t d ≡ true)
+abbrev pub FieldOf : (Q : List ℕ → Type 0) → Need → Kind → Depth → Tree → Type 0
+FieldOf Q n k d t = (((t ≡ absent) × (may_lack n ≡ true)) ⊎ IsOfAll Q t k) × (is_shallow t d ≡ true)
 
-is_absent_field : (n : Need) (k : Kind) (d : Depth) (t : Tree) → may_lack n ≡ true → as_ok Tree JsonFault absent ≡ Ok t → FieldOf n k d t
+is_absent_field : (Q : List ℕ → Type 0) → (n : Need) (k : Kind) (d : Depth) (t : Tree) → may_lack n ≡ true → as_ok Tree JsonFault absent ≡ Ok t → FieldOf Q n k d t
 unfolding is_shallow
-is_absent_field n k d t h e = subst (λ (x : Tree). FieldOf n k d x) (ok_same e) (inl (refl, h), refl)
+is_absent_field Q n k d t h e = subst (λ (x : Tree). FieldOf Q n k d x) (ok_same e) (inl (refl, h), refl)
 
 abbrev is_else : Need → Kind → Bool
 is_else else_empty k = is_list_kind k
 is_else _ k = true
 
-empty_list : (k : Kind) (d : Depth) → is_list_kind k ≡ true → IsReadOf k d (items none)
+empty_list : (Q : List ℕ → Type 0) → (k : Kind) (d : Depth) → is_list_kind k ≡ true → IsReadOf Q k d (items none)
 unfolding is_shallow
-empty_list (a_list l) d h = ((tt, tt), refl)
-empty_list _ d h = absurd (true≢false (sym h))
+empty_list Q (a_list l) d h = ((tt, tt), refl)
+empty_list Q _ d h = absurd (true≢false (sym h))
 
-nothing_good : (n : Need) (k : Kind) (v : SpecVersion) (d : Depth) (t : Tree) → is_else n k ≡ true → when_nothing n v ≡ Ok t → FieldOf n k d t
-nothing_good optional k v d t s e = is_absent_field optional k d t refl e
-nothing_good required k v d t s e = absurd (err_ok e)
-nothing_good required_first k V1_3 d t s e = absurd (err_ok e)
-nothing_good required_first k V1_4 d t s e = is_absent_field required_first k d t refl e
-nothing_good required_first k V1_5 d t s e = is_absent_field required_first k d t refl e
-nothing_good else_empty k v d t s e = subst (λ (x : Tree). FieldOf else_empty k d x) (ok_same e) (inr (empty_list k d s).0, (empty_list k d s).1)
+nothing_good : (Q : List ℕ → Type 0) → (n : Need) (k : Kind) (v : SpecVersion) (d : Depth) (t : Tree) → is_else n k ≡ true → when_nothing n v ≡ Ok t → FieldOf Q n k d t
+nothing_good Q optional k v d t s e = is_absent_field Q optional k d t refl e
+nothing_good Q required k v d t s e = absurd (err_ok e)
+nothing_good Q required_first k V1_3 d t s e = absurd (err_ok e)
+nothing_good Q required_first k V1_4 d t s e = is_absent_field Q required_first k d t refl e
+nothing_good Q required_first k V1_5 d t s e = is_absent_field Q required_first k d t refl e
+nothing_good Q else_empty k v d t s e = subst (λ (x : Tree). FieldOf Q else_empty k d x) (ok_same e) (inr (empty_list Q k d s).0, (empty_list Q k d s).1)
 
-null_good : (n : Need) (k : Kind) (v : SpecVersion) (d : Depth) (t : Tree) → when_null n v ≡ Ok t → FieldOf n k d t
-null_good optional k v d t e = is_absent_field optional k d t refl e
-null_good required k v d t e = absurd (err_ok e)
-null_good required_first k V1_3 d t e = absurd (err_ok e)
-null_good required_first k V1_4 d t e = is_absent_field required_first k d t refl e
-null_good required_first k V1_5 d t e = is_absent_field required_first k d t refl e
-null_good else_empty k v d t e = absurd (err_ok e)
+null_good : (Q : List ℕ → Type 0) → (n : Need) (k : Kind) (v : SpecVersion) (d : Depth) (t : Tree) → when_null n v ≡ Ok t → FieldOf Q n k d t
+null_good Q optional k v d t e = is_absent_field Q optional k d t refl e
+null_good Q required k v d t e = absurd (err_ok e)
+null_good Q required_first k V1_3 d t e = absurd (err_ok e)
+null_good Q required_first k V1_4 d t e = is_absent_field Q required_first k d t refl e
+null_good Q required_first k V1_5 d t e = is_absent_field Q required_first k d t refl e
+null_good Q else_empty k v d t e = absurd (err_ok e)
 
-found_good : (f : Found) (r : Row) (v : SpecVersion) (d : Depth) (t : Tree) → GoodFound f → is_else r.need r.kind ≡ true → found_read f r v d ≡ Ok t → FieldOf r.need r.kind d t
-found_good nothing r v d t g s e = nothing_good r.need r.kind v d t s e
-found_good a_null r v d t g s e = null_good r.need r.kind v d t e
-found_good (found read) r v d t g s e = let p : IsReadOf r.kind d t = g v r.kind d t e in (inr p.0, p.1)
+found_good : (Q : List ℕ → Type 0) → (f : Found) (r : Row) (v : SpecVersion) (d : Depth) (t : Tree) → GoodFound Q f → is_else r.need r.kind ≡ true → found_read f r v d ≡ Ok t → FieldOf Q r.need r.kind d t
+found_good Q nothing r v d t g s e = nothing_good Q r.need r.kind v d t s e
+found_good Q a_null r v d t g s e = null_good Q r.need r.kind v d t e
+found_good Q (found read) r v d t g s e = let p : IsReadOf Q r.kind d t = g v r.kind d t e in (inr p.0, p.1)
 
 -- ---- rows
 
@@ -154,117 +153,117 @@ reads_rows signers = refl
 reads_rows chain = refl
 reads_rows bill = refl
 
-abbrev GoodOwn : (Kind → Result Tree JsonFault) → Depth → Type 0
-GoodOwn own d = (k : Kind) (t : Tree) → is_own k ≡ true → own k ≡ Ok t → IsReadOf k d t
+abbrev GoodOwn : (Q : List ℕ → Type 0) → (Kind → Result Tree JsonFault) → Depth → Type 0
+GoodOwn Q own d = (k : Kind) (t : Tree) → is_own k ≡ true → own k ≡ Ok t → IsReadOf Q k d t
 
-member_good : (m : Member) (o : Object) (own : Kind → Result Tree JsonFault) (r : Row) (v : SpecVersion) (d : Depth) (t : Tree) → GoodObject o → GoodOwn own d → is_else r.need r.kind ≡ true → is_own_row m r.kind ≡ true
-    → member_read m o own r v d ≡ Ok t → FieldOf r.need r.kind d t
-member_good (member q) o own r v d t g f s c e = found_good (o q) r v d t (g q) s (under_was (to_member q) (found_read (o q) r v d) t e)
-member_good merged o own r v d t g f s c e = let p : IsReadOf r.kind d t = f r.kind t c e in (inr p.0, p.1)
+member_good : (Q : List ℕ → Type 0) → (m : Member) (o : Object) (own : Kind → Result Tree JsonFault) (r : Row) (v : SpecVersion) (d : Depth) (t : Tree) → GoodObject Q o → GoodOwn Q own d → is_else r.need r.kind ≡ true → is_own_row m r.kind ≡ true
+    → member_read m o own r v d ≡ Ok t → FieldOf Q r.need r.kind d t
+member_good Q (member q) o own r v d t g f s c e = found_good Q (o q) r v d t (g q) s (under_was (to_member q) (found_read (o q) r v d) t e)
+member_good Q merged o own r v d t g f s c e = let p : IsReadOf Q r.kind d t = f r.kind t c e in (inr p.0, p.1)
 
-row_good : (b : Bool) (o : Object) (own : Kind → Result Tree JsonFault) (r : Row) (v : SpecVersion) (d : Depth) (t : Tree) → knows r.since v ≡ b → GoodObject o → GoodOwn own d
+row_good : (Q : List ℕ → Type 0) → (b : Bool) (o : Object) (own : Kind → Result Tree JsonFault) (r : Row) (v : SpecVersion) (d : Depth) (t : Tree) → knows r.since v ≡ b → GoodObject Q o → GoodOwn Q own d
     → sound_since r.since r.need r.kind ≡ true → is_else r.need r.kind ≡ true → is_own_row r.json r.kind ≡ true
-    → (if b then member_read r.json o own r v d else Ok absent) ≡ Ok t → FieldOf r.need r.kind d t
-row_good true o own r v d t known g f s q c e = member_good r.json o own r v d t g f q c e
-row_good false o own r v d t known g f s q c e = is_absent_field r.need r.kind d t (since_lacks r.since r.need r.kind v s known) e
+    → (if b then member_read r.json o own r v d else Ok absent) ≡ Ok t → FieldOf Q r.need r.kind d t
+row_good Q true o own r v d t known g f s q c e = member_good Q r.json o own r v d t g f q c e
+row_good Q false o own r v d t known g f s q c e = is_absent_field Q r.need r.kind d t (since_lacks r.since r.need r.kind v s known) e
 
-abbrev pub AreRead : List Row → Depth → Trees → Type 0
-AreRead rs d ts = AreFields ts rs × (are_shallow ts d ≡ true)
+abbrev pub AreRead : (Q : List ℕ → Type 0) → List Row → Depth → Trees → Type 0
+AreRead Q rs d ts = AreFieldsAll Q ts rs × (are_shallow ts d ≡ true)
 
-rows_good : (o : Object) (own : Kind → Result Tree JsonFault) (rs : List Row) (v : SpecVersion) (d : Depth) (ts : Trees) → GoodObject o → GoodOwn own d → all_read rs ≡ true → rows_read o own rs v d ≡ Ok ts → AreRead rs d ts
+rows_good : (Q : List ℕ → Type 0) → (o : Object) (own : Kind → Result Tree JsonFault) (rs : List Row) (v : SpecVersion) (d : Depth) (ts : Trees) → GoodObject Q o → GoodOwn Q own d → all_read rs ≡ true → rows_read o own rs v d ≡ Ok ts → AreRead Q rs d ts
 unfolding rows_read is_shallow
-rows_good o own [] v d ts g f s e = subst (λ (x : Trees). AreRead [] d x) (ok_same e) (tt, refl)
-rows_good o own (r ∷ rs) v d ts g f s e =
+rows_good Q o own [] v d ts g f s e = subst (λ (x : Trees). AreRead Q [] d x) (ok_same e) (tt, refl)
+rows_good Q o own (r ∷ rs) v d ts g f s e =
     let a : ((sound_since r.since r.need r.kind && (is_else r.need r.kind && is_own_row r.json r.kind)) ≡ true) × (all_read rs ≡ true) = and_true (sound_since r.since r.need r.kind && (is_else r.need r.kind && is_own_row r.json r.kind)) (all_read rs) s in
     let b : (sound_since r.since r.need r.kind ≡ true) × ((is_else r.need r.kind && is_own_row r.json r.kind) ≡ true) = and_true (sound_since r.since r.need r.kind) (is_else r.need r.kind && is_own_row r.json r.kind) a.0 in
     let c : (is_else r.need r.kind ≡ true) × (is_own_row r.json r.kind ≡ true) = and_true (is_else r.need r.kind) (is_own_row r.json r.kind) b.1 in
     let x : (t : Tree) × (row_read o own r v d ≡ Ok t) × ((rows_read o own rs v d >>= (λ us. Ok (more t us))) ≡ Ok ts) = bind_ok (row_read o own r v d) (λ t. rows_read o own rs v d >>= (λ us. Ok (more t us))) ts e in
     let y : (us : Trees) × (rows_read o own rs v d ≡ Ok us) × (Ok (more x.0 us) ≡ Ok ts) = bind_ok (rows_read o own rs v d) (λ us. Ok (more x.0 us)) ts x.2 in
-    let p : FieldOf r.need r.kind d x.0 = row_good (knows r.since v) o own r v d x.0 refl g f b.0 c.0 c.1 x.1 in
-    let q : AreRead rs d y.0 = rows_good o own rs v d y.0 g f a.1 y.1 in
-    subst (λ (z : Trees). AreRead (r ∷ rs) d z) (ok_same y.2) ((p.0, q.0), both (is_shallow x.0 d) (are_shallow y.0 d) p.1 q.1)
+    let p : FieldOf Q r.need r.kind d x.0 = row_good Q (knows r.since v) o own r v d x.0 refl g f b.0 c.0 c.1 x.1 in
+    let q : AreRead Q rs d y.0 = rows_good Q o own rs v d y.0 g f a.1 y.1 in
+    subst (λ (z : Trees). AreRead Q (r ∷ rs) d z) (ok_same y.2) ((p.0, q.0), both (is_shallow x.0 d) (are_shallow y.0 d) p.1 q.1)
 
 -- ---- records
 
-abbrev pub IsRecordRead : Name → Depth → Tree → Type 0
-IsRecordRead n d t = (ts : Trees) × (t ≡ fields n ts) × AreRead (rows n) d ts
+abbrev pub IsRecordRead : (Q : List ℕ → Type 0) → Name → Depth → Tree → Type 0
+IsRecordRead Q n d t = (ts : Trees) × (t ≡ fields n ts) × AreRead Q (rows n) d ts
 
-named_good : (n : Name) (r : Result Trees JsonFault) (d : Depth) (t : Tree) → under_name n r ≡ Ok t → ((ts : Trees) → r ≡ Ok ts → AreRead (rows n) d ts) → IsRecordRead n d t
-named_good n r d t e f = let x : (ts : Trees) × (r ≡ Ok ts) × (Ok (fields n ts) ≡ Ok t) = bind_ok r (λ ts. Ok (fields n ts)) t e in (x.0, sym (ok_same x.2), f x.0 x.1)
+named_good : (Q : List ℕ → Type 0) → (n : Name) (r : Result Trees JsonFault) (d : Depth) (t : Tree) → under_name n r ≡ Ok t → ((ts : Trees) → r ≡ Ok ts → AreRead Q (rows n) d ts) → IsRecordRead Q n d t
+named_good Q n r d t e f = let x : (ts : Trees) × (r ≡ Ok ts) × (Ok (fields n ts) ≡ Ok t) = bind_ok r (λ ts. Ok (fields n ts)) t e in (x.0, sym (ok_same x.2), f x.0 x.1)
 
-name_field : (d : Depth) (s : Tree) → IsReadOf a_text d s → AreRead (rows license_name) d (one s)
+name_field : (Q : List ℕ → Type 0) → (d : Depth) (s : Tree) → IsReadOf Q a_text d s → AreRead Q (rows license_name) d (one s)
 unfolding rows is_shallow
-name_field d s h = ((inr h.0, tt), both (is_shallow s d) true h.1 refl)
+name_field Q d s h = ((inr h.0, tt), both (is_shallow s d) true h.1 refl)
 
-id_field : (d : Depth) (s : Tree) → IsReadOf a_text d s → AreRead (rows spdx_id) d (one s)
+id_field : (Q : List ℕ → Type 0) → (d : Depth) (s : Tree) → IsReadOf Q a_text d s → AreRead Q (rows spdx_id) d (one s)
 unfolding rows is_shallow
-id_field d s h = ((inr h.0, tt), both (is_shallow s d) true h.1 refl)
+id_field Q d s h = ((inr h.0, tt), both (is_shallow s d) true h.1 refl)
 
-name_good : (f : Found) (v : SpecVersion) (d : Depth) (t : Tree) → GoodFound f → name_read f v d ≡ Ok t → IsRecordRead license_name d t
-name_good nothing v d t g e = absurd (err_ok e)
-name_good a_null v d t g e = absurd (err_ok e)
-name_good (found read) v d t g e =
+name_good : (Q : List ℕ → Type 0) → (f : Found) (v : SpecVersion) (d : Depth) (t : Tree) → GoodFound Q f → name_read f v d ≡ Ok t → IsRecordRead Q license_name d t
+name_good Q nothing v d t g e = absurd (err_ok e)
+name_good Q a_null v d t g e = absurd (err_ok e)
+name_good Q (found read) v d t g e =
     let x : (s : Tree) × (under (to_member (codes "name")) (read v a_text d) ≡ Ok s) × (Ok (fields license_name (one s)) ≡ Ok t) = bind_ok (under (to_member (codes "name")) (read v a_text d)) (λ s. Ok (fields license_name (one s))) t e in
-    (one x.0, sym (ok_same x.2), name_field d x.0 (g v a_text d x.0 (under_was (to_member (codes "name")) (read v a_text d) x.0 x.1)))
+    (one x.0, sym (ok_same x.2), name_field Q d x.0 (g v a_text d x.0 (under_was (to_member (codes "name")) (read v a_text d) x.0 x.1)))
 
-abbrev IsIdentifierRead : Depth → Tree → Type 0
-IsIdentifierRead d t = IsRecordRead spdx_id d t ⊎ IsRecordRead license_name d t
+abbrev IsIdentifierRead : (Q : List ℕ → Type 0) → Depth → Tree → Type 0
+IsIdentifierRead Q d t = IsRecordRead Q spdx_id d t ⊎ IsRecordRead Q license_name d t
 
-id_good : (f : Found) (o : Object) (v : SpecVersion) (d : Depth) (t : Tree) → GoodFound f → GoodObject o → id_read f o v d ≡ Ok t → IsIdentifierRead d t
-id_good nothing o v d t g h e = inr (name_good (o (codes "name")) v d t (h (codes "name")) e)
-id_good a_null o v d t g h e = absurd (err_ok e)
-id_good (found read) o v d t g h e =
+id_good : (Q : List ℕ → Type 0) → (f : Found) (o : Object) (v : SpecVersion) (d : Depth) (t : Tree) → GoodFound Q f → GoodObject Q o → id_read f o v d ≡ Ok t → IsIdentifierRead Q d t
+id_good Q nothing o v d t g h e = inr (name_good Q (o (codes "name")) v d t (h (codes "name")) e)
+id_good Q a_null o v d t g h e = absurd (err_ok e)
+id_good Q (found read) o v d t g h e =
     let x : (s : Tree) × (under (to_member (codes "id")) (read v a_text d) ≡ Ok s) × (Ok (fields spdx_id (one s)) ≡ Ok t) = bind_ok (under (to_member (codes "id")) (read v a_text d)) (λ s. Ok (fields spdx_id (one s))) t e in
-    inl (one x.0, sym (ok_same x.2), id_field d x.0 (g v a_text d x.0 (under_was (to_member (codes "id")) (read v a_text d) x.0 x.1)))
+    inl (one x.0, sym (ok_same x.2), id_field Q d x.0 (g v a_text d x.0 (under_was (to_member (codes "id")) (read v a_text d) x.0 x.1)))
 
-identifier_is : (d : Depth) (t : Tree) → IsIdentifierRead d t → IsReadOf a_license_identifier d t
+identifier_is : (Q : List ℕ → Type 0) → (d : Depth) (t : Tree) → IsIdentifierRead Q d t → IsReadOf Q a_license_identifier d t
 unfolding is_shallow
-identifier_is d t (inl h) = subst (λ (x : Tree). IsReadOf a_license_identifier d x) (sym h.1) ((inl refl, h.2.0), h.2.1)
-identifier_is d t (inr h) = subst (λ (x : Tree). IsReadOf a_license_identifier d x) (sym h.1) ((inr refl, h.2.0), h.2.1)
+identifier_is Q d t (inl h) = subst (λ (x : Tree). IsReadOf Q a_license_identifier d x) (sym h.1) ((inl refl, h.2.0), h.2.1)
+identifier_is Q d t (inr h) = subst (λ (x : Tree). IsReadOf Q a_license_identifier d x) (sym h.1) ((inr refl, h.2.0), h.2.1)
 
-no_own_good : (d : Depth) → GoodOwn no_own d
-no_own_good d k t c e = absurd (err_ok e)
+no_own_good : (Q : List ℕ → Type 0) → (d : Depth) → GoodOwn Q no_own d
+no_own_good Q d k t c e = absurd (err_ok e)
 
-class_is : (d : Depth) (t : Tree) → IsRecordRead classification d t → IsReadOf (a_record classification) d t
+class_is : (Q : List ℕ → Type 0) → (d : Depth) (t : Tree) → IsRecordRead Q classification d t → IsReadOf Q (a_record classification) d t
 unfolding is_shallow
-class_is d t h = subst (λ (x : Tree). IsReadOf (a_record classification) d x) (sym h.1) ((refl, h.2.0), h.2.1)
+class_is Q d t h = subst (λ (x : Tree). IsReadOf Q (a_record classification) d x) (sym h.1) ((refl, h.2.0), h.2.1)
 
-own_good : (o : Object) (v : SpecVersion) (d : Depth) → GoodObject o → GoodOwn (own_read o v d) d
-own_good o v d g a_license_identifier t c e = identifier_is d t (id_good (o (codes "id")) o v d t (g (codes "id")) g e)
-own_good o v d g (a_record classification) t c e = class_is d t (named_good classification (rows_read o no_own (rows classification) v d) d t e (λ ts h. rows_good o no_own (rows classification) v d ts g (no_own_good d) (reads_rows classification) h))
-own_good o v d g _ t c e = absurd (true≢false (sym c))
+own_good : (Q : List ℕ → Type 0) → (o : Object) (v : SpecVersion) (d : Depth) → GoodObject Q o → GoodOwn Q (own_read o v d) d
+own_good Q o v d g a_license_identifier t c e = identifier_is Q d t (id_good Q (o (codes "id")) o v d t (g (codes "id")) g e)
+own_good Q o v d g (a_record classification) t c e = class_is Q d t (named_good Q classification (rows_read o no_own (rows classification) v d) d t e (λ ts h. rows_good Q o no_own (rows classification) v d ts g (no_own_good Q d) (reads_rows classification) h))
+own_good Q o v d g _ t c e = absurd (true≢false (sym c))
 
-record_good : (n : Name) (o : Object) (v : SpecVersion) (d : Depth) (t : Tree) → GoodObject o → record_read n o v d ≡ Ok t → IsRecordRead n d t
-record_good n o v d t g e = named_good n (rows_read o (own_read o v d) (rows n) v d) d t e (λ ts h. rows_good o (own_read o v d) (rows n) v d ts g (own_good o v d g) (reads_rows n) h)
+record_good : (Q : List ℕ → Type 0) → (n : Name) (o : Object) (v : SpecVersion) (d : Depth) (t : Tree) → GoodObject Q o → record_read n o v d ≡ Ok t → IsRecordRead Q n d t
+record_good Q n o v d t g e = named_good Q n (rows_read o (own_read o v d) (rows n) v d) d t e (λ ts h. rows_good Q o (own_read o v d) (rows n) v d ts g (own_good Q o v d g) (reads_rows n) h)
 
 -- ---- objects
 
 -- A record of a name by itself, at the depth that it gives to what it holds.
-pub flat_is : (k : Kind) (n : Name) (d : Depth) (t : Tree) → IsRecordRead n (inside n d) t → name_too_deep n d ≡ false → ((ts : Trees) → AreFields ts (rows n) → IsOf (fields n ts) k) → IsReadOf k d t
+pub flat_is : (Q : List ℕ → Type 0) → (k : Kind) (n : Name) (d : Depth) (t : Tree) → IsRecordRead Q n (inside n d) t → name_too_deep n d ≡ false → ((ts : Trees) → AreFieldsAll Q ts (rows n) → IsOfAll Q (fields n ts) k) → IsReadOf Q k d t
 unfolding is_shallow
-flat_is k n d t h deep f = subst (λ (x : Tree). IsReadOf k d x) (sym h.1) (f h.0 h.2.0, both (not (name_too_deep n d)) (are_shallow h.0 (inside n d)) (ap not deep) h.2.1)
+flat_is Q k n d t h deep f = subst (λ (x : Tree). IsReadOf Q k d x) (sym h.1) (f h.0 h.2.0, both (not (name_too_deep n d)) (are_shallow h.0 (inside n d)) (ap not deep) h.2.1)
 
-license_choice : (t : Tree) → IsOf t (a_record license) → IsOf t a_license_choice
-license_choice absent h = h
-license_choice (text s) h = h
-license_choice (number n) h = h
-license_choice (boolean b) h = h
-license_choice (items ts) h = absurd (true≢false h.0)
-license_choice (fields n ts) h = (inl h.0, h.1)
+license_choice : (Q : List ℕ → Type 0) → (t : Tree) → IsOfAll Q t (a_record license) → IsOfAll Q t a_license_choice
+license_choice Q absent h = h
+license_choice Q (text s) h = h
+license_choice Q (number n) h = h
+license_choice Q (boolean b) h = h
+license_choice Q (items ts) h = absurd (true≢false h.0)
+license_choice Q (fields n ts) h = (inl h.0, h.1)
 
-license_good : (f : Found) (v : SpecVersion) (d : Depth) (t : Tree) → GoodFound f → license_read f v d ≡ Ok t → IsReadOf a_license_choice d t
-license_good nothing v d t g e = absurd (err_ok e)
-license_good a_null v d t g e = absurd (err_ok e)
-license_good (found read) v d t g e = let p : IsReadOf (a_record license) d t = g v (a_record license) d t (under_was (to_member (codes "license")) (read v (a_record license) d) t e) in (license_choice t p.0, p.1)
+license_good : (Q : List ℕ → Type 0) → (f : Found) (v : SpecVersion) (d : Depth) (t : Tree) → GoodFound Q f → license_read f v d ≡ Ok t → IsReadOf Q a_license_choice d t
+license_good Q nothing v d t g e = absurd (err_ok e)
+license_good Q a_null v d t g e = absurd (err_ok e)
+license_good Q (found read) v d t g e = let p : IsReadOf Q (a_record license) d t = g v (a_record license) d t (under_was (to_member (codes "license")) (read v (a_record license) d) t e) in (license_choice Q t p.0, p.1)
 
-choice_good : (b : Bool) (o : Object) (v : SpecVersion) (d : Depth) (t : Tree) → GoodObject o → choice_read b o v d ≡ Ok t → IsReadOf a_license_choice d t
-choice_good true o v d t g e = license_good (o (codes "license")) v d t (g (codes "license")) e
-choice_good false o v d t g e = flat_is a_license_choice expression d t (record_good expression o v d t g e) refl (λ ts h. (inr refl, h))
+choice_good : (Q : List ℕ → Type 0) → (b : Bool) (o : Object) (v : SpecVersion) (d : Depth) (t : Tree) → GoodObject Q o → choice_read b o v d ≡ Ok t → IsReadOf Q a_license_choice d t
+choice_good Q true o v d t g e = license_good Q (o (codes "license")) v d t (g (codes "license")) e
+choice_good Q false o v d t g e = flat_is Q a_license_choice expression d t (record_good Q expression o v d t g e) refl (λ ts h. (inr refl, h))
 
-tools_good : (v : SpecVersion) (o : Object) (d : Depth) (t : Tree) → GoodObject o → tools_read v o d ≡ Ok t → IsReadOf a_tools d t
-tools_good V1_3 o d t g e = absurd (err_ok e)
-tools_good V1_4 o d t g e = absurd (err_ok e)
-tools_good V1_5 o d t g e = flat_is a_tools tools_object d t (record_good tools_object o V1_5 d t g e) refl (λ ts h. (refl, h))
+tools_good : (Q : List ℕ → Type 0) → (v : SpecVersion) (o : Object) (d : Depth) (t : Tree) → GoodObject Q o → tools_read v o d ≡ Ok t → IsReadOf Q a_tools d t
+tools_good Q V1_3 o d t g e = absurd (err_ok e)
+tools_good Q V1_4 o d t g e = absurd (err_ok e)
+tools_good Q V1_5 o d t g e = flat_is Q a_tools tools_object d t (record_good Q tools_object o V1_5 d t g e) refl (λ ts h. (refl, h))
 
 field_shallow : (ts : Trees) (d : Depth) → are_shallow ts d ≡ true → is_shallow (field 2 ts) d ≡ true
 unfolding is_shallow
@@ -273,64 +272,64 @@ field_shallow (more a none) d h = refl
 field_shallow (more a (more b none)) d h = refl
 field_shallow (more a (more b (more c ts))) d h = (and_true (is_shallow c d) (are_shallow ts d) (and_true (is_shallow b d) (is_shallow c d && are_shallow ts d) (and_true (is_shallow a d) (is_shallow b d && (is_shallow c d && are_shallow ts d)) h).1).1).0
 
-pub flow_entry : (ts : Trees) (d : Depth) → AreRead (rows service_data) d ts → IsReadOf an_entry d (entry_of (fields service_data ts))
+pub flow_entry : (Q : List ℕ → Type 0) → (ts : Trees) (d : Depth) → AreRead Q (rows service_data) d ts → IsReadOf Q an_entry d (entry_of (fields service_data ts))
 unfolding is_shallow
-flow_entry ts d h = by (is_flow service_data ts) refl
+flow_entry Q ts d h = by (is_flow service_data ts) refl
   where
-    by : (b : Bool) → is_flow service_data ts ≡ b → IsReadOf an_entry d (if b then fields service_data ts else field 2 ts)
+    by : (b : Bool) → is_flow service_data ts ≡ b → IsReadOf Q an_entry d (if b then fields service_data ts else field 2 ts)
     by true f = ((inr (refl, f), h.0), h.1)
-    by false f = (class_entry (field 2 ts) (third_of ts h.0), field_shallow ts d h.1)
+    by false f = (class_entry Q (field 2 ts) (third_of Q ts h.0), field_shallow ts d h.1)
 
-class_entry_good : (o : Object) (v : SpecVersion) (d : Depth) (t : Tree) → GoodObject o → record_read classification o v d ≡ Ok t → IsReadOf an_entry d t
-class_entry_good o v d t g e = flat_is an_entry classification d t (record_good classification o v d t g e) refl (λ ts h. (inl refl, h))
+class_entry_good : (Q : List ℕ → Type 0) → (o : Object) (v : SpecVersion) (d : Depth) (t : Tree) → GoodObject Q o → record_read classification o v d ≡ Ok t → IsReadOf Q an_entry d t
+class_entry_good Q o v d t g e = flat_is Q an_entry classification d t (record_good Q classification o v d t g e) refl (λ ts h. (inl refl, h))
 
-entry_good : (v : SpecVersion) (o : Object) (d : Depth) (t : Tree) → GoodObject o → entry_read v o d ≡ Ok t → IsReadOf an_entry d t
-entry_good V1_3 o d t g e = class_entry_good o V1_3 d t g e
-entry_good V1_4 o d t g e = class_entry_good o V1_4 d t g e
-entry_good V1_5 o d t g e =
+entry_good : (Q : List ℕ → Type 0) → (v : SpecVersion) (o : Object) (d : Depth) (t : Tree) → GoodObject Q o → entry_read v o d ≡ Ok t → IsReadOf Q an_entry d t
+entry_good Q V1_3 o d t g e = class_entry_good Q o V1_3 d t g e
+entry_good Q V1_4 o d t g e = class_entry_good Q o V1_4 d t g e
+entry_good Q V1_5 o d t g e =
     let x : (s : Tree) × (record_read service_data o V1_5 d ≡ Ok s) × (Ok (entry_of s) ≡ Ok t) = bind_ok (record_read service_data o V1_5 d) (λ s. Ok (entry_of s)) t e in
-    let p : IsRecordRead service_data d x.0 = record_good service_data o V1_5 d x.0 g x.1 in
-    subst (λ (y : Tree). IsReadOf an_entry d y) (ap entry_of (sym p.1) ∙ ok_same x.2) (flow_entry p.0 d p.2)
+    let p : IsRecordRead Q service_data d x.0 = record_good Q service_data o V1_5 d x.0 g x.1 in
+    subst (λ (y : Tree). IsReadOf Q an_entry d y) (ap entry_of (sym p.1) ∙ ok_same x.2) (flow_entry Q p.0 d p.2)
 
-signer_good : (o : Object) (v : SpecVersion) (d : Depth) (t : Tree) → GoodObject o → record_read signer o v d ≡ Ok t → IsReadOf a_signature d t
-signer_good o v d t g e = flat_is a_signature signer d t (record_good signer o v d t g e) refl (λ ts h. (inr (inr refl), h))
+signer_good : (Q : List ℕ → Type 0) → (o : Object) (v : SpecVersion) (d : Depth) (t : Tree) → GoodObject Q o → record_read signer o v d ≡ Ok t → IsReadOf Q a_signature d t
+signer_good Q o v d t g e = flat_is Q a_signature signer d t (record_good Q signer o v d t g e) refl (λ ts h. (inr (inr refl), h))
 
-pub chain_is : (d : Depth) (s : Tree) → IsReadOf (a_list chain_list) d s → IsReadOf a_signature d (fields chain (one s))
+pub chain_is : (Q : List ℕ → Type 0) → (d : Depth) (s : Tree) → IsReadOf Q (a_list chain_list) d s → IsReadOf Q a_signature d (fields chain (one s))
 unfolding rows is_shallow
-chain_is d s h = ((inr (inl refl), (inr h.0, tt)), both (is_shallow s d) true h.1 refl)
+chain_is Q d s h = ((inr (inl refl), (inr h.0, tt)), both (is_shallow s d) true h.1 refl)
 
-pub signers_is : (d : Depth) (s : Tree) → IsReadOf (a_list signer_list) d s → IsReadOf a_signature d (fields signers (one s))
+pub signers_is : (Q : List ℕ → Type 0) → (d : Depth) (s : Tree) → IsReadOf Q (a_list signer_list) d s → IsReadOf Q a_signature d (fields signers (one s))
 unfolding rows is_shallow
-signers_is d s h = ((inl refl, (inr h.0, tt)), both (is_shallow s d) true h.1 refl)
+signers_is Q d s h = ((inl refl, (inr h.0, tt)), both (is_shallow s d) true h.1 refl)
 
-chain_good : (f : Found) (o : Object) (v : SpecVersion) (d : Depth) (t : Tree) → GoodFound f → GoodObject o → chain_read f o v d ≡ Ok t → IsReadOf a_signature d t
-chain_good nothing o v d t g h e = signer_good o v d t h e
-chain_good a_null o v d t g h e = signer_good o v d t h e
-chain_good (found read) o v d t g h e =
+chain_good : (Q : List ℕ → Type 0) → (f : Found) (o : Object) (v : SpecVersion) (d : Depth) (t : Tree) → GoodFound Q f → GoodObject Q o → chain_read f o v d ≡ Ok t → IsReadOf Q a_signature d t
+chain_good Q nothing o v d t g h e = signer_good Q o v d t h e
+chain_good Q a_null o v d t g h e = signer_good Q o v d t h e
+chain_good Q (found read) o v d t g h e =
     let x : (s : Tree) × (under (to_member (codes "chain")) (read v (a_list chain_list) d) ≡ Ok s) × (Ok (fields chain (one s)) ≡ Ok t) = bind_ok (under (to_member (codes "chain")) (read v (a_list chain_list) d)) (λ s. Ok (fields chain (one s))) t e in
-    subst (λ (y : Tree). IsReadOf a_signature d y) (ok_same x.2) (chain_is d x.0 (g v (a_list chain_list) d x.0 (under_was (to_member (codes "chain")) (read v (a_list chain_list) d) x.0 x.1)))
+    subst (λ (y : Tree). IsReadOf Q a_signature d y) (ok_same x.2) (chain_is Q d x.0 (g v (a_list chain_list) d x.0 (under_was (to_member (codes "chain")) (read v (a_list chain_list) d) x.0 x.1)))
 
-signature_good : (f : Found) (o : Object) (v : SpecVersion) (d : Depth) (t : Tree) → GoodFound f → GoodObject o → signature_read f o v d ≡ Ok t → IsReadOf a_signature d t
-signature_good nothing o v d t g h e = chain_good (o (codes "chain")) o v d t (h (codes "chain")) h e
-signature_good a_null o v d t g h e = chain_good (o (codes "chain")) o v d t (h (codes "chain")) h e
-signature_good (found read) o v d t g h e =
+signature_good : (Q : List ℕ → Type 0) → (f : Found) (o : Object) (v : SpecVersion) (d : Depth) (t : Tree) → GoodFound Q f → GoodObject Q o → signature_read f o v d ≡ Ok t → IsReadOf Q a_signature d t
+signature_good Q nothing o v d t g h e = chain_good Q (o (codes "chain")) o v d t (h (codes "chain")) h e
+signature_good Q a_null o v d t g h e = chain_good Q (o (codes "chain")) o v d t (h (codes "chain")) h e
+signature_good Q (found read) o v d t g h e =
     let x : (s : Tree) × (under (to_member (codes "signers")) (read v (a_list signer_list) d) ≡ Ok s) × (Ok (fields signers (one s)) ≡ Ok t) = bind_ok (under (to_member (codes "signers")) (read v (a_list signer_list) d)) (λ s. Ok (fields signers (one s))) t e in
-    subst (λ (y : Tree). IsReadOf a_signature d y) (ok_same x.2) (signers_is d x.0 (g v (a_list signer_list) d x.0 (under_was (to_member (codes "signers")) (read v (a_list signer_list) d) x.0 x.1)))
+    subst (λ (y : Tree). IsReadOf Q a_signature d y) (ok_same x.2) (signers_is Q d x.0 (g v (a_list signer_list) d x.0 (under_was (to_member (codes "signers")) (read v (a_list signer_list) d) x.0 x.1)))
 
-bill_good : (o : Object) (v : SpecVersion) (d : Depth) (t : Tree) → GoodObject o → bill_read o v d ≡ Ok t → IsReadOf a_bill d t
-bill_good o v d t g e =
+bill_good : (Q : List ℕ → Type 0) → (o : Object) (v : SpecVersion) (d : Depth) (t : Tree) → GoodObject Q o → bill_read o v d ≡ Ok t → IsReadOf Q a_bill d t
+bill_good Q o v d t g e =
     let x : (s : Tree) × (under (to_member (codes "bomFormat")) (format_read (o (codes "bomFormat")) v d) ≡ Ok s) × (record_read bill o v d ≡ Ok t) = bind_ok (under (to_member (codes "bomFormat")) (format_read (o (codes "bomFormat")) v d)) (λ s. record_read bill o v d) t e in
-    flat_is a_bill bill d t (record_good bill o v d t g x.2) refl (λ ts h. (refl, h))
+    flat_is Q a_bill bill d t (record_good Q bill o v d t g x.2) refl (λ ts h. (refl, h))
 
-object_good : (ms : Members) (o : Object) (v : SpecVersion) (k : Kind) (d : Depth) (t : Tree) → GoodObject o → is_too_deep k d ≡ false → object_read ms o v k d ≡ Ok t → IsReadOf k d t
-object_good ms o v (a_record n) d t g deep e = flat_is (a_record n) n d t (record_good n o v (inside n d) t g e) deep (λ ts h. (refl, h))
-object_good ms o v a_license_choice d t g deep e = choice_good (is_lone_license ms) o v d t g e
-object_good ms o v a_license_identifier d t g deep e = identifier_is d t (id_good (o (codes "id")) o v d t (g (codes "id")) g e)
-object_good ms o v a_tools d t g deep e = tools_good v o d t g e
-object_good ms o v an_entry d t g deep e = entry_good v o d t g e
-object_good ms o v a_signature d t g deep e = signature_good (o (codes "signers")) o v d t (g (codes "signers")) g e
-object_good ms o v a_bill d t g deep e = bill_good o v d t g e
-object_good ms o v _ d t g deep e = absurd (err_ok e)
+object_good : (Q : List ℕ → Type 0) → (ms : Members) (o : Object) (v : SpecVersion) (k : Kind) (d : Depth) (t : Tree) → GoodObject Q o → is_too_deep k d ≡ false → object_read ms o v k d ≡ Ok t → IsReadOf Q k d t
+object_good Q ms o v (a_record n) d t g deep e = flat_is Q (a_record n) n d t (record_good Q n o v (inside n d) t g e) deep (λ ts h. (refl, h))
+object_good Q ms o v a_license_choice d t g deep e = choice_good Q (is_lone_license ms) o v d t g e
+object_good Q ms o v a_license_identifier d t g deep e = identifier_is Q d t (id_good Q (o (codes "id")) o v d t (g (codes "id")) g e)
+object_good Q ms o v a_tools d t g deep e = tools_good Q v o d t g e
+object_good Q ms o v an_entry d t g deep e = entry_good Q v o d t g e
+object_good Q ms o v a_signature d t g deep e = signature_good Q (o (codes "signers")) o v d t (g (codes "signers")) g e
+object_good Q ms o v a_bill d t g deep e = bill_good Q o v d t g e
+object_good Q ms o v _ d t g deep e = absurd (err_ok e)
 
 -- ---- values
 
@@ -338,107 +337,107 @@ at_depth_was : (b : Bool) (r : Result Tree JsonFault) (t : Tree) → (if b then 
 at_depth_was true r t e = absurd (err_ok e)
 at_depth_was false r t e = (refl, e)
 
-read_text : (s : List ℕ) (k : Kind) (d : Depth) (t : Tree) → IsTextOf k s → as_ok Tree JsonFault (text s) ≡ Ok t → IsReadOf k d t
+read_text : (Q : List ℕ → Type 0) → (s : List ℕ) (k : Kind) (d : Depth) (t : Tree) → IsTextOf Q k s → as_ok Tree JsonFault (text s) ≡ Ok t → IsReadOf Q k d t
 unfolding is_shallow
-read_text s k d t h e = subst (λ (x : Tree). IsReadOf k d x) (ok_same e) (h, refl)
+read_text Q s k d t h e = subst (λ (x : Tree). IsReadOf Q k d x) (ok_same e) (h, refl)
 
-version_good : (s : List ℕ) (d : Depth) (t : Tree) → version_read s ≡ Ok t → IsReadOf a_version d t
-version_good s d t e = by (is_label s) refl e
+version_good : (Q : List ℕ → Type 0) → (s : List ℕ) (d : Depth) (t : Tree) → version_read s ≡ Ok t → IsReadOf Q a_version d t
+version_good Q s d t e = by (is_label s) refl e
   where
-    by : (b : Bool) → is_label s ≡ b → (if b then Ok (text s) else here bad_spec_version) ≡ Ok t → IsReadOf a_version d t
-    by true h f = read_text s a_version d t h f
+    by : (b : Bool) → is_label s ≡ b → (if b then Ok (text s) else here bad_spec_version) ≡ Ok t → IsReadOf Q a_version d t
+    by true h f = read_text Q s a_version d t h f
     by false h f = absurd (err_ok f)
 
-text_good : (s : List ℕ) (k : Kind) (d : Depth) (t : Tree) → IsUtf8 s → text_read s k ≡ Ok t → IsReadOf k d t
-text_good s a_text d t u e = read_text s a_text d t u e
-text_good s a_reference d t u e = read_text s a_reference d t u e
-text_good s a_version d t u e = version_good s d t e
-text_good s _ d t u e = absurd (err_ok e)
+text_good : (Q : List ℕ → Type 0) → (s : List ℕ) (k : Kind) (d : Depth) (t : Tree) → Q s → text_read s k ≡ Ok t → IsReadOf Q k d t
+text_good Q s a_text d t u e = read_text Q s a_text d t u e
+text_good Q s a_reference d t u e = read_text Q s a_reference d t u e
+text_good Q s a_version d t u e = version_good Q s d t e
+text_good Q s _ d t u e = absurd (err_ok e)
 
-boolean_good : (b : Bool) (k : Kind) (d : Depth) (t : Tree) → boolean_read b k ≡ Ok t → IsReadOf k d t
+boolean_good : (Q : List ℕ → Type 0) → (b : Bool) (k : Kind) (d : Depth) (t : Tree) → boolean_read b k ≡ Ok t → IsReadOf Q k d t
 unfolding is_shallow
-boolean_good b a_boolean d t e = subst (λ (x : Tree). IsReadOf a_boolean d x) (ok_same e) (tt, refl)
-boolean_good b _ d t e = absurd (err_ok e)
+boolean_good Q b a_boolean d t e = subst (λ (x : Tree). IsReadOf Q a_boolean d x) (ok_same e) (tt, refl)
+boolean_good Q b _ d t e = absurd (err_ok e)
 
 pub above : (n m : ℕ) → nat_lt n m ≡ true → n < m
 above n m h = grind arith
 
-number_good : (n : Num) (d : Depth) (t : Tree) → number_read n ≡ Ok t → IsReadOf a_number d t
+number_good : (Q : List ℕ → Type 0) → (n : Num) (d : Depth) (t : Tree) → number_read n ≡ Ok t → IsReadOf Q a_number d t
 unfolding is_shallow
-number_good (unsigned n) d t e = by (nat_lt n (2 ^ 32)) refl e
+number_good Q (unsigned n) d t e = by (nat_lt n (2 ^ 32)) refl e
   where
-    by : (b : Bool) → nat_lt n (2 ^ 32) ≡ b → (if b then Ok (number n) else here out_of_range) ≡ Ok t → IsReadOf a_number d t
-    by true h f = subst (λ (x : Tree). IsReadOf a_number d x) (ok_same f) (above n (2 ^ 32) h, refl)
+    by : (b : Bool) → nat_lt n (2 ^ 32) ≡ b → (if b then Ok (number n) else here out_of_range) ≡ Ok t → IsReadOf Q a_number d t
+    by true h f = subst (λ (x : Tree). IsReadOf Q a_number d x) (ok_same f) (above n (2 ^ 32) h, refl)
     by false h f = absurd (err_ok f)
-number_good (negative z) d t e = absurd (err_ok e)
-number_good (float x) d t e = absurd (err_ok e)
+number_good Q (negative z) d t e = absurd (err_ok e)
+number_good Q (float x) d t e = absurd (err_ok e)
 
-integer_good : (n : Num) (k : Kind) (d : Depth) (t : Tree) → integer_read n k ≡ Ok t → IsReadOf k d t
-integer_good n a_number d t e = number_good n d t e
-integer_good n _ d t e = absurd (err_ok e)
+integer_good : (Q : List ℕ → Type 0) → (n : Num) (k : Kind) (d : Depth) (t : Tree) → integer_read n k ≡ Ok t → IsReadOf Q k d t
+integer_good Q n a_number d t e = number_good Q n d t e
+integer_good Q n _ d t e = absurd (err_ok e)
 
-abbrev pub AllRead : Kind → Depth → Trees → Type 0
-AllRead k d ts = AreOf ts k × (are_shallow ts d ≡ true)
+abbrev pub AllRead : (Q : List ℕ → Type 0) → Kind → Depth → Trees → Type 0
+AllRead Q k d ts = AreOfAll Q ts k × (are_shallow ts d ≡ true)
 
-gathered_good : (k : Kind) (v : SpecVersion) (read : Kind → Result Trees JsonFault) (d : Depth) (t : Tree) → ((i : Kind) (ts : Trees) → read i ≡ Ok ts → AllRead i d ts) → array_read (item_kind k v) read k ≡ Ok t → IsReadOf k d t
+gathered_good : (Q : List ℕ → Type 0) → (k : Kind) (v : SpecVersion) (read : Kind → Result Trees JsonFault) (d : Depth) (t : Tree) → ((i : Kind) (ts : Trees) → read i ≡ Ok ts → AllRead Q i d ts) → array_read (item_kind k v) read k ≡ Ok t → IsReadOf Q k d t
 unfolding is_shallow list
-gathered_good (a_list l) v read d t f e =
+gathered_good Q (a_list l) v read d t f e =
     let x : (ts : Trees) × (read (list l).kind ≡ Ok ts) × (Ok (items ts) ≡ Ok t) = bind_ok (read (list l).kind) (λ ts. Ok (items ts)) t e in
-    let p : AllRead (list l).kind d x.0 = f (list l).kind x.0 x.1 in
-    subst (λ (y : Tree). IsReadOf (a_list l) d y) (ok_same x.2) ((tt, p.0), p.1)
-gathered_good a_tools v read d t f e =
+    let p : AllRead Q (list l).kind d x.0 = f (list l).kind x.0 x.1 in
+    subst (λ (y : Tree). IsReadOf Q (a_list l) d y) (ok_same x.2) ((tt, p.0), p.1)
+gathered_good Q a_tools v read d t f e =
     let x : (ts : Trees) × (read (list tool_list).kind ≡ Ok ts) × (Ok (items ts) ≡ Ok t) = bind_ok (read (list tool_list).kind) (λ ts. Ok (items ts)) t e in
-    let p : AllRead (list tool_list).kind d x.0 = f (list tool_list).kind x.0 x.1 in
-    subst (λ (y : Tree). IsReadOf a_tools d y) (ok_same x.2) ((tt, p.0), p.1)
-gathered_good a_data v read d t f e =
+    let p : AllRead Q (list tool_list).kind d x.0 = f (list tool_list).kind x.0 x.1 in
+    subst (λ (y : Tree). IsReadOf Q a_tools d y) (ok_same x.2) ((tt, p.0), p.1)
+gathered_good Q a_data v read d t f e =
     let x : (ts : Trees) × (read an_entry ≡ Ok ts) × (Ok (items ts) ≡ Ok t) = bind_ok (read an_entry) (λ ts. Ok (items ts)) t e in
-    let p : AllRead an_entry d x.0 = f an_entry x.0 x.1 in
-    subst (λ (y : Tree). IsReadOf a_data d y) (ok_same x.2) ((tt, p.0), p.1)
-gathered_good a_signature v read d t f e =
+    let p : AllRead Q an_entry d x.0 = f an_entry x.0 x.1 in
+    subst (λ (y : Tree). IsReadOf Q a_data d y) (ok_same x.2) ((tt, p.0), p.1)
+gathered_good Q a_signature v read d t f e =
     let x : (ts : Trees) × (read (a_record signer) ≡ Ok ts) × (Ok (fields signers (one (items ts))) ≡ Ok t) = bind_ok (read (a_record signer)) (λ ts. Ok (fields signers (one (items ts)))) t e in
-    let p : AllRead (a_record signer) d x.0 = f (a_record signer) x.0 x.1 in
-    subst (λ (y : Tree). IsReadOf a_signature d y) (ok_same x.2) (signers_is d (items x.0) ((tt, p.0), p.1))
-gathered_good _ v read d t f e = absurd (err_ok e)
+    let p : AllRead Q (a_record signer) d x.0 = f (a_record signer) x.0 x.1 in
+    subst (λ (y : Tree). IsReadOf Q a_signature d y) (ok_same x.2) (signers_is Q d (items x.0) ((tt, p.0), p.1))
+gathered_good Q _ v read d t f e = absurd (err_ok e)
 
-match_good : (o : Ordering) (a b : Found) → GoodFound a → GoodFound b → GoodFound (match_ordering o a b a)
-match_good Less a b p q = p
-match_good Equal a b p q = q
-match_good Greater a b p q = p
+match_good : (Q : List ℕ → Type 0) → (o : Ordering) (a b : Found) → GoodFound Q a → GoodFound Q b → GoodFound Q (match_ordering o a b a)
+match_good Q Less a b p q = p
+match_good Q Equal a b p q = q
+match_good Q Greater a b p q = p
 
-as_found_good : (x : Data) (read : Reading) → Good read → GoodFound (as_found x read)
-as_found_good json.null read g = tt
-as_found_good (json.boolean b) read g = g
-as_found_good (json.number n) read g = g
-as_found_good (json.string s) read g = g
-as_found_good (json.array xs) read g = g
-as_found_good (json.object ms) read g = g
+as_found_good : (Q : List ℕ → Type 0) → (x : Data) (read : Reading) → Good Q read → GoodFound Q (as_found x read)
+as_found_good Q json.null read g = tt
+as_found_good Q (json.boolean b) read g = g
+as_found_good Q (json.number n) read g = g
+as_found_good Q (json.string s) read g = g
+as_found_good Q (json.array xs) read g = g
+as_found_good Q (json.object ms) read g = g
 
 mutual
   unfolding jread is_shallow
 
-  pub jread_of : (x : Data) → AreTexts x → (v : SpecVersion) (k : Kind) (d : Depth) (t : Tree) → jread x v k d ≡ Ok t → IsReadOf k d t
-  jread_of json.null u v k d t e = absurd (err_ok (at_depth_was (is_too_deep k d) (here wrong_kind) t e).1)
-  jread_of (json.boolean b) u v k d t e = boolean_good b k d t (at_depth_was (is_too_deep k d) (boolean_read b k) t e).1
-  jread_of (json.number n) u v k d t e = integer_good n k d t (at_depth_was (is_too_deep k d) (integer_read n k) t e).1
-  jread_of (json.string s) u v k d t e = text_good s k d t u (at_depth_was (is_too_deep k d) (text_read s k) t e).1
-  jread_of (json.array xs) u v k d t e =
-      gathered_good k v (λ i. items_read xs v i d 0) d t (λ i ts h. items_read_of xs u v i d 0 ts h) (at_depth_was (is_too_deep k d) (array_read (item_kind k v) (λ i. items_read xs v i d 0) k) t e).1
-  jread_of (json.object ms) u v k d t e =
+  pub jread_of : (Q : List ℕ → Type 0) → (x : Data) → AreTexts Q x → (v : SpecVersion) (k : Kind) (d : Depth) (t : Tree) → jread x v k d ≡ Ok t → IsReadOf Q k d t
+  jread_of Q json.null u v k d t e = absurd (err_ok (at_depth_was (is_too_deep k d) (here wrong_kind) t e).1)
+  jread_of Q (json.boolean b) u v k d t e = boolean_good Q b k d t (at_depth_was (is_too_deep k d) (boolean_read b k) t e).1
+  jread_of Q (json.number n) u v k d t e = integer_good Q n k d t (at_depth_was (is_too_deep k d) (integer_read n k) t e).1
+  jread_of Q (json.string s) u v k d t e = text_good Q s k d t u (at_depth_was (is_too_deep k d) (text_read s k) t e).1
+  jread_of Q (json.array xs) u v k d t e =
+      gathered_good Q k v (λ i. items_read xs v i d 0) d t (λ i ts h. items_read_of Q xs u v i d 0 ts h) (at_depth_was (is_too_deep k d) (array_read (item_kind k v) (λ i. items_read xs v i d 0) k) t e).1
+  jread_of Q (json.object ms) u v k d t e =
       let p : (is_too_deep k d ≡ false) × (object_read ms (seen ms) v k d ≡ Ok t) = at_depth_was (is_too_deep k d) (object_read ms (seen ms) v k d) t e in
-      object_good ms (seen ms) v k d t (seen_of ms u) p.0 p.1
+      object_good Q ms (seen ms) v k d t (seen_of Q ms u) p.0 p.1
 
-  items_read_of : (xs : Items) → AreTextsIn xs → (v : SpecVersion) (k : Kind) (d : Depth) (n : ℕ) (ts : Trees) → items_read xs v k d n ≡ Ok ts → AllRead k d ts
-  items_read_of no_items u v k d n ts e = subst (λ (y : Trees). AllRead k d y) (ok_same e) (tt, refl)
-  items_read_of (item x xs) u v k d n ts e =
+  items_read_of : (Q : List ℕ → Type 0) → (xs : Items) → AreTextsIn Q xs → (v : SpecVersion) (k : Kind) (d : Depth) (n : ℕ) (ts : Trees) → items_read xs v k d n ≡ Ok ts → AllRead Q k d ts
+  items_read_of Q no_items u v k d n ts e = subst (λ (y : Trees). AllRead Q k d y) (ok_same e) (tt, refl)
+  items_read_of Q (item x xs) u v k d n ts e =
       let a : (t : Tree) × (under (to_item n) (jread x v k d) ≡ Ok t) × ((items_read xs v k d (suc n) >>= (λ us. Ok (more t us))) ≡ Ok ts) = bind_ok (under (to_item n) (jread x v k d)) (λ t. items_read xs v k d (suc n) >>= (λ us. Ok (more t us))) ts e in
       let b : (us : Trees) × (items_read xs v k d (suc n) ≡ Ok us) × (Ok (more a.0 us) ≡ Ok ts) = bind_ok (items_read xs v k d (suc n)) (λ us. Ok (more a.0 us)) ts a.2 in
-      let p : IsReadOf k d a.0 = jread_of x u.0 v k d a.0 (under_was (to_item n) (jread x v k d) a.0 a.1) in
-      let q : AllRead k d b.0 = items_read_of xs u.1 v k d (suc n) b.0 b.1 in
-      subst (λ (y : Trees). AllRead k d y) (ok_same b.2) ((p.0, q.0), both (is_shallow a.0 d) (are_shallow b.0 d) p.1 q.1)
+      let p : IsReadOf Q k d a.0 = jread_of Q x u.0 v k d a.0 (under_was (to_item n) (jread x v k d) a.0 a.1) in
+      let q : AllRead Q k d b.0 = items_read_of Q xs u.1 v k d (suc n) b.0 b.1 in
+      subst (λ (y : Trees). AllRead Q k d y) (ok_same b.2) ((p.0, q.0), both (is_shallow a.0 d) (are_shallow b.0 d) p.1 q.1)
 
-  seen_of : (ms : Members) → AreTextsOf ms → (q : List ℕ) → GoodFound (seen ms q)
-  seen_of no_members u q = tt
-  seen_of (json.member l x ms) u q = match_good (slice_cmp nat_cmp q l) (seen ms q) (as_found x (jread x)) (seen_of ms u.1 q) (as_found_good x (jread x) (λ v k d t e. jread_of x u.0 v k d t e))
+  seen_of : (Q : List ℕ → Type 0) → (ms : Members) → AreTextsOf Q ms → (q : List ℕ) → GoodFound Q (seen ms q)
+  seen_of Q no_members u q = tt
+  seen_of Q (json.member l x ms) u q = match_good Q (slice_cmp nat_cmp q l) (seen ms q) (as_found x (jread x)) (seen_of Q ms u.1 q) (as_found_good Q x (jread x) (λ v k d t e. jread_of Q x u.0 v k d t e))
 
 abbrev float_or : Option (List Step) → Result Tree JsonFault → Result Tree JsonFault
 float_or None r = r
@@ -449,5 +448,5 @@ no_float_was None r b h = h
 no_float_was (Some p) r b h = absurd (err_ok h)
 
 -- A bill that a JSON value denotes is of its kind and shallow.
-pub json_bill : (x : Data) (v : SpecVersion) (b : Tree) → AreTexts x → json_denotes x v ≡ Ok b → IsReadOf a_bill top b
-json_bill x v b u e = jread_of x u v a_bill top b (no_float_was (first_float x) (jread x v a_bill top) b e)
+pub json_bill : (Q : List ℕ → Type 0) → (x : Data) (v : SpecVersion) (b : Tree) → AreTexts Q x → json_denotes x v ≡ Ok b → IsReadOf Q a_bill top b
+json_bill Q x v b u e = jread_of Q x u v a_bill top b (no_float_was (first_float x) (jread x v a_bill top) b e)

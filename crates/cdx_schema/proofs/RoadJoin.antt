@@ -8,8 +8,7 @@ use Rattle.cdx_schema.specs.Kinds.{a_bill}
 use Rattle.cdx_schema.specs.Keeping.{keep, fits, has_versions}
 use Rattle.cdx_schema.specs.Trips.{Hop, last_of}
 use Rattle.cdx_schema.specs.Roads.{Doc, Refusal, version_missing, denotes, written, fits_all, hops_from, road}
-use Rattle.cdx_schema.specs.Laws.{IsBill, IsShallow, end_doc, DenotesBills, RoadsJoin}
-use Rattle.cdx_schema.specs.Texts.{HasTexts}
+use Rattle.cdx_schema.specs.Laws.{HasBillShape, IsShallow, end_doc, DenotesShapes, RoadsJoin}
 use Rattle.cdx_schema.proofs.JsonBack.{and_true, err_ok}
 use Rattle.cdx_schema.proofs.ReadOf.{ok_same}
 use Rattle.cdx_schema.proofs.RoadAfter.{IsNext, hop, fits_all_alike}
@@ -24,10 +23,10 @@ fits_append (x ∷ g) h b = ap (λ c. fits x.version b a_bill && c) (fits_append
 
 -- Where hops lead, and that further hops go on from there.
 abbrev Leads : List Hop → Doc → SpecVersion → Tree → List Doc → Tree → Type 0
-Leads hs x v c docs d = (hops_from x v hs ≡ Ok docs) × (denotes (end_doc x docs) (last_of v hs) ≡ Ok d) × IsBill d × IsShallow d × (has_versions d a_bill ≡ has_versions c a_bill)
+Leads hs x v c docs d = (hops_from x v hs ≡ Ok docs) × (denotes (end_doc x docs) (last_of v hs) ≡ Ok d) × HasBillShape d × IsShallow d × (has_versions d a_bill ≡ has_versions c a_bill)
     × ((rest : List Hop) (more : List Doc) → hops_from (end_doc x docs) (last_of v hs) rest ≡ Ok more → hops_from x v (hs ++ rest) ≡ Ok (docs ++ more))
 
-run : (hs : List Hop) (x : Doc) (v : SpecVersion) (c : Tree) → denotes x v ≡ Ok c → IsBill c → IsShallow c → fits_all hs c ≡ true → (docs : List Doc) × (d : Tree) × Leads hs x v c docs d
+run : (hs : List Hop) (x : Doc) (v : SpecVersion) (c : Tree) → denotes x v ≡ Ok c → HasBillShape c → IsShallow c → fits_all hs c ≡ true → (docs : List Doc) × (d : Tree) × Leads hs x v c docs d
 run [] x v c is of s f = ([], c, (refl, is, of, s, refl, λ rest more e. e))
 run (h ∷ hs) x v c is of s f =
     let w : SpecVersion = h.version in
@@ -53,13 +52,13 @@ refuted p q = absurd (err_ok (sym q ∙ p))
 
 -- What is known of a document: a fault, or a bill.
 abbrev pub Known : Doc → SpecVersion → Type 0
-Known x v = ((e : Refusal) × (denotes x v ≡ Err e)) ⊎ ((b : Tree) × (denotes x v ≡ Ok b) × IsBill b × IsShallow b)
+Known x v = ((e : Refusal) × (denotes x v ≡ Err e)) ⊎ ((b : Tree) × (denotes x v ≡ Ok b) × HasBillShape b × IsShallow b)
 
-pub known : DenotesBills → (x : Doc) (v : SpecVersion) → HasTexts x → Known x v
-known bills x v u = by (denotes x v) refl
+pub known : DenotesShapes → (x : Doc) (v : SpecVersion) → Known x v
+known bills x v = by (denotes x v) refl
   where
     by : (r : Result Tree Refusal) → denotes x v ≡ r → Known x v
-    by (Ok b) e = let p : IsBill b × IsShallow b = bills x v b u e in inr (b, e, p.0, p.1)
+    by (Ok b) e = let p : HasBillShape b × IsShallow b = bills x v b e in inr (b, e, p.0, p.1)
     by (Err f) e = inl (f, e)
 
 pub choose : {A : Type 0} (b : Bool) → (b ≡ true → A) → (b ≡ false → A) → A
@@ -70,7 +69,7 @@ choose false f g = g refl
 abbrev Open : Doc → SpecVersion → List Hop → Tree → List Doc → Tree → Type 0
 Open x v hs b docs d = (fits_all hs b ≡ true) × (road x v hs ≡ Ok docs) × Leads hs x v b docs d
 
-opened : (x : Doc) (v : SpecVersion) (hs : List Hop) (b : Tree) → denotes x v ≡ Ok b → IsBill b → IsShallow b → fits_all hs b ≡ true → (docs : List Doc) × (d : Tree) × Open x v hs b docs d
+opened : (x : Doc) (v : SpecVersion) (hs : List Hop) (b : Tree) → denotes x v ≡ Ok b → HasBillShape b → IsShallow b → fits_all hs b ≡ true → (docs : List Doc) × (d : Tree) × Open x v hs b docs d
 opened x v hs b is of s f =
     let r : (docs : List Doc) × (d : Tree) × Leads hs x v b docs d = run hs x v b is of s f in
     (r.0, r.1, (f, road_leads hs x v b is f ∙ r.2.0, r.2))
@@ -95,12 +94,12 @@ second x v hs rest b docs d is o = choose (fits_all rest b)
     inr (f, (r.0, r.2.1, road_leads (hs ++ rest) x v b is (fits_both hs rest b true true o.0 f) ∙ o.2.5 rest r.0 r.2.2.0)))
     (λ f. inl (f, road_lacks rest (end_doc x docs) (last_of v hs) d o.2.1 (fits_all_alike rest b d o.2.4 ∙ f)))
 
-pub roads_join : DenotesBills → RoadsJoin
-roads_join bills x v hs rest u = (whole, (forth (known bills x v u), back))
+pub roads_join : DenotesShapes → RoadsJoin
+roads_join bills x v hs rest = (whole, (forth (known bills x v), back))
   where
     whole : (docs more : List Doc) → road x v hs ≡ Ok docs → road (end_doc x docs) (last_of v hs) rest ≡ Ok more → road x v (hs ++ rest) ≡ Ok (docs ++ more)
     whole docs more p q =
-        let r : (b : Tree) × (denotes x v ≡ Ok b) × (d : Tree) × Open x v hs b docs d = reopened x v hs docs (known bills x v u) p in
+        let r : (b : Tree) × (denotes x v ≡ Ok b) × (d : Tree) × Open x v hs b docs d = reopened x v hs docs (known bills x v) p in
         elim (second x v hs rest r.0 docs r.2 r.1 r.3) [ inl e ↦ refuted q e.1 | inr e ↦ e.1.2 ∙ ap (λ m. Ok (docs ++ m)) (ok_same (sym e.1.1 ∙ q)) ]
 
     Either : Type 0
@@ -121,9 +120,9 @@ roads_join bills x v hs rest u = (whole, (forth (known bills x v u), back))
 
     from_second : (docs : List Doc) → road x v hs ≡ Ok docs → road (end_doc x docs) (last_of v hs) rest ≡ Err version_missing → road x v (hs ++ rest) ≡ Err version_missing
     from_second docs p q =
-        let r : (b : Tree) × (denotes x v ≡ Ok b) × (d : Tree) × Open x v hs b docs d = reopened x v hs docs (known bills x v u) p in
+        let r : (b : Tree) × (denotes x v ≡ Ok b) × (d : Tree) × Open x v hs b docs d = reopened x v hs docs (known bills x v) p in
         elim (second x v hs rest r.0 docs r.2 r.1 r.3) [ inl e ↦ road_lacks (hs ++ rest) x v r.0 r.1 (fits_both hs rest r.0 true false r.3.0 e.0) | inr e ↦ refuted e.1.1 q ]
 
     back : Either → road x v (hs ++ rest) ≡ Err version_missing
-    back (inl p) = from_first (known bills x v u) p
+    back (inl p) = from_first (known bills x v) p
     back (inr p) = from_second p.0 p.1 p.2

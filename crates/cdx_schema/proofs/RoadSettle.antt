@@ -13,7 +13,8 @@ use Rattle.cdx_schema.specs.JsonSpelling.{jspell}
 use Rattle.cdx_schema.specs.XmlSpelling.{root}
 use Rattle.cdx_schema.specs.Trips.{bare, settled, Form, in_json, in_xml, Hop, lowest_of, last_of, trips}
 use Rattle.cdx_schema.specs.Roads.{Doc, json, xml, denotes, written, fits_all, hops_from, road}
-use Rattle.cdx_schema.specs.Laws.{IsBill, IsShallow, after_all, lowest_with, xml_count, doc_after, IsAlike, DenotesBills, RoadsSettle}
+use Rattle.cdx_schema.specs.Membership.{AnyText}
+use Rattle.cdx_schema.specs.Laws.{HasBillShape, IsShallow, after_all, lowest_with, xml_count, doc_after, IsAlike, DenotesShapes, RoadsSettle}
 use Rattle.cdx_schema.proofs.JsonBack.{and_true}
 use Rattle.cdx_schema.proofs.ReadOf.{ok_same, bind_ok}
 use Rattle.cdx_schema.proofs.KeptTwice.{kept_twice}
@@ -111,24 +112,24 @@ capped [] = inl refl
 capped (h ∷ hs) = capped_step h.form (xml_count 1 hs) (xml_count 2 hs) (capped hs) (to_one hs)
 
 -- What the second trip takes isn't written in XML.
-root_twice : (m n : ℕ) (y : Tree) (w : SpecVersion) → IsBill y → IsCapped m n → root (times n y) w ≡ root (times m y) w
+root_twice : (m n : ℕ) (y : Tree) (w : SpecVersion) → HasBillShape y → IsCapped m n → root (times n y) w ≡ root (times m y) w
 root_twice m n y w is (inl e) = ap (λ i. root (times i y) w) (sym e)
 root_twice m n y w is (inr e) =
     ap (λ i. root (times i y) w) e.1
     ∙ (ap (λ t. root t w) (bare_twice y a_bill is)
-    ∙ (root_unsupplied (bare y) w (bare_of y a_bill is)
+    ∙ (root_unsupplied (bare y) w (bare_of AnyText y a_bill is)
     ∙ ap (λ i. root (times i y) w) (sym e.0)))
 
 -- ---- the document of a hop
 
 -- What the hop's version keeps of the bill after the hops before it.
-keep_after : (b : Tree) (before : List Hop) (g : Hop) → IsBill b → keep g.version (after_all b before) a_bill ≡ trips before 2 (kept (lowest_with before g) g.version b a_bill)
+keep_after : (b : Tree) (before : List Hop) (g : Hop) → HasBillShape b → keep g.version (after_all b before) a_bill ≡ trips before 2 (kept (lowest_with before g) g.version b a_bill)
 keep_after b [] g of = refl
 keep_after b (h ∷ hs) g of =
     let u : SpecVersion = lowest_of h.version hs in
     let l : SpecVersion = last_of h.version hs in
     let w : SpecVersion = g.version in
-    kept_trips w w (h ∷ hs) 2 (kept u l b a_bill) (kept_of u l b a_bill of)
+    kept_trips w w (h ∷ hs) 2 (kept u l b a_bill) (kept_of AnyText u l b a_bill of)
     ∙ (ap (λ x. trips (h ∷ hs) 2 x) (kept_twice w u l w b a_bill of)
     ∙ ap (λ x. trips (h ∷ hs) 2 (kept x w b a_bill)) (lowest_sym w u ∙ sym (lowest_more h.version hs g)))
 
@@ -138,7 +139,7 @@ SameAt in_json w s t = keep w s a_bill ≡ keep w t a_bill
 SameAt in_xml w s t = root (keep w s a_bill) w ≡ root (keep w t a_bill) w
 
 -- what is kept, by the lowest version and the count
-by_count : (b : Tree) (g : List Hop) (a : Hop) (u w : SpecVersion) → IsBill b → a.version ≡ w → lowest_with g a ≡ u → keep w (after_all b g) a_bill ≡ times (xml_count 2 g) (kept u w b a_bill)
+by_count : (b : Tree) (g : List Hop) (a : Hop) (u w : SpecVersion) → HasBillShape b → a.version ≡ w → lowest_with g a ≡ u → keep w (after_all b g) a_bill ≡ times (xml_count 2 g) (kept u w b a_bill)
 by_count b g a u w of e f =
     ap (λ v. keep v (after_all b g) a_bill) (sym e)
     ∙ (keep_after b g a of
@@ -146,7 +147,7 @@ by_count b g a u w of e f =
     ∙ (ap (λ v. times (xml_count 2 g) (kept (lowest_with g a) v b a_bill)) e
     ∙ ap (λ v. times (xml_count 2 g) (kept v w b a_bill)) f)))
 
-same_at : (f : Form) (b : Tree) (g h : List Hop) (a c : Hop) → IsBill b → a.form ≡ f → c.form ≡ f → a.version ≡ c.version → lowest_with g a ≡ lowest_with h c → xml_count 2 (g ++ (a ∷ [])) ≡ xml_count 2 (h ++ (c ∷ [])) → SameAt f c.version (after_all b g) (after_all b h)
+same_at : (f : Form) (b : Tree) (g h : List Hop) (a c : Hop) → HasBillShape b → a.form ≡ f → c.form ≡ f → a.version ≡ c.version → lowest_with g a ≡ lowest_with h c → xml_count 2 (g ++ (a ∷ [])) ≡ xml_count 2 (h ++ (c ∷ [])) → SameAt f c.version (after_all b g) (after_all b h)
 same_at in_json b g h a c of p q versions lows counts =
     by_count b g a (lowest_with h c) c.version of versions lows
     ∙ (ap (λ i. times i (kept (lowest_with h c) c.version b a_bill)) (sym (count_json g a 2 p) ∙ (counts ∙ count_json h c 2 q))
@@ -154,7 +155,7 @@ same_at in_json b g h a c of p q versions lows counts =
 same_at in_xml b g h a c of p q versions lows counts =
     let y : Tree = kept (lowest_with h c) c.version b a_bill in
     let w : SpecVersion = c.version in
-    let is : IsBill y = kept_of (lowest_with h c) c.version b a_bill of in
+    let is : HasBillShape y = kept_of AnyText (lowest_with h c) c.version b a_bill of in
     ap (λ t. root t w) (by_count b g a (lowest_with h c) w of versions lows)
     ∙ (root_twice (xml_count 1 g) (xml_count 2 g) y w is (capped g)
     ∙ (ap (λ i. root (times i y) w) (suc_inj (sym (count_xml g a 1 p) ∙ (counts ∙ count_xml h c 1 q)))
@@ -193,7 +194,7 @@ first_hop h hs x v c docs is o =
     let z : (rest : List Doc) × (hops_from y h.version hs ≡ Ok rest) × (Ok (y ∷ rest) ≡ Ok docs) = bind_ok (hops_from y h.version hs) (λ rest. Ok (y ∷ rest)) docs i in
     (z.0, z.1, ok_same z.2)
 
-spot : (b : Tree) → IsBill b → (g before : List Hop) (a : Hop) (g' : List Hop) (x : Doc) (v : SpecVersion) (c : Tree) (z : Doc) (docs : List Doc) → denotes x v ≡ Ok c → IsBill c → IsShallow c → fits_all (g ++ (a ∷ g')) c ≡ true
+spot : (b : Tree) → HasBillShape b → (g before : List Hop) (a : Hop) (g' : List Hop) (x : Doc) (v : SpecVersion) (c : Tree) (z : Doc) (docs : List Doc) → denotes x v ≡ Ok c → HasBillShape c → IsShallow c → fits_all (g ++ (a ∷ g')) c ≡ true
     → settled c a_bill ≡ settled (after_all b before) a_bill → hops_from x v (g ++ (a ∷ g')) ≡ Ok docs → IsSpot b (before ++ g) a (doc_after g docs z)
 spot b ob [] before a g' x v c z docs is of s f e o =
     let p : (rest : List Doc) × (hops_from (written a.form a.version (keep a.version c a_bill)) a.version g' ≡ Ok rest) × (written a.form a.version (keep a.version c a_bill) ∷ rest ≡ docs) = first_hop a g' x v c docs is o in
@@ -209,16 +210,16 @@ spot b ob (h ∷ g) before a g' x v c z docs is of s f e o =
     let r : IsSpot b ((before ++ (h ∷ [])) ++ g) a (doc_after g p.0 z) = spot b ob g (before ++ (h ∷ [])) a g' y w n.0 z p.0 n.1.0 n.1.1 n.1.2 (fits_all_alike (g ++ (a ∷ g')) c n.0 n.1.3 ∙ q.1) same p.1 in
     (r.0, sym (ap (λ ds. doc_after (h ∷ g) ds z) p.2) ∙ r.1, r.2 ∙ ap (λ hs. settled (after_all b hs) a_bill) (one_by_one before h g))
 
-road_spot : (x : Doc) (v : SpecVersion) (g : List Hop) (a : Hop) (g' : List Hop) (docs : List Doc) → Known x v → road x v (g ++ (a ∷ g')) ≡ Ok docs → (b : Tree) × (denotes x v ≡ Ok b) × IsBill b × IsSpot b g a (doc_after g docs x)
+road_spot : (x : Doc) (v : SpecVersion) (g : List Hop) (a : Hop) (g' : List Hop) (docs : List Doc) → Known x v → road x v (g ++ (a ∷ g')) ≡ Ok docs → (b : Tree) × (denotes x v ≡ Ok b) × HasBillShape b × IsSpot b g a (doc_after g docs x)
 road_spot x v g a g' docs (inl e) o = refuted o (road_fails (g ++ (a ∷ g')) x v e.0 e.1)
 road_spot x v g a g' docs (inr k) o = choose (fits_all (g ++ (a ∷ g')) k.0)
     (λ f. (k.0, k.1, k.2, spot k.0 k.2 g [] a g' x v k.0 x docs k.1 k.2 k.3 f refl (sym (road_leads (g ++ (a ∷ g')) x v k.0 k.1 f) ∙ o)))
     (λ f. refuted o (road_lacks (g ++ (a ∷ g')) x v k.0 k.1 f))
 
-pub roads_settle : DenotesBills → RoadsSettle
-roads_settle bills x v g g' h h' a c docs docs' u o o' forms versions lows counts =
-    let m : (b : Tree) × (denotes x v ≡ Ok b) × IsBill b × IsSpot b g a (doc_after g docs x) = road_spot x v g a g' docs (known bills x v u) o in
-    let n : (b : Tree) × (denotes x v ≡ Ok b) × IsBill b × IsSpot b h c (doc_after h docs' x) = road_spot x v h c h' docs' (known bills x v u) o' in
+pub roads_settle : DenotesShapes → RoadsSettle
+roads_settle bills x v g g' h h' a c docs docs' o o' forms versions lows counts =
+    let m : (b : Tree) × (denotes x v ≡ Ok b) × HasBillShape b × IsSpot b g a (doc_after g docs x) = road_spot x v g a g' docs (known bills x v) o in
+    let n : (b : Tree) × (denotes x v ≡ Ok b) × HasBillShape b × IsSpot b h c (doc_after h docs' x) = road_spot x v h c h' docs' (known bills x v) o' in
     let b : Tree = m.0 in
     let p : (d : Tree) × (doc_after g docs x ≡ written a.form a.version (keep a.version d a_bill)) × (settled d a_bill ≡ settled (after_all b g) a_bill) = m.3 in
     let q : (d : Tree) × (doc_after h docs' x ≡ written c.form c.version (keep c.version d a_bill)) × (settled d a_bill ≡ settled (after_all n.0 h) a_bill) = n.3 in

@@ -9,7 +9,7 @@ use Rattle.cdx_schema.specs.Kinds.{Lists, hashes, properties, urls, contacts, co
 use Rattle.cdx_schema.specs.Table.{rows, list}
 use Rattle.cdx_schema.specs.Held.{held_kind}
 use Rattle.cdx_schema.specs.Keeping.{has_versions, items_have_versions, rows_have_versions, is_there}
-use Rattle.cdx_schema.specs.Membership.{IsOf, AreOf, AreFields, IsRecordOf}
+use Rattle.cdx_schema.specs.Membership.{HasShape, HaveShape, FieldsHaveShape, IsRecordOf}
 use Rattle.cdx_schema.proofs.JsonBack.{and_true}
 use Rattle.cdx_schema.proofs.XmlLaw.{is_list_kind}
 
@@ -138,7 +138,7 @@ fields_free n ts _ is h f = absurd (true≢false is)
 mutual
   unfolding has_versions
 
-  pub free_there : (t : Tree) (k : Kind) → IsOf t k → free_kind k ≡ true → has_versions t k ≡ true
+  pub free_there : (t : Tree) (k : Kind) → HasShape t k → free_kind k ≡ true → has_versions t k ≡ true
   free_there absent k h f = refl
   free_there (text s) k h f = refl
   free_there (number n) k h f = refl
@@ -146,11 +146,11 @@ mutual
   free_there (items ts) k h f = free_items ts (held_kind k) h.1 (held_free k f)
   free_there (fields n ts) k h f = fields_free n ts k h.0 f (λ g. free_rows ts (rows n) h.1 (rows_free n g))
 
-  pub free_items : (ts : Trees) (k : Kind) → AreOf ts k → free_kind k ≡ true → items_have_versions ts k ≡ true
+  pub free_items : (ts : Trees) (k : Kind) → HaveShape ts k → free_kind k ≡ true → items_have_versions ts k ≡ true
   free_items none k h f = refl
   free_items (more t ts) k h f = both (has_versions t k) (items_have_versions ts k) (free_there t k h.0 f) (free_items ts k h.1 f)
 
-  pub free_rows : (ts : Trees) (rs : List Row) → AreFields ts rs → all_free rs ≡ true → rows_have_versions ts rs ≡ true
+  pub free_rows : (ts : Trees) (rs : List Row) → FieldsHaveShape ts rs → all_free rs ≡ true → rows_have_versions ts rs ≡ true
   free_rows none rs h f = refl
   free_rows (more t ts) [] h f = refl
   free_rows (more t ts) (r ∷ rs) h f =

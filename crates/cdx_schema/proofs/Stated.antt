@@ -1,7 +1,9 @@
 -- The laws, proved.
 use Rattle.std.specs.Prelude.{◌≡◌, not, ◌||◌, true, Result, Ok, Err}
-use Rattle.cdx_schema.specs.Membership.{IsOf}
-use Rattle.cdx_schema.specs.Keeping.{is_shallow}
+use Rattle.std.specs.Str.{IsUtf8}
+use Rattle.std.proofs.lemmas.Str.{IsUtf8-nil}
+use Rattle.serde_json.specs.View.{view}
+use Rattle.cdx_schema.specs.Membership.{AnyText}
 use Rattle.cdx_models.specs.declared.errors.XmlReadError.{XmlReadError}
 use Rattle.cdx_schema.specs.Faults.{JsonFault}
 use Rattle.cdx_schema.specs.JsonReading.{json_denotes}
@@ -15,10 +17,12 @@ use Rattle.cdx_models.specs.Versions.{is_first}
 use Rattle.cdx_models.specs.Trees.{Tree}
 use Rattle.cdx_schema.specs.Kinds.{a_bill}
 use Rattle.cdx_schema.specs.Depth.{top}
+use Rattle.cdx_schema.proofs.Shape.{shape, any_texts, any_node}
+use Rattle.cdx_schema.proofs.ViewTexts.{view_texts}
 use Rattle.cdx_schema.specs.Keeping.{keep}
 use Rattle.cdx_schema.specs.Locality.{IsLocal}
 use Rattle.cdx_schema.proofs.Local.{local_faults}
-use Rattle.cdx_schema.specs.Laws.{ReadsBackJson, ReadsBackXml, KeepsTwice, StaysBill, StaysFit, StaysShallow, Commutes, SameOfSame, TakesTwice, Nests, DenotesBills, RoadsLead, RoadsJoin, RoadsSettle}
+use Rattle.cdx_schema.specs.Laws.{ReadsBackJson, ReadsBackXml, KeepsTwice, HasBillShape, IsShallow, BillsHaveShape, StaysBill, StaysFit, StaysShallow, Commutes, SameOfSame, TakesTwice, Nests, DenotesShapes, JsonDenotesBills, XmlDenotesBills, RoadsLead, RoadsJoin, RoadsSettle}
 use Rattle.cdx_schema.proofs.XmlLaw.{tripped}
 use Rattle.cdx_schema.proofs.SameTrip.{trip_same}
 use Rattle.cdx_schema.proofs.BillRead.{reads_json, reads_xml}
@@ -42,8 +46,11 @@ xml_back b w is s f = (tripped w (keep w b a_bill) a_bill, reads_xml b w is f s,
 pub keeps_twice : KeepsTwice
 keeps_twice b v w is = kept_twice v w w v b a_bill is
 
+pub bills_shaped : BillsHaveShape
+bills_shaped b is = shape IsUtf8 b a_bill is
+
 pub stays_bill : StaysBill
-stays_bill b w is = (kept_of w w b a_bill is, bare_of b a_bill is)
+stays_bill b w = ((λ is. (kept_of IsUtf8 w w b a_bill is, bare_of IsUtf8 b a_bill is)), (λ is. (kept_of AnyText w w b a_bill is, bare_of AnyText b a_bill is)))
 
 pub stays_fit : StaysFit
 stays_fit b v w is = (ap (λ x. not (is_first v) || x) (kept_versions w w b a_bill is), ap (λ x. not (is_first v) || x) (bare_versions b a_bill is))
@@ -68,21 +75,27 @@ from_xml_was : (r : Result Tree XmlReadError) (b : Tree) → from_xml r ≡ Ok b
 from_xml_was (Ok x) b h = ap Ok (ok_same h)
 from_xml_was (Err f) b h = absurd (err_ok h)
 
-pub denotes_bills : DenotesBills
-denotes_bills (json x) v b u h = json_bill x v b u (from_json_was (json_denotes x v) b h)
-denotes_bills (xml x) v b u h = xml_bill x v b u (from_xml_was (xml_denotes x v) b h)
+pub denotes_shapes : DenotesShapes
+denotes_shapes (json x) v b h = json_bill AnyText x v b (any_texts x) (from_json_was (json_denotes x v) b h)
+denotes_shapes (xml x) v b h = xml_bill AnyText tt x v b (any_node x) (from_xml_was (xml_denotes x v) b h)
+
+pub json_denotes_bills : JsonDenotesBills
+json_denotes_bills x v b h = json_bill IsUtf8 (view x) v b (view_texts x) h
+
+pub xml_denotes_bills : XmlDenotesBills
+xml_denotes_bills x v b u h = xml_bill IsUtf8 IsUtf8-nil x v b u h
 
 pub leads : RoadsLead
-leads b x v hops u h f = let p : IsOf b a_bill × (is_shallow b top ≡ true) = denotes_bills x v b u h in roads_lead b x v hops h p.0 p.1 f
+leads b x v hops h f = let p : HasBillShape b × IsShallow b = denotes_shapes x v b h in roads_lead b x v hops h p.0 p.1 f
 
 pub nests : Nests
 nests = bill_nests
 
 pub join : RoadsJoin
-join = roads_join denotes_bills
+join = roads_join denotes_shapes
 
 pub settle : RoadsSettle
-settle = roads_settle denotes_bills
+settle = roads_settle denotes_shapes
 
 pub faults_local : IsLocal
 faults_local = local_faults

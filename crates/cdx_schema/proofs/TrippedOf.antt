@@ -1,5 +1,5 @@
 -- What a trip makes of a tree of a kind is of that kind, and fits what the tree fits.
-use Rattle.std.specs.Prelude.{◌≡◌, refl, List, [], ◌∷◌, Bool, true, false, not, ◌&&◌, if◌then◌else◌, ◌⊎◌}
+use Rattle.std.specs.Prelude.{◌≡◌, refl, ℕ, List, [], ◌∷◌, Bool, true, false, not, ◌&&◌, if◌then◌else◌, ◌⊎◌}
 use Rattle.std.proofs.Common.{true≢false, inl, inr}
 use mathlib.Core.Path.{ap, sym, ◌∙◌, subst}
 use Rattle.cdx_models.specs.declared.bom.SpecVersion.{SpecVersion}
@@ -11,12 +11,12 @@ use Rattle.cdx_schema.specs.Held.{held_kind}
 use Rattle.cdx_models.specs.Entries.{is_flow}
 use Rattle.cdx_schema.specs.Depth.{Depth, inside, name_too_deep}
 use Rattle.cdx_schema.specs.Keeping.{has_versions, items_have_versions, rows_have_versions, is_there, is_shallow, are_shallow}
-use Rattle.cdx_schema.specs.Membership.{IsOf, AreOf, AreFields, IsListOf, IsRecordOf, may_lack}
+use Rattle.cdx_schema.specs.Membership.{IsOfAll, AreOfAll, AreFieldsAll, HasShape, HaveShape, FieldsHaveShape, IsListOf, IsRecordOf, may_lack}
 use Rattle.cdx_schema.specs.Trips.{bare, items_bare, rows_bare, is_hollow, is_passed_over, field_after, none_is_absent}
 use Rattle.cdx_schema.proofs.JsonBack.{and_true}
 use Rattle.cdx_schema.proofs.XmlLaw.{tripped, items_tripped, rows_tripped, list_after}
 use Rattle.cdx_schema.proofs.Sound.{both, free_kind, free_need, free_rows, sound_xml, all_sound, sound, sound_parts, whole_kind}
-use Rattle.cdx_schema.proofs.KeptOf.{IsField, there_alike, dropped_versions, and_alike}
+use Rattle.cdx_schema.proofs.KeptOf.{IsFieldAll, IsField, there_alike, dropped_versions, and_alike}
 
 -- ---- a trip takes as much in each version
 
@@ -53,13 +53,13 @@ mutual
 
 -- ---- kinds
 
-list_of_trip : (k : Kind) (w : SpecVersion) (us : Trees) → IsListOf k → AreOf us (held_kind k) → IsOf (list_after k w us) k
+list_of_trip : (Q : List ℕ → Type 0) → (k : Kind) (w : SpecVersion) (us : Trees) → IsListOf k → AreOfAll Q us (held_kind k) → IsOfAll Q (list_after k w us) k
 unfolding rows
-list_of_trip a_tools V1_5 none l h = (refl, (inl (refl, refl), (inl (refl, refl), tt)))
-list_of_trip a_tools V1_5 (more u us) l h = (l, h)
-list_of_trip a_tools V1_3 us l h = (l, h)
-list_of_trip a_tools V1_4 us l h = (l, h)
-list_of_trip _ w us l h = (l, h)
+list_of_trip Q a_tools V1_5 none l h = (refl, (inl (refl, refl), (inl (refl, refl), tt)))
+list_of_trip Q a_tools V1_5 (more u us) l h = (l, h)
+list_of_trip Q a_tools V1_3 us l h = (l, h)
+list_of_trip Q a_tools V1_4 us l h = (l, h)
+list_of_trip Q _ w us l h = (l, h)
 
 list_there : (k : Kind) (w : SpecVersion) (us : Trees) → is_absent (list_after k w us) ≡ false
 list_there a_tools V1_5 none = refl
@@ -102,23 +102,23 @@ read_lacks : (n : Need) (k : Kind) → sound_xml (read_child []) n k ≡ true �
 read_lacks optional k s = refl
 read_lacks _ k s = absurd (true≢false (sym s))
 
-none_of : (n : Need) (u : Tree) (k : Kind) → ((u ≡ absent) × (may_lack n ≡ true)) ⊎ IsOf u k → ((none_is_absent n u ≡ absent) × (may_lack n ≡ true)) ⊎ IsOf (none_is_absent n u) k
-none_of optional (items none) k h = inl (refl, refl)
-none_of optional (items (more u us)) k h = h
-none_of optional _ k h = h
-none_of _ u k h = h
+none_of : (Q : List ℕ → Type 0) → (n : Need) (u : Tree) (k : Kind) → ((u ≡ absent) × (may_lack n ≡ true)) ⊎ IsOfAll Q u k → ((none_is_absent n u ≡ absent) × (may_lack n ≡ true)) ⊎ IsOfAll Q (none_is_absent n u) k
+none_of Q optional (items none) k h = inl (refl, refl)
+none_of Q optional (items (more u us)) k h = h
+none_of Q optional _ k h = h
+none_of Q _ u k h = h
 
-field_of_trip : (r : Row) (t u : Tree) → sound_xml r.xml r.need r.kind ≡ true → IsField u r → IsField (field_after r t u) r
-field_of_trip r t u s h = by r.xml s
+field_of_trip : (Q : List ℕ → Type 0) → (r : Row) (t u : Tree) → sound_xml r.xml r.need r.kind ≡ true → IsFieldAll Q u r → IsFieldAll Q (field_after r t u) r
+field_of_trip Q r t u s h = by r.xml s
   where
-    by : (x : Spelled) → sound_xml x r.need r.kind ≡ true → IsField (field_after (record r { xml = x }) t u) r
+    by : (x : Spelled) → sound_xml x r.need r.kind ≡ true → IsFieldAll Q (field_after (record r { xml = x }) t u) r
     by (filled_child q) e = at (is_hollow t)
       where
-        at : (b : Bool) → IsField (if b then absent else u) r
+        at : (b : Bool) → IsFieldAll Q (if b then absent else u) r
         at true = inl (refl, filled_lacks r.need r.kind e)
         at false = h
     by (read_child q) e = inl (refl, read_lacks r.need r.kind e)
-    by (children q) e = none_of r.need u r.kind h
+    by (children q) e = none_of Q r.need u r.kind h
     by (attribute q) e = h
     by (attribute_or q m) e = h
     by content e = h
@@ -128,41 +128,41 @@ field_of_trip r t u s h = by r.xml s
     by (either_child q m) e = h
     by the_version e = h
 
-item_of_trip : (b : Bool) (t : Tree) (ts : Trees) (k : Kind) → IsOf t k → AreOf ts k → AreOf (if b then ts else more t ts) k
-item_of_trip true t ts k h g = g
-item_of_trip false t ts k h g = (h, g)
+item_of_trip : (Q : List ℕ → Type 0) → (b : Bool) (t : Tree) (ts : Trees) (k : Kind) → IsOfAll Q t k → AreOfAll Q ts k → AreOfAll Q (if b then ts else more t ts) k
+item_of_trip Q true t ts k h g = g
+item_of_trip Q false t ts k h g = (h, g)
 
-absent_trip : (w : SpecVersion) (t : Tree) (r : Row) → IsField t r → (IsOf t r.kind → IsOf (tripped w t r.kind) r.kind) → IsField (tripped w t r.kind) r
+absent_trip : (Q : List ℕ → Type 0) → (w : SpecVersion) (t : Tree) (r : Row) → IsFieldAll Q t r → (IsOfAll Q t r.kind → IsOfAll Q (tripped w t r.kind) r.kind) → IsFieldAll Q (tripped w t r.kind) r
 unfolding tripped
-absent_trip w t r (inl h) f = inl (ap (λ x. tripped w x r.kind) h.0, h.1)
-absent_trip w t r (inr h) f = inr (f h)
+absent_trip Q w t r (inl h) f = inl (ap (λ x. tripped w x r.kind) h.0, h.1)
+absent_trip Q w t r (inr h) f = inr (f h)
 
 mutual
   unfolding tripped
 
-  pub tripped_of : (w : SpecVersion) (t : Tree) (k : Kind) → IsOf t k → IsOf (tripped w t k) k
-  tripped_of w absent k h = h
-  tripped_of w (text s) k h = h
-  tripped_of w (number n) k h = h
-  tripped_of w (boolean b) k h = h
-  tripped_of w (items ts) k h = list_of_trip k w (items_tripped w ts (held_kind k)) h.0 (items_tripped_of w ts (held_kind k) h.1)
-  tripped_of w (fields n ts) k h = (record_of_trip w k n ts h.0, rows_tripped_of w ts (rows n) (sound n) h.1)
+  pub tripped_of : (Q : List ℕ → Type 0) → (w : SpecVersion) (t : Tree) (k : Kind) → IsOfAll Q t k → IsOfAll Q (tripped w t k) k
+  tripped_of Q w absent k h = h
+  tripped_of Q w (text s) k h = h
+  tripped_of Q w (number n) k h = h
+  tripped_of Q w (boolean b) k h = h
+  tripped_of Q w (items ts) k h = list_of_trip Q k w (items_tripped w ts (held_kind k)) h.0 (items_tripped_of Q w ts (held_kind k) h.1)
+  tripped_of Q w (fields n ts) k h = (record_of_trip w k n ts h.0, rows_tripped_of Q w ts (rows n) (sound n) h.1)
 
-  items_tripped_of : (w : SpecVersion) (ts : Trees) (k : Kind) → AreOf ts k → AreOf (items_tripped w ts k) k
-  items_tripped_of w none k h = tt
-  items_tripped_of w (more t ts) k h = item_of_trip (is_passed_over t) (tripped w t k) (items_tripped w ts k) k (tripped_of w t k h.0) (items_tripped_of w ts k h.1)
+  items_tripped_of : (Q : List ℕ → Type 0) → (w : SpecVersion) (ts : Trees) (k : Kind) → AreOfAll Q ts k → AreOfAll Q (items_tripped w ts k) k
+  items_tripped_of Q w none k h = tt
+  items_tripped_of Q w (more t ts) k h = item_of_trip Q (is_passed_over t) (tripped w t k) (items_tripped w ts k) k (tripped_of Q w t k h.0) (items_tripped_of Q w ts k h.1)
 
-  rows_tripped_of : (w : SpecVersion) (ts : Trees) (rs : List Row) → all_sound rs ≡ true → AreFields ts rs → AreFields (rows_tripped w ts rs) rs
-  rows_tripped_of w none [] s h = tt
-  rows_tripped_of w none (r ∷ rs) s h = h
-  rows_tripped_of w (more t ts) [] s h = absurd (true≢false h)
-  rows_tripped_of w (more t ts) (r ∷ rs) s h = (
-    field_of_trip r t (tripped w t r.kind) (sound_parts r rs s).1 (absent_trip w t r h.0 (tripped_of w t r.kind)),
-    rows_tripped_of w ts rs (sound_parts r rs s).2 h.1,
+  rows_tripped_of : (Q : List ℕ → Type 0) → (w : SpecVersion) (ts : Trees) (rs : List Row) → all_sound rs ≡ true → AreFieldsAll Q ts rs → AreFieldsAll Q (rows_tripped w ts rs) rs
+  rows_tripped_of Q w none [] s h = tt
+  rows_tripped_of Q w none (r ∷ rs) s h = h
+  rows_tripped_of Q w (more t ts) [] s h = absurd (true≢false h)
+  rows_tripped_of Q w (more t ts) (r ∷ rs) s h = (
+    field_of_trip Q r t (tripped w t r.kind) (sound_parts r rs s).1 (absent_trip Q w t r h.0 (tripped_of Q w t r.kind)),
+    rows_tripped_of Q w ts rs (sound_parts r rs s).2 h.1,
   )
 
-pub bare_of : (t : Tree) (k : Kind) → IsOf t k → IsOf (bare t) k
-bare_of t k h = subst (λ (x : Tree). IsOf x k) (bare_is t k) (tripped_of V1_3 t k h)
+pub bare_of : (Q : List ℕ → Type 0) → (t : Tree) (k : Kind) → IsOfAll Q t k → IsOfAll Q (bare t) k
+bare_of Q t k h = subst (λ (x : Tree). IsOfAll Q x k) (bare_is t k) (tripped_of Q V1_3 t k h)
 
 -- ---- versions
 
@@ -174,12 +174,12 @@ list_versions a_tools V1_3 us = refl
 list_versions a_tools V1_4 us = refl
 list_versions _ w us = refl
 
-contact_versions : (k : Kind) (us : Trees) → AreFields us (rows contact) → has_versions (fields contact us) k ≡ true
+contact_versions : (k : Kind) (us : Trees) → FieldsHaveShape us (rows contact) → has_versions (fields contact us) k ≡ true
 unfolding has_versions
 contact_versions a_tools us h = refl
 contact_versions _ us h = free_rows us (rows contact) h (unfold rows in refl)
 
-passed_versions : (t : Tree) (k : Kind) → IsOf t k → is_passed_over t ≡ true → has_versions t k ≡ true
+passed_versions : (t : Tree) (k : Kind) → HasShape t k → is_passed_over t ≡ true → has_versions t k ≡ true
 passed_versions (fields contact us) k h e = contact_versions k us h.1
 passed_versions _ k h e = absurd (true≢false (sym e))
 
@@ -232,7 +232,7 @@ field_versions r t u s h a v = by r.xml s
     by (either_child q m) e = same
     by the_version e = same
 
-absent_versions : (w : SpecVersion) (t : Tree) (r : Row) → IsField t r → (IsOf t r.kind → has_versions (tripped w t r.kind) r.kind ≡ has_versions t r.kind) → has_versions (tripped w t r.kind) r.kind ≡ has_versions t r.kind
+absent_versions : (w : SpecVersion) (t : Tree) (r : Row) → IsField t r → (HasShape t r.kind → has_versions (tripped w t r.kind) r.kind ≡ has_versions t r.kind) → has_versions (tripped w t r.kind) r.kind ≡ has_versions t r.kind
 unfolding tripped
 absent_versions w t r (inl h) f = ap (λ x. has_versions (tripped w x r.kind) r.kind) h.0 ∙ sym (ap (λ x. has_versions x r.kind) h.0)
 absent_versions w t r (inr h) f = f h
@@ -245,7 +245,7 @@ fields_alike _ n ts us h = h
 mutual
   unfolding tripped has_versions
 
-  pub tripped_versions : (w : SpecVersion) (t : Tree) (k : Kind) → IsOf t k → has_versions (tripped w t k) k ≡ has_versions t k
+  pub tripped_versions : (w : SpecVersion) (t : Tree) (k : Kind) → HasShape t k → has_versions (tripped w t k) k ≡ has_versions t k
   tripped_versions w absent k h = refl
   tripped_versions w (text s) k h = refl
   tripped_versions w (number n) k h = refl
@@ -253,18 +253,18 @@ mutual
   tripped_versions w (items ts) k h = list_versions k w (items_tripped w ts (held_kind k)) ∙ items_tripped_versions w ts (held_kind k) h.1
   tripped_versions w (fields n ts) k h = fields_alike k n ts (rows_tripped w ts (rows n)) (rows_tripped_versions w ts (rows n) (sound n) h.1)
 
-  items_tripped_versions : (w : SpecVersion) (ts : Trees) (k : Kind) → AreOf ts k → items_have_versions (items_tripped w ts k) k ≡ items_have_versions ts k
+  items_tripped_versions : (w : SpecVersion) (ts : Trees) (k : Kind) → HaveShape ts k → items_have_versions (items_tripped w ts k) k ≡ items_have_versions ts k
   items_tripped_versions w none k h = refl
   items_tripped_versions w (more t ts) k h = trip_versions_item (is_passed_over t) t (tripped w t k) ts (items_tripped w ts k) k (passed_versions t k h.0) (tripped_versions w t k h.0) (items_tripped_versions w ts k h.1)
 
-  rows_tripped_versions : (w : SpecVersion) (ts : Trees) (rs : List Row) → all_sound rs ≡ true → AreFields ts rs → rows_have_versions (rows_tripped w ts rs) rs ≡ rows_have_versions ts rs
+  rows_tripped_versions : (w : SpecVersion) (ts : Trees) (rs : List Row) → all_sound rs ≡ true → FieldsHaveShape ts rs → rows_have_versions (rows_tripped w ts rs) rs ≡ rows_have_versions ts rs
   rows_tripped_versions w none rs s h = refl
   rows_tripped_versions w (more t ts) [] s h = refl
   rows_tripped_versions w (more t ts) (r ∷ rs) s h = and_alike
       (field_versions r t (tripped w t r.kind) (sound_parts r rs s).1 h.0 (trip_there w t r.kind) (absent_versions w t r h.0 (tripped_versions w t r.kind)))
       (rows_tripped_versions w ts rs (sound_parts r rs s).2 h.1)
 
-pub bare_versions : (t : Tree) (k : Kind) → IsOf t k → has_versions (bare t) k ≡ has_versions t k
+pub bare_versions : (t : Tree) (k : Kind) → HasShape t k → has_versions (bare t) k ≡ has_versions t k
 bare_versions t k h = sym (ap (λ x. has_versions x k) (bare_is t k)) ∙ tripped_versions V1_3 t k h
 
 -- ---- depth

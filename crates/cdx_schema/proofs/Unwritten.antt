@@ -9,7 +9,7 @@ use Rattle.cdx_schema.specs.Kinds.{Kind, a_list, a_record, a_tools, a_data, a_bi
 use Rattle.cdx_schema.specs.Table.{rows, list}
 use Rattle.cdx_schema.specs.Held.{held_kind}
 use Rattle.cdx_models.specs.Entries.{is_flow}
-use Rattle.cdx_schema.specs.Membership.{IsOf, AreOf, AreFields}
+use Rattle.cdx_schema.specs.Membership.{HasShape, HaveShape, FieldsHaveShape}
 use Rattle.cdx_schema.specs.Trips.{is_hollow, is_passed_over}
 use Rattle.cdx_schema.proofs.Sound.{all_sound, sound, sound_parts, whole_kind, whole_name}
 use Rattle.std.specs.Prelude.{codes}
@@ -119,7 +119,7 @@ whole_no_supplier source h = refl
 whole_no_supplier evidence h = refl
 whole_no_supplier _ h = absurd (true≢false (sym h))
 
-hollow_unsupplied : (t : Tree) (k : Kind) → whole_kind k ≡ true → IsOf t k → is_hollow (unsupplied t) ≡ is_hollow t
+hollow_unsupplied : (t : Tree) (k : Kind) → whole_kind k ≡ true → HasShape t k → is_hollow (unsupplied t) ≡ is_hollow t
 unfolding unsupplied is_hollow
 hollow_unsupplied absent k e h = refl
 hollow_unsupplied (text s) k e h = refl
@@ -175,7 +175,7 @@ supplier_row r w t false c i h e = e
 row_alike : (k b c : Bool) (x y : Nodes) → b ≡ c → x ≡ y → (if k && not b then x else no_nodes) ≡ (if k && not c then y else no_nodes)
 row_alike k b c x y p q = rw (p, q) refl
 
-absent_nodes : (t : Tree) (w : SpecVersion) (r : Row) → IsField t r → (IsOf t r.kind → nodes_of (unsupplied t) w r.kind ≡ nodes_of t w r.kind) → nodes_of (unsupplied t) w r.kind ≡ nodes_of t w r.kind
+absent_nodes : (t : Tree) (w : SpecVersion) (r : Row) → IsField t r → (HasShape t r.kind → nodes_of (unsupplied t) w r.kind ≡ nodes_of t w r.kind) → nodes_of (unsupplied t) w r.kind ≡ nodes_of t w r.kind
 unfolding unsupplied
 absent_nodes t w r (inl h) f = ap (λ x. nodes_of (unsupplied x) w r.kind) h.0 ∙ sym (ap (λ x. nodes_of x w r.kind) h.0)
 absent_nodes t w r (inr h) f = f h
@@ -183,7 +183,7 @@ absent_nodes t w r (inr h) f = f h
 mutual
   unfolding nodes_of unsupplied
 
-  nodes_unsupplied : (t : Tree) (w : SpecVersion) (k : Kind) → IsOf t k → nodes_of (unsupplied t) w k ≡ nodes_of t w k
+  nodes_unsupplied : (t : Tree) (w : SpecVersion) (k : Kind) → HasShape t k → nodes_of (unsupplied t) w k ≡ nodes_of t w k
   nodes_unsupplied absent w k h = refl
   nodes_unsupplied (text s) w k h = refl
   nodes_unsupplied (number s) w k h = refl
@@ -191,13 +191,13 @@ mutual
   nodes_unsupplied (items ts) w k h = ap (λ how. items_nodes (items_unsupplied ts) w how (held_kind k)) (items_of_unsupplied k ts) ∙ items_nodes_unsupplied ts w (items_of k ts) (held_kind k) h.1
   nodes_unsupplied (fields n ts) w k h = ap (signed_in k n) (fields_nodes_unsupplied ts w (rows n) (sound n) h.1)
 
-  items_nodes_unsupplied : (ts : Trees) (w : SpecVersion) (how : Items) (k : Kind) → AreOf ts k → items_nodes (items_unsupplied ts) w how k ≡ items_nodes ts w how k
+  items_nodes_unsupplied : (ts : Trees) (w : SpecVersion) (how : Items) (k : Kind) → HaveShape ts k → items_nodes (items_unsupplied ts) w how k ≡ items_nodes ts w how k
   items_nodes_unsupplied none w how k h = refl
   items_nodes_unsupplied (more t ts) w how k h =
       join_alike (is_passed_over (unsupplied t)) (is_passed_over t) (lone (item_node how (unsupplied t) w k (nodes_of (unsupplied t) w k))) (lone (item_node how t w k (nodes_of t w k))) (items_nodes (items_unsupplied ts) w how k) (items_nodes ts w how k)
       (passed_unsupplied t) (ap lone (item_unsupplied how t w k (nodes_of (unsupplied t) w k) (nodes_of t w k) (nodes_unsupplied t w k h.0))) (items_nodes_unsupplied ts w how k h.1)
 
-  fields_nodes_unsupplied : (ts : Trees) (w : SpecVersion) (rs : List Row) → all_sound rs ≡ true → AreFields ts rs → fields_nodes (rows_unsupplied ts rs) w rs ≡ fields_nodes ts w rs
+  fields_nodes_unsupplied : (ts : Trees) (w : SpecVersion) (rs : List Row) → all_sound rs ≡ true → FieldsHaveShape ts rs → fields_nodes (rows_unsupplied ts rs) w rs ≡ fields_nodes ts w rs
   fields_nodes_unsupplied none w rs s h = refl
   fields_nodes_unsupplied (more t ts) w [] s h = refl
   fields_nodes_unsupplied (more t ts) w (r ∷ rs) s h =
@@ -209,5 +209,5 @@ mutual
       (λ tag. wrapped_unsupplied t w tag r.kind (nodes_of (unsupplied t) w r.kind) (nodes_of t w r.kind) e) e)) in
       ap (λ x. x ⊕ fields_nodes (rows_unsupplied ts rs) w rs) p ∙ ap (λ x. RowNodes r w t ⊕ x) (fields_nodes_unsupplied ts w rs (sound_parts r rs s).2 h.1)
 
-pub root_unsupplied : (t : Tree) (w : SpecVersion) → IsOf t a_bill → root (unsupplied t) w ≡ root t w
+pub root_unsupplied : (t : Tree) (w : SpecVersion) → HasShape t a_bill → root (unsupplied t) w ≡ root t w
 root_unsupplied t w h = rw (of_unsupplied t w a_bill, nodes_unsupplied t w a_bill h) refl

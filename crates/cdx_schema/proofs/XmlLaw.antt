@@ -25,7 +25,7 @@ use Rattle.cdx_schema.proofs.JsonBack.{is_in, distinct, same_itself, or_false, i
 use Rattle.cdx_schema.proofs.HeldKept.{held_there, held_kept, fits_first}
 use Rattle.cdx_schema.specs.Keeping.{keep, fits, is_shallow}
 use Rattle.cdx_models.specs.Trees.{spdx_id, license_name}
-use Rattle.cdx_schema.specs.Membership.{Never, IsOf, IsListOf, IsBooleanOf}
+use Rattle.cdx_schema.specs.Membership.{Never, HasShape, IsListOf, IsBooleanOf}
 use Rattle.cdx_schema.proofs.XmlBack.{finds_first, plan_of, node_step, find_row, field_at, with_field_at, child_names, RowRead, RowsRead, Ends, IsXRead, silent_row, items_row, gathered, row_written, SetItems, SetsItem, gather, list_is, rows_read, record_xread, child_names_distinct, list_xread, text_xread, reference_xread, boolean_xread}
 use Rattle.cdx_events.specs.declared.name.OwnedAttribute.{OwnedAttribute}
 use Rattle.cdx_events.specs.Nodes.{Node, Nodes, characters, no_nodes}
@@ -1349,7 +1349,7 @@ mutual
       )
 
 -- The element of what a version keeps is read back as what the trip makes of it.
-pub xml_law : Decimals → (w : SpecVersion) (d : Depth) (t : Tree) (k : Kind) → is_elem k ≡ true → IsOf t k → fits w t k ≡ true → is_shallow t d ≡ true
+pub xml_law : Decimals → (w : SpecVersion) (d : Depth) (t : Tree) (k : Kind) → is_elem k ≡ true → HasShape t k → fits w t k ≡ true → is_shallow t d ≡ true
     → (tag : List ℕ) (p : ℕ) → xread (spelled (keep w t k) w tag k) w k p d ≡ Ok (tripped w (keep w t k) k)
 unfolding nodes_of
 xml_law dec w d t k e h f s tag p = xml_back dec w d (keep w t k) k e (held_kept w w d t k h (fits_first w t k f) s) tag p
