@@ -12,7 +12,7 @@ use Rattle.cdx_schema.specs.Keeping.{kept, keep, fits, has_versions}
 use Rattle.cdx_schema.specs.Trips.{bare, settled, Form, in_json, in_xml, Hop, lowest_of, last_of, trips}
 use Rattle.cdx_schema.specs.Roads.{Doc, denotes, from_json, from_xml, written, fits_all, hops_from, road}
 use Rattle.cdx_schema.specs.Membership.{Never, AnyText}
-use Rattle.cdx_schema.specs.Laws.{HasBillShape, IsShallow, Fits, nth, after_all, DenotesSame, LeadsFrom}
+use Rattle.cdx_schema.specs.Laws.{HasBillShape, IsShallow, Fits, nth, after_all, IsInForm, DenotesAfter, LeadsFrom}
 use Rattle.cdx_schema.proofs.JsonBack.{and_true}
 use Rattle.cdx_schema.proofs.KeptTwice.{kept_twice}
 use Rattle.cdx_schema.proofs.KeptOf.{kept_of, kept_versions, kept_shallow}
@@ -146,12 +146,16 @@ fits_all_alike (h ∷ hs) c d e = rw (fits_alike h.version c d e, fits_all_alike
 
 -- ---- roads
 
--- There is a document for each hop, and each denotes the same as the bill after the hops up to it.
+-- There is a document for each hop, each in its hop's form, and it denotes the same as the bill after the hops up to it.
 abbrev AllAfter : Tree → List Hop → List Hop → List Doc → Type 0
 AllAfter b before [] [] = Unit {0}
 AllAfter b before [] (x ∷ xs) = Never
 AllAfter b before (h ∷ hs) [] = Never
-AllAfter b before (h ∷ hs) (x ∷ xs) = DenotesSame x h.version (after_all b (before ++ (h ∷ []))) × AllAfter b (before ++ (h ∷ [])) hs xs
+AllAfter b before (h ∷ hs) (x ∷ xs) = (IsInForm h.form x × DenotesAfter b (before ++ (h ∷ [])) x h.version) × AllAfter b (before ++ (h ∷ [])) hs xs
+
+in_form : (f : Form) (w : SpecVersion) (t : Tree) → IsInForm f (written f w t)
+in_form in_json w t = tt
+in_form in_xml w t = tt
 
 as_many : (b : Tree) (before hs : List Hop) (xs : List Doc) → AllAfter b before hs xs → length xs ≡ length hs
 as_many b before [] [] a = refl
@@ -164,15 +168,15 @@ one_more [] h hs = refl
 one_more (x ∷ before) h hs = ap (x ∷◌) (one_more before h hs)
 
 -- the document of a number
-numbered : (b : Tree) (before hs : List Hop) (xs : List Doc) → AllAfter b before hs xs → (k : ℕ) (g : Hop) (y : Doc) → nth k hs ≡ Some g → nth k xs ≡ Some y → DenotesSame y g.version (after_all b (before ++ take k hs))
+numbered : (b : Tree) (before hs : List Hop) (xs : List Doc) → AllAfter b before hs xs → (k : ℕ) (g : Hop) (y : Doc) → nth k hs ≡ Some g → nth k xs ≡ Some y → IsInForm g.form y × DenotesAfter b (before ++ take k hs) y g.version
 numbered b before [] xs a k g y p q = none_some p
 numbered b before (h ∷ hs) [] a k g y p q = none_some q
 numbered b before (h ∷ hs) (x ∷ xs) a zero g y p q = none_some p
 numbered b before (h ∷ hs) (x ∷ xs) a (suc zero) g y p q =
-    subst (λ (f : Hop). DenotesSame y f.version (after_all b (before ++ (h ∷ [])))) (some_same p)
-    (subst (λ (z : Doc). DenotesSame z h.version (after_all b (before ++ (h ∷ [])))) (some_same q) a.0)
+    subst (λ (f : Hop). IsInForm f.form y × DenotesAfter b (before ++ (h ∷ [])) y f.version) (some_same p)
+    (subst (λ (z : Doc). IsInForm h.form z × DenotesAfter b (before ++ (h ∷ [])) z h.version) (some_same q) a.0)
 numbered b before (h ∷ hs) (x ∷ xs) a (suc (suc k)) g y p q =
-    subst (λ (gs : List Hop). DenotesSame y g.version (after_all b gs)) (one_more before h (take (suc k) hs))
+    subst (λ (gs : List Hop). IsInForm g.form y × DenotesAfter b gs y g.version) (one_more before h (take (suc k) hs))
     (numbered b (before ++ (h ∷ [])) hs xs a.1 (suc k) g y p q)
 
 roads : (b : Tree) → HasBillShape b → (hs before : List Hop) (x : Doc) (v : SpecVersion) (c : Tree) → denotes x v ≡ Ok c → HasBillShape c → IsShallow c → fits_all hs c ≡ true
@@ -186,7 +190,7 @@ roads b ob (h ∷ hs) before x v c is of s f e =
     let same : settled n.0 a_bill ≡ settled (after_all b (before ++ (h ∷ []))) a_bill =
     n.1.4 ∙ (taken_alike h.form (keep w c a_bill) (keep w (after_all b before) a_bill) (kept_alike w w c (after_all b before) a_bill e) ∙ ap (λ t. settled t a_bill) (after_more b before h ob)) in
     let r : (docs : List Doc) × (hops_from y w hs ≡ Ok docs) × AllAfter b (before ++ (h ∷ [])) hs docs = roads b ob hs (before ++ (h ∷ [])) y w n.0 n.1.0 n.1.1 n.1.2 (fits_all_alike hs c n.0 n.1.3 ∙ p.1) same in
-    (y ∷ r.0, rw (is, r.1) refl, ((n.0, n.1.0, same), r.2))
+    (y ∷ r.0, rw (is, r.1) refl, ((in_form h.form w (keep w c a_bill), (n.0, n.1.0, same)), r.2))
 
 pub roads_lead : (b : Tree) (x : Doc) (v : SpecVersion) (hops : List Hop) → denotes x v ≡ Ok b → HasBillShape b → IsShallow b → fits_all hops b ≡ true
     → (docs : List Doc) × (road x v hops ≡ Ok docs) × LeadsFrom b hops docs

@@ -7,15 +7,15 @@ use Rattle.cdx_models.specs.Versions.{lowest}
 use Rattle.cdx_models.specs.Trees.{Tree}
 use Rattle.cdx_schema.specs.Kinds.{a_bill}
 use Rattle.cdx_schema.specs.Depth.{top}
-use Rattle.cdx_schema.specs.Membership.{IsOf, HasShape}
+use Rattle.cdx_schema.specs.Membership.{Never, IsOf, HasShape}
 use Rattle.cdx_schema.specs.Keeping.{kept, keep, fits, is_shallow}
-use Rattle.cdx_schema.specs.Trips.{bare, IsSame, in_json, in_xml, Hop, after, last_of, lowest_of}
+use Rattle.cdx_schema.specs.Trips.{bare, IsSame, Form, in_json, in_xml, Hop, after, last_of, lowest_of}
 use Rattle.cdx_schema.specs.Suppliers.{unsupplied}
 use Rattle.cdx_schema.specs.JsonReading.{json_denotes}
 use Rattle.cdx_schema.specs.JsonSpelling.{jspell}
 use Rattle.cdx_schema.specs.XmlReading.{xml_denotes}
 use Rattle.cdx_schema.specs.XmlSpelling.{root}
-use Rattle.cdx_schema.specs.Roads.{Doc, json, version_missing, denotes, fits_all, road}
+use Rattle.cdx_schema.specs.Roads.{Doc, json, xml, version_missing, denotes, fits_all, road}
 use Rattle.cdx_schema.specs.Texts.{NodeTexts}
 use Rattle.std.specs.Str.{IsUtf8}
 use Rattle.serde_json.specs.View.{view}
@@ -47,24 +47,25 @@ abbrev pub ReadsBackXml : Type 0
 ReadsBackXml = (b : Tree) (w : SpecVersion) → HasBillShape b → IsShallow b → Fits w b
     → (c : Tree) × (xml_denotes (root (keep w b a_bill) w) w ≡ Ok c) × IsSame c (bare (keep w b a_bill))
 
--- What a version keeps of what a version keeps is what the lower of the two keeps.
+-- What version v keeps of what version w keeps is what the lower of the two keeps, under the label of v.
 abbrev pub KeepsTwice : Type 0
 KeepsTwice = (b : Tree) (v w : SpecVersion) → HasBillShape b → keep v (keep w b a_bill) a_bill ≡ kept (lowest v w) v b a_bill
 
+-- A bill has the shape of one.
 abbrev pub BillsHaveShape : Type 0
 BillsHaveShape = (b : Tree) → IsBill b → HasBillShape b
 
--- What a version keeps of a bill and what a trip leaves of it are bills, with or without an eye to texts.
+-- What a version keeps of a bill and what a trip leaves of it are bills, and so it is with the shape.
 abbrev pub StaysBill : Type 0
 StaysBill = (b : Tree) (w : SpecVersion)
     → (IsBill b → IsBill (keep w b a_bill) × IsBill (bare b))
     × (HasBillShape b → HasBillShape (keep w b a_bill) × HasBillShape (bare b))
 
--- They fit exactly the versions that the bill fits, and are as shallow.
-
+-- Both fit exactly the versions that the bill fits.
 abbrev pub StaysFit : Type 0
 StaysFit = (b : Tree) (v w : SpecVersion) → HasBillShape b → (fits v (keep w b a_bill) a_bill ≡ fits v b a_bill) × (fits v (bare b) a_bill ≡ fits v b a_bill)
 
+-- Both are shallow where the bill is.
 abbrev pub StaysShallow : Type 0
 StaysShallow = (b : Tree) (w : SpecVersion) → IsShallow b → IsShallow (keep w b a_bill) × IsShallow (bare b)
 
@@ -72,6 +73,7 @@ StaysShallow = (b : Tree) (w : SpecVersion) → IsShallow b → IsShallow (keep 
 abbrev pub Commutes : Type 0
 Commutes = (b : Tree) (w : SpecVersion) → HasBillShape b → bare (keep w b a_bill) ≡ keep w (bare b) a_bill
 
+-- A version keeps the same of the same, and a trip leaves the same of the same.
 abbrev pub SameOfSame : Type 0
 SameOfSame = (b c : Tree) (w : SpecVersion) → IsSame b c → IsSame (keep w b a_bill) (keep w c a_bill) × IsSame (bare b) (bare c)
 
@@ -109,14 +111,19 @@ abbrev pub after_all : Tree → List Hop → Tree
 after_all b [] = b
 after_all b (h ∷ hs) = after b h hs
 
--- A document denotes in a version a bill that is the same as c.
-abbrev pub DenotesSame : Doc → SpecVersion → Tree → Type 0
-DenotesSame y w c = (d : Tree) × (denotes y w ≡ Ok d) × IsSame d c
+-- A document denotes in a version a bill that is the same as b after the hops.
+abbrev pub DenotesAfter : Tree → List Hop → Doc → SpecVersion → Type 0
+DenotesAfter b hops y w = (c : Tree) × (denotes y w ≡ Ok c) × IsSame c (after_all b hops)
 
--- There is a document for each hop, and the k-th denotes in its version a bill that is the same as `after` of b and the first k hops.
+abbrev pub IsInForm : Form → Doc → Type 0
+IsInForm in_json (json x) = Unit {0}
+IsInForm in_xml (xml x) = Unit {0}
+IsInForm _ _ = Never
+
+-- There is a document for each hop. The k-th is in its hop's form, and denotes in its version a bill that is the same as b after the first k hops.
 abbrev pub LeadsFrom : Tree → List Hop → List Doc → Type 0
 LeadsFrom b hops docs = (length docs ≡ length hops)
-    × ((k : ℕ) (h : Hop) (y : Doc) → nth k hops ≡ Some h → nth k docs ≡ Some y → DenotesSame y h.version (after_all b (take k hops)))
+    × ((k : ℕ) (h : Hop) (y : Doc) → nth k hops ≡ Some h → nth k docs ≡ Some y → IsInForm h.form y × DenotesAfter b (take k hops) y h.version)
 
 -- The road of a document that denotes b, where b fits every hop, is such a list of documents.
 abbrev pub RoadsLead : Type 0
