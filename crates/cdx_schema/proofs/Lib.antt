@@ -34,6 +34,7 @@ pub mod Written
 pub mod Unwritten
 pub mod RoadSettle
 pub mod ViewTexts
+pub mod FaultPlaces
 pub mod Local
 pub mod DroppedRead
 pub mod DroppedLaw
