@@ -100,12 +100,12 @@ root_attributes w n ts s = ap (λ x. reverse (version_attribute n ∷ (attribute
 first_three : (w : SpecVersion) (d : Depth) (n : ℕ) (ts : Trees) (around : List ℕ) (p : ℕ) → nat_lt n (2 ^ 32) ≡ true → FieldsHeld w d ts bill_rest
     → attributes_read (rows bill) (version_attribute n ∷ []) w around p ≡ Ok (whole w n absent (first_fields w ts bill_rest))
 unfolding attributes_read rows
-first_three w d n ts around p lt held = rw (ap number_tree (decimals n lt), rest_attributes w d ts (version_attribute n ∷ []) around p held) refl
+first_three w d n ts around p lt held = rw (ap number_tree (decimals n lt)) (ap (λ x. x >>= (λ us. Ok (whole w n absent us))) (rest_attributes w d ts (version_attribute n ∷ []) around p held))
 
 first_four : (w : SpecVersion) (d : Depth) (n : ℕ) (x : List ℕ) (ts : Trees) (around : List ℕ) (p : ℕ) → nat_lt n (2 ^ 32) ≡ true → FieldsHeld w d ts bill_rest
     → attributes_read (rows bill) (record { name = plain_name (codes "serialNumber"); value = x } ∷ version_attribute n ∷ []) w around p ≡ Ok (whole w n (text x) (first_fields w ts bill_rest))
 unfolding attributes_read rows
-first_four w d n x ts around p lt held = rw (ap number_tree (decimals n lt), rest_attributes w d ts (record { name = plain_name (codes "serialNumber"); value = x } ∷ version_attribute n ∷ []) around p held) refl
+first_four w d n x ts around p lt held = rw (ap number_tree (decimals n lt)) (ap (λ y. y >>= (λ us. Ok (whole w n (text x) us))) (rest_attributes w d ts (record { name = plain_name (codes "serialNumber"); value = x } ∷ version_attribute n ∷ []) around p held))
 
 abbrev pub IsBillRead : SpecVersion → Depth → ℕ → Trees → Tree → Type 0
 IsBillRead w d n ts s = xread (root (fields bill (whole w n s ts)) w) w a_bill 1 d ≡ Ok (tripped w (fields bill (whole w n s ts)) a_bill)
@@ -114,13 +114,13 @@ IsBillRead w d n ts s = xread (root (fields bill (whole w n s ts)) w) w a_bill 1
 bill_steps : (w : SpecVersion) (d : Depth) (n : ℕ) (ts : Trees) (s : Tree) (as' : List OwnedAttribute) (xs : Nodes)
     → attributes_of (fields bill (whole w n s ts)) w a_bill ≡ as' → nodes_of (fields bill (whole w n s ts)) w a_bill ≡ xs
     → attributes_read (rows bill) as' w (codes "bom") 1 ≡ Ok (whole w n s (first_fields w ts bill_rest))
-    → nodes_read xs (record_plan bill w) (codes "bom") w d 2 (whole w n s (first_fields w ts bill_rest)) ≡ Ok (whole w n s (second_fields w ts bill_rest))
+    → nodes_read xs (record_plan bill) (codes "bom") w d 2 (whole w n s (first_fields w ts bill_rest)) ≡ Ok (whole w n s (second_fields w ts bill_rest))
     → ((p : ℕ) → ended (rows bill) (whole w n s (second_fields w ts bill_rest)) w (codes "bom") p ≡ Ok (rows_tripped w (whole w n s ts) (rows bill)))
     → IsBillRead w d n ts s
 unfolding xread tripped
 bill_steps w d n ts s as' xs is holds atts reads ends =
-    ap (λ a. xread (element (plain_name (codes "bom")) a (Some (namespace w)) (nodes_of (fields bill (whole w n s ts)) w a_bill)) w a_bill 1 d) is
-    ∙ (ap (λ y. xread (element (plain_name (codes "bom")) as' (Some (namespace w)) y) w a_bill 1 d) holds
+    ap (λ a. xread (element (plain_name (codes "bom")) a (record { default = Some (namespace w) }) (nodes_of (fields bill (whole w n s ts)) w a_bill)) w a_bill 1 d) is
+    ∙ (ap (λ y. xread (element (plain_name (codes "bom")) as' (record { default = Some (namespace w) }) y) w a_bill 1 d) holds
     ∙ (if_true (bytes_eq (namespace w) (namespace w)) _ _ (same_itself (namespace w))
     ∙ (ap (λ x. (x >>= (λ vs. content_read (content_from 0 (rows bill)) E bill vs w d)) >>= (λ us. ended (rows bill) us w (codes "bom") (end_of E) >>= (λ zs. Ok (fields bill zs)))) atts
     ∙ (ap (λ c. content_read c E bill (whole w n s (first_fields w ts bill_rest)) w d >>= (λ us. ended (rows bill) us w (codes "bom") (end_of E) >>= (λ zs. Ok (fields bill zs)))) no_text
@@ -134,7 +134,7 @@ bill_steps w d n ts s as' xs is holds atts reads ends =
     no_text = unfold rows in refl
 
 bill_children : (w : SpecVersion) (d : Depth) (n : ℕ) (ts : Trees) (s : Tree) → FieldsHeld w d ts bill_rest
-    → nodes_read (fields_nodes ts w bill_rest) (record_plan bill w) (codes "bom") w d 2 (whole w n s (first_fields w ts bill_rest)) ≡ Ok (whole w n s (second_fields w ts bill_rest))
+    → nodes_read (fields_nodes ts w bill_rest) (record_plan bill) (codes "bom") w d 2 (whole w n s (first_fields w ts bill_rest)) ≡ Ok (whole w n s (second_fields w ts bill_rest))
 unfolding rows rule list
 bill_children w d n ts s held = rows_read w d ts bill_rest (first_fields w ts bill_rest) (second_fields w ts bill_rest) bill_front lax (codes "bom") (more (text (label w)) (two (number n) s)) 2 refl refl (rows_back decimals w d ts bill_rest refl held)
 

@@ -1,12 +1,14 @@
 -- Worked rows on JSON readings, by computation.
 use Prim.Native.String.{String}
-use Rattle.std.specs.Prelude.{◌≡◌, refl, ℕ, zero, suc, List, [], ◌∷◌, codes, Result, Ok, Err, Option, Some, None, true, false}
+use Rattle.std.specs.Prelude.{◌≡◌, refl, ℕ, zero, suc, List, [], ◌∷◌, Bool, codes, Result, Ok, Err, Option, Some, None, true, false}
 use Rattle.serde_json.specs.Data.{Data, no_items, no_members, null}
 use Rattle.cdx_models.specs.declared.bom.SpecVersion.TheVariants.{V1_3, V1_4, V1_5}
 use Rattle.cdx_models.specs.Trees.{Tree, absent, number, items, fields, none, more, one, two, bill, component, chain, signers, signer, license, spdx_id, metadata, classification, service_data, dependency}
 use Rattle.cdx_schema.specs.Kinds as kind
 use Rattle.cdx_schema.specs.Depth.{top}
-use Rattle.cdx_schema.specs.Faults.{to_member, to_item, here, missing, wrong_kind, out_of_range, bad_format, bad_spec_version, too_deep}
+use Rattle.cdx_models.specs.declared.errors.Step.{Step}
+use Rattle.cdx_models.specs.declared.errors.JsonKind.{JsonKind}
+use Rattle.cdx_schema.specs.Faults.{JsonFault, to_member, to_item, here, missing, wrong_kind, out_of_range, bad_format, bad_spec_version, too_deep}
 use Rattle.cdx_schema.specs.JsonReading.{jread, json_denotes}
 use Rattle.cdx_schema.proofs.Literals.{str, num, obj, arr, ◌↪◌⨟◌, ◌⨠◌, t', reading_on_literals}
 
@@ -73,7 +75,7 @@ nested zero = arr no_items
 nested (suc zero) = arr (plain_component ⨠ no_items)
 nested (suc (suc n)) = arr (obj ("type" ↪ str "library" ⨟ "name" ↪ str "a" ⨟ "components" ↪ nested (suc n) ⨟ no_members) ⨠ no_items)
 
-abbrev is_ok' : Result Tree Rattle.cdx_schema.specs.Faults.JsonFault → Rattle.std.specs.Prelude.Bool
+abbrev is_ok' : Result Tree JsonFault → Bool
 is_ok' (Ok t) = true
 is_ok' (Err e) = false
 
@@ -81,7 +83,7 @@ deep : is_ok' (jread (nested 32) V1_5 (kind.a_list kind.components) top) ≡ tru
 unfolding reading_on_literals
 deep = refl
 
-abbrev steps_down : ℕ → List Rattle.cdx_schema.specs.Faults.Step
+abbrev steps_down : ℕ → List Step
 steps_down zero = []
 steps_down (suc n) = to_member (codes "components") ∷ to_item 0 ∷ steps_down n
 
@@ -126,7 +128,7 @@ tools_in_1_4 = refl
 abbrev bill_with : Data → Data → Data → Data
 bill_with f s n = obj ("bomFormat" ↪ f ⨟ "specVersion" ↪ s ⨟ "version" ↪ n ⨟ no_members)
 
-abbrev refused : List Rattle.cdx_schema.specs.Faults.Step → Rattle.cdx_schema.specs.Faults.JsonCause → Result Tree Rattle.cdx_schema.specs.Faults.JsonFault
+abbrev refused : List Step → JsonKind → Result Tree JsonFault
 refused p c = Err (record { path = p; cause = c })
 
 abbrev plain_bill : String → ℕ → Tree

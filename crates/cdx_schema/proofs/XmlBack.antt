@@ -12,12 +12,13 @@ use Rattle.cdx_schema.specs.Table.{rows, rule}
 use Rattle.cdx_schema.specs.Results.{◌>>=◌}
 use Rattle.cdx_schema.specs.Depth.{Depth, inside, name_too_deep}
 use Rattle.cdx_schema.specs.Held.{held_kind}
-use Rattle.cdx_schema.specs.XmlReading.{xread, nodes_read, node_read, Plan, Child, last, all, find_child, row_children, children_from, stored, appended, is_second, plan_of_list, list_of, lacks, owed, filled, ended, attributes_read, in_force, content_from, no_content, content_read, Element, end_of}
-use Rattle.cdx_schema.specs.XmlSpelling.{nodes_of, fields_nodes, row_nodes, wrapped, lone, tag_of, plain_element, attributes_of}
+use Rattle.cdx_schema.specs.XmlReading.{xread, nodes_read, node_read, Plan, Child, Place, last, once, all, find_child, row_children, children_from, stored, appended, is_second, plan_of_list, list_of, lacks, owed, filled, ended, attributes_read, in_force, content_from, no_content, content_read, Element, end_of}
+use Rattle.cdx_schema.specs.XmlSpelling.{nodes_of, fields_nodes, row_nodes, wrapped, lone, tag_of, plain_element, plain_name, attributes_of}
 use Rattle.cdx_schema.proofs.JsonBack.{is_in, distinct, same_itself, or_false, if_true, if_false, not_in_append, apart_first, is_in_first}
 use Rattle.cdx_schema.proofs.Groups.{nodes_in_groups, count}
 use Rattle.cdx_events.specs.declared.name.OwnedAttribute.{OwnedAttribute}
 use Rattle.cdx_events.specs.declared.name.OwnedName.{OwnedName}
+use Rattle.cdx_events.specs.declared.name.Namespace.{Namespace}
 use Rattle.cdx_events.specs.Nodes.{Node, Nodes, element, no_nodes, node}
 use Rattle.cdx_schema.specs.Nodes.{places, places_of}
 
@@ -35,60 +36,67 @@ abbrev pub all_child_names : List Row → List (List ℕ)
 all_child_names [] = []
 all_child_names (r ∷ rs) = child_names r.xml ++ all_child_names rs
 
-pub find_append : (q : List ℕ) (xs ys : List Child) → find_child q xs ≡ None → find_child q (xs ++ ys) ≡ find_child q ys
-find_append q [] ys h = refl
-find_append q (x ∷ xs) ys h = by (bytes_eq q x.name) h (find_append q xs ys)
+-- a child of the name that the version knows, and a child of another name
+pub finds_first : (w : SpecVersion) (q : List ℕ) (c : Child) (cs : List Child) → bytes_eq q c.name ≡ true → knows c.since w ≡ true → find_child w q (c ∷ cs) ≡ Some c
+finds_first w q c cs named known = if_true (bytes_eq q c.name && knows c.since w) _ _ (rw (named, known) refl)
+
+pub passes_first : (w : SpecVersion) (q : List ℕ) (c : Child) (cs : List Child) → bytes_eq q c.name ≡ false → find_child w q (c ∷ cs) ≡ find_child w q cs
+passes_first w q c cs other = if_false (bytes_eq q c.name && knows c.since w) _ _ (rw other refl)
+
+pub find_append : (w : SpecVersion) (q : List ℕ) (xs ys : List Child) → find_child w q xs ≡ None → find_child w q (xs ++ ys) ≡ find_child w q ys
+find_append w q [] ys h = refl
+find_append w q (x ∷ xs) ys h = by (bytes_eq q x.name && knows x.since w) h (find_append w q xs ys)
   where
-    by : (b : Bool) → (if b then Some x else find_child q xs) ≡ None → (find_child q xs ≡ None → find_child q (xs ++ ys) ≡ find_child q ys) → (if b then Some x else find_child q (xs ++ ys)) ≡ find_child q ys
+    by : (b : Bool) → (if b then Some x else find_child w q xs) ≡ None → (find_child w q xs ≡ None → find_child w q (xs ++ ys) ≡ find_child w q ys) → (if b then Some x else find_child w q (xs ++ ys)) ≡ find_child w q ys
     by true e f = grind arith
     by false e f = f e
 
-pub find_none_row : (q : List ℕ) (i : ℕ) (r : Row) → is_in q (child_names r.xml) ≡ false → find_child q (row_children i r) ≡ None
-find_none_row q i r h = by r.xml h
+pub find_none_row : (w : SpecVersion) (q : List ℕ) (i : ℕ) (r : Row) → is_in q (child_names r.xml) ≡ false → find_child w q (row_children i r) ≡ None
+find_none_row w q i r h = by r.xml h
   where
-    by : (x : Spelled) → is_in q (child_names x) ≡ false → find_child q (row_children i (record r { xml = x })) ≡ None
+    passed : (n : List ℕ) (k : Kind) (place' : Place) (cs : List Child) → bytes_eq q n ≡ false → find_child w q (record { name = n; since = r.since; kind = k; field = i; place = place' } ∷ cs) ≡ find_child w q cs
+    passed n k place' cs e = passes_first w q (record { name = n; since = r.since; kind = k; field = i; place = place' }) cs e
+
+    by : (x : Spelled) → is_in q (child_names x) ≡ false → find_child w q (row_children i (record r { xml = x })) ≡ None
     by (attribute n) e = refl
     by (attribute_or n m) e = refl
     by content e = refl
     by one_text e = refl
     by as_cdata e = refl
-    by (child n) e = if_false (bytes_eq q n) _ _ (or_false (bytes_eq q n) false e).0
-    by (filled_child n) e = if_false (bytes_eq q n) _ _ (or_false (bytes_eq q n) false e).0
-    by (read_child n) e = if_false (bytes_eq q n) _ _ (or_false (bytes_eq q n) false e).0
-    by (children n) e = if_false (bytes_eq q n) _ _ (or_false (bytes_eq q n) false e).0
-    by (either_child m n) e = if_false (bytes_eq q m) _ _ (or_false (bytes_eq q m) (is_in q (n ∷ [])) e).0 ∙ if_false (bytes_eq q n) _ _ (or_false (bytes_eq q n) false (or_false (bytes_eq q m) (is_in q (n ∷ [])) e).1).0
+    by (child n) e = passed n r.kind last [] (or_false (bytes_eq q n) false e).0
+    by (filled_child n) e = passed n r.kind last [] (or_false (bytes_eq q n) false e).0
+    by (read_child n) e = passed n r.kind last [] (or_false (bytes_eq q n) false e).0
+    by (children n) e = passed n (held_kind r.kind) all [] (or_false (bytes_eq q n) false e).0
+    by (either_child m n) e =
+        passed m r.kind once (record { name = n; since = r.since; kind = r.kind; field = i; place = once } ∷ []) (or_false (bytes_eq q m) (is_in q (n ∷ [])) e).0
+        ∙ passed n r.kind once [] (or_false (bytes_eq q n) false (or_false (bytes_eq q m) (is_in q (n ∷ [])) e).1).0
     by the_version e = refl
 
-pub find_none : (q : List ℕ) (i : ℕ) (rs : List Row) (w : SpecVersion) → is_in q (all_child_names rs) ≡ false → find_child q (children_from i rs w) ≡ None
-find_none q i [] w h = refl
-find_none q i (r ∷ rs) w h =
+pub find_none : (w : SpecVersion) (q : List ℕ) (i : ℕ) (rs : List Row) → is_in q (all_child_names rs) ≡ false → find_child w q (children_from i rs) ≡ None
+find_none w q i [] h = refl
+find_none w q i (r ∷ rs) h =
     let e : (is_in q (child_names r.xml) ≡ false) × (is_in q (all_child_names rs) ≡ false) = not_in_append q (child_names r.xml) (all_child_names rs) h in
-    by (knows r.since w) e.0 (find_none q (suc i) rs w e.1)
-  where
-    by : (b : Bool) → is_in q (child_names r.xml) ≡ false → find_child q (children_from (suc i) rs w) ≡ None → find_child q ((if b then row_children i r else []) ++ children_from (suc i) rs w) ≡ None
-    by true e f = find_append q (row_children i r) (children_from (suc i) rs w) (find_none_row q i r e) ∙ f
-    by false e f = f
+    find_append w q (row_children i r) (children_from (suc i) rs) (find_none_row w q i r e.0) ∙ find_none w q (suc i) rs e.1
 
 pub append_lists : {A : Type 0} (x a b : List A) → x ++ (a ++ b) ≡ (x ++ a) ++ b
 append_lists [] a b = refl
 append_lists (e ∷ es) a b = ap (e ∷◌) (append_lists es a b)
 
-pub children_append : (i : ℕ) (front rs : List Row) (w : SpecVersion) → children_from i (front ++ rs) w ≡ children_from i front w ++ children_from (i + length front) rs w
-children_append i [] rs w = ap (λ j. children_from j rs w) (omega arith)
-children_append i (r ∷ front) rs w =
-    ap ((if knows r.since w then row_children i r else []) ++◌) (children_append (suc i) front rs w ∙ ap (λ j. children_from (suc i) front w ++ children_from j rs w) (omega arith))
-    ∙ append_lists (if knows r.since w then row_children i r else []) (children_from (suc i) front w) (children_from (i + length (r ∷ front)) rs w)
+pub children_append : (i : ℕ) (front rs : List Row) → children_from i (front ++ rs) ≡ children_from i front ++ children_from (i + length front) rs
+children_append i [] rs = ap (λ j. children_from j rs) (omega arith)
+children_append i (r ∷ front) rs =
+    ap (row_children i r ++◌) (children_append (suc i) front rs ∙ ap (λ j. children_from (suc i) front ++ children_from j rs) (omega arith))
+    ∙ append_lists (row_children i r) (children_from (suc i) front) (children_from (i + length (r ∷ front)) rs)
 
 -- a name of the first row behind a front that doesn't have it
-pub find_row : (q : List ℕ) (front : List Row) (r : Row) (rs : List Row) (w : SpecVersion) (c : Child) → is_in q (all_child_names front) ≡ false → knows r.since w ≡ true
-    → ((cs : List Child) → find_child q (row_children (length front) r ++ cs) ≡ Some c)
-    → find_child q (children_from 0 (front ++ r ∷ rs) w) ≡ Some c
-find_row q front r rs w c before known here =
-    ap (find_child q) (children_append 0 front (r ∷ rs) w)
-    ∙ (find_append q (children_from 0 front w) (children_from (0 + length front) (r ∷ rs) w) (find_none q 0 front w before)
-    ∙ (ap (λ j. find_child q (children_from j (r ∷ rs) w)) zero_plus
-    ∙ (ap (λ b. find_child q ((if b then row_children (length front) r else []) ++ children_from (suc (length front)) rs w)) known
-    ∙ here (children_from (suc (length front)) rs w))))
+pub find_row : (w : SpecVersion) (q : List ℕ) (front : List Row) (r : Row) (rs : List Row) (c : Child) → is_in q (all_child_names front) ≡ false
+    → ((cs : List Child) → find_child w q (row_children (length front) r ++ cs) ≡ Some c)
+    → find_child w q (children_from 0 (front ++ r ∷ rs)) ≡ Some c
+find_row w q front r rs c before here =
+    ap (find_child w q) (children_append 0 front (r ∷ rs))
+    ∙ (find_append w q (children_from 0 front) (children_from (0 + length front) (r ∷ rs)) (find_none w q 0 front before)
+    ∙ (ap (λ j. find_child w q (children_from j (r ∷ rs))) zero_plus
+    ∙ here (children_from (suc (length front)) rs)))
   where
     zero_plus : 0 + length front ≡ length front
     zero_plus = omega arith
@@ -105,8 +113,8 @@ with_field_at (more x ts) us t u = ap (more x) (with_field_at ts us t u)
 
 -- ---- one child
 
-pub node_step : (plan : Plan) (around : List ℕ) (w : SpecVersion) (d : Depth) (p : ℕ) (n : OwnedName) (as' : List OwnedAttribute) (default : Option (List ℕ)) (xs : Nodes) (c : Child) (u : Tree) (ts : Trees)
-    → find_child n.local_name plan.children ≡ Some c → is_second c.place (field c.field ts) ≡ false
+pub node_step : (plan : Plan) (around : List ℕ) (w : SpecVersion) (d : Depth) (p : ℕ) (n : OwnedName) (as' : List OwnedAttribute) (default : Namespace) (xs : Nodes) (c : Child) (u : Tree) (ts : Trees)
+    → find_child w n.local_name plan.children ≡ Some c → is_second c.place (field c.field ts) ≡ false
     → xread (element n as' default xs) w c.kind p d ≡ Ok u
     → nodes_read (lone (element n as' default xs)) plan around w d p ts ≡ Ok (stored c.place c.field u ts)
 unfolding xread
@@ -118,11 +126,11 @@ Sets plan around w d before_it rest xs t u = (p : ℕ) → nodes_read xs plan ar
 
 pub child_sets : (front : List Row) (r : Row) (rs : List Row) (rule' : Rule) (around : List ℕ) (w : SpecVersion) (d : Depth) (before_it rest : Trees) (name : List ℕ) (as' : List OwnedAttribute) (xs : Nodes) (t u : Tree)
     → count before_it ≡ length front → r.xml ≡ child name → is_in name (all_child_names front) ≡ false → knows r.since w ≡ true
-    → ((p : ℕ) → xread (element (record { local = name; space = None; prefix = None }) as' None xs) w r.kind p d ≡ Ok u)
-    → Sets (record { rule = rule'; children = children_from 0 (front ++ r ∷ rs) w }) around w d before_it rest (lone (element (record { local = name; space = None; prefix = None }) as' None xs)) t u
+    → ((p : ℕ) → xread (plain_element name as' xs) w r.kind p d ≡ Ok u)
+    → Sets (record { rule = rule'; children = children_from 0 (front ++ r ∷ rs) }) around w d before_it rest (lone (plain_element name as' xs)) t u
 child_sets front r rs rule' around w d before_it rest name as' xs t u same spelled before known read p =
-    node_step _ around w d p _ as' None xs (record { name = name; kind = r.kind; field = length front; place = last }) u (before_it ⧺ more t rest)
-    (find_row name front r rs w _ before known (λ cs. subst (λ (x : Spelled). find_child name (row_children (length front) (record r { xml = x }) ++ cs) ≡ Some (record { name = name; kind = r.kind; field = length front; place = last })) (sym spelled) (if_true (bytes_eq name name) _ _ (same_itself name))))
+    node_step _ around w d p _ as' _ xs (record { name = name; since = r.since; kind = r.kind; field = length front; place = last }) u (before_it ⧺ more t rest)
+    (find_row w name front r rs _ before (λ cs. subst (λ (x : Spelled). find_child w name (row_children (length front) (record r { xml = x }) ++ cs) ≡ Some (record { name = name; since = r.since; kind = r.kind; field = length front; place = last })) (sym spelled) (finds_first w name _ cs (same_itself name) known)))
     refl (read p)
     ∙ ap Ok (ap (λ i. with_field i u (before_it ⧺ more t rest)) (sym same) ∙ with_field_at before_it rest t u)
 
@@ -132,14 +140,14 @@ child_sets front r rs rule' around w d before_it rest name as' xs t u same spell
 abbrev pub row_written : Row → Tree → SpecVersion → Nodes
 row_written r t w = if knows r.since w && not (is_absent t) then row_nodes r.xml t w r.kind (nodes_of t w r.kind) else no_nodes
 
-abbrev pub plan_of : Rule → List Row → SpecVersion → Plan
-plan_of rule' rs w = record { rule = rule'; children = children_from 0 rs w }
+abbrev pub plan_of : Rule → List Row → Plan
+plan_of rule' rs = record { rule = rule'; children = children_from 0 rs }
 
 -- What a row is written as makes u of its field c, whatever stands before and behind it.
 abbrev pub RowRead : SpecVersion → Depth → Tree → Row → Tree → Tree → Type 0
 RowRead w d t r c u = (front rs : List Row) (rule' : Rule) (around : List ℕ) (before_it rest : Trees) (p : ℕ) → count before_it ≡ length front
     → ((q : List ℕ) → is_in q (child_names r.xml) ≡ true → is_in q (all_child_names front) ≡ false)
-    → nodes_read (row_written r t w) (plan_of rule' (front ++ r ∷ rs) w) around w d p (before_it ⧺ more c rest) ≡ Ok (before_it ⧺ more u rest)
+    → nodes_read (row_written r t w) (plan_of rule' (front ++ r ∷ rs)) around w d p (before_it ⧺ more c rest) ≡ Ok (before_it ⧺ more u rest)
 
 abbrev pub RowsRead : SpecVersion → Depth → Trees → List Row → Trees → Trees → Type 0
 RowsRead w d none [] none none = Unit {0}
@@ -164,14 +172,14 @@ names_append (r ∷ front) rs = ap (child_names r.xml ++◌) (names_append front
 
 pub rows_read : (w : SpecVersion) (d : Depth) (ts : Trees) (rs : List Row) (cs us : Trees) (front : List Row) (rule' : Rule) (around : List ℕ) (before_it : Trees) (p : ℕ)
     → count before_it ≡ length front → distinct (all_child_names front ++ all_child_names rs) ≡ true → RowsRead w d ts rs cs us
-    → nodes_read (fields_nodes ts w rs) (plan_of rule' (front ++ rs) w) around w d p (before_it ⧺ cs) ≡ Ok (before_it ⧺ us)
+    → nodes_read (fields_nodes ts w rs) (plan_of rule' (front ++ rs)) around w d p (before_it ⧺ cs) ≡ Ok (before_it ⧺ us)
 unfolding xread nodes_of
 rows_read w d none [] none none front rule' around before_it p same apart' h = refl
 rows_read w d (more t ts) (r ∷ rs) (more c cs) (more u us) front rule' around before_it p same apart' h =
-    nodes_in_groups (row_written r t w) (fields_nodes ts w rs) (plan_of rule' (front ++ r ∷ rs) w) around w d p (before_it ⧺ more c cs)
-    ∙ (ap (λ x. x >>= (λ vs. nodes_read (fields_nodes ts w rs) (plan_of rule' (front ++ r ∷ rs) w) around w d (p + places_of (row_written r t w)) vs)) (h.0 front rs rule' around before_it cs p same before)
-    ∙ (ap (λ xs. nodes_read (fields_nodes ts w rs) (plan_of rule' xs w) around w d (p + places_of (row_written r t w)) (before_it ⧺ more u cs)) (append_lists front (r ∷ []) rs)
-    ∙ (ap (nodes_read (fields_nodes ts w rs) (plan_of rule' ((front ++ r ∷ []) ++ rs) w) around w d (p + places_of (row_written r t w))) (append_trees before_it (one u) cs)
+    nodes_in_groups (row_written r t w) (fields_nodes ts w rs) (plan_of rule' (front ++ r ∷ rs)) around w d p (before_it ⧺ more c cs)
+    ∙ (ap (λ x. x >>= (λ vs. nodes_read (fields_nodes ts w rs) (plan_of rule' (front ++ r ∷ rs)) around w d (p + places_of (row_written r t w)) vs)) (h.0 front rs rule' around before_it cs p same before)
+    ∙ (ap (λ xs. nodes_read (fields_nodes ts w rs) (plan_of rule' xs) around w d (p + places_of (row_written r t w)) (before_it ⧺ more u cs)) (append_lists front (r ∷ []) rs)
+    ∙ (ap (nodes_read (fields_nodes ts w rs) (plan_of rule' ((front ++ r ∷ []) ++ rs)) around w d (p + places_of (row_written r t w))) (append_trees before_it (one u) cs)
     ∙ (rows_read w d ts rs cs us (front ++ r ∷ []) rule' around (before_it ⧺ one u) (p + places_of (row_written r t w)) more_same later h.1
     ∙ ap Ok (sym (append_trees before_it (one u) us))))))
   where
@@ -193,7 +201,7 @@ rows_read w d _ _ _ _ front rule' around before_it p same apart' h = absurd (tru
 
 pub silent_row : (w : SpecVersion) (d : Depth) (t : Tree) (r : Row) (c : Tree) → row_written r t w ≡ no_nodes → RowRead w d t r c c
 unfolding xread
-silent_row w d t r c silent front rs rule' around ds rest p same apart' = ap (λ xs. nodes_read xs (plan_of rule' (front ++ r ∷ rs) w) around w d p (ds ⧺ more c rest)) silent
+silent_row w d t r c silent front rs rule' around ds rest p same apart' = ap (λ xs. nodes_read xs (plan_of rule' (front ++ r ∷ rs)) around w d p (ds ⧺ more c rest)) silent
 
 -- A kind's element is read as u, under whatever name it is written.
 abbrev pub IsXRead : SpecVersion → Depth → Tree → Kind → Tree → Type 0
@@ -203,7 +211,7 @@ pub child_row : (w : SpecVersion) (d : Depth) (t : Tree) (r : Row) (c u : Tree) 
     → tag_of r.kind t name ≡ name → IsXRead w d t r.kind u → RowRead w d t r c u
 unfolding xread
 child_row w d t r c u name spelled known there tagged read front rs rule' around ds rest p same apart' =
-    ap (λ xs. nodes_read xs (plan_of rule' (front ++ r ∷ rs) w) around w d p (ds ⧺ more c rest))
+    ap (λ xs. nodes_read xs (plan_of rule' (front ++ r ∷ rs)) around w d p (ds ⧺ more c rest))
     (if_true (knows r.since w && not (is_absent t)) _ _ (rw (known, there) refl) ∙ (ap (λ x. row_nodes x t w r.kind (nodes_of t w r.kind)) spelled ∙ ap (λ n. lone (plain_element n (attributes_of t w r.kind) (nodes_of t w r.kind))) tagged))
     ∙ child_sets front r rs rule' around w d ds rest name (attributes_of t w r.kind) (nodes_of t w r.kind) c u same spelled
     (apart' name (subst (λ (x : Spelled). is_in name (child_names x) ≡ true) (sym spelled) (rw (same_itself name) refl))) known
@@ -221,7 +229,7 @@ appended_is (more t ts) u = refl
 
 -- A node is read by a child that appends, as u.
 abbrev pub SetsItem : Plan → SpecVersion → Depth → ℕ → Node → Tree → Type 0
-SetsItem plan w d i (element n as' default xs) u = (c : Child) × (find_child n.local_name plan.children ≡ Some c) × (c.field ≡ i) × (c.place ≡ all) × ((p : ℕ) → xread (element n as' default xs) w c.kind p d ≡ Ok u)
+SetsItem plan w d i (element n as' default xs) u = (c : Child) × (find_child w n.local_name plan.children ≡ Some c) × (c.field ≡ i) × (c.place ≡ all) × ((p : ℕ) → xread (element n as' default xs) w c.kind p d ≡ Ok u)
 SetsItem plan w d i _ u = true ≡ false
 
 abbrev pub SetItems : Plan → SpecVersion → Depth → ℕ → Nodes → Trees → Type 0
@@ -370,14 +378,14 @@ child_names_distinct bill = refl
 -- ---- the children of a row
 
 pub items_row : (w : SpecVersion) (d : Depth) (ts us : Trees) (r : Row) (name : List ℕ) → r.xml ≡ children name → knows r.since w ≡ true
-    → ((plan : Plan) (i : ℕ) → find_child name plan.children ≡ Some (record { name = name; kind = held_kind r.kind; field = i; place = all }) → SetItems plan w d i (nodes_of (items ts) w r.kind) us)
+    → ((plan : Plan) (i : ℕ) → find_child w name plan.children ≡ Some (record { name = name; since = r.since; kind = held_kind r.kind; field = i; place = all }) → SetItems plan w d i (nodes_of (items ts) w r.kind) us)
     → RowRead w d (items ts) r absent (gathered us)
 unfolding xread nodes_of
 items_row w d ts us r name spelled known sets front rs rule' around ds rest p same apart' =
-    ap (λ xs. nodes_read xs (plan_of rule' (front ++ r ∷ rs) w) around w d p (ds ⧺ more absent rest))
+    ap (λ xs. nodes_read xs (plan_of rule' (front ++ r ∷ rs)) around w d p (ds ⧺ more absent rest))
     (if_true (knows r.since w && true) _ _ (rw known refl) ∙ ap (λ x. row_nodes x (items ts) w r.kind (nodes_of (items ts) w r.kind)) spelled)
-    ∙ gather (plan_of rule' (front ++ r ∷ rs) w) around w d p (nodes_of (items ts) w r.kind) us ds rest none
-    (subst (λ i. SetItems (plan_of rule' (front ++ r ∷ rs) w) w d i (nodes_of (items ts) w r.kind) us) (sym same)
-    (sets (plan_of rule' (front ++ r ∷ rs) w) (length front)
-    (find_row name front r rs w _ (apart' name (subst (λ (x : Spelled). is_in name (child_names x) ≡ true) (sym spelled) (rw (same_itself name) refl))) known
-    (λ cs. subst (λ (x : Spelled). find_child name (row_children (length front) (record r { xml = x }) ++ cs) ≡ Some (record { name = name; kind = held_kind r.kind; field = length front; place = all })) (sym spelled) (if_true (bytes_eq name name) _ _ (same_itself name))))))
+    ∙ gather (plan_of rule' (front ++ r ∷ rs)) around w d p (nodes_of (items ts) w r.kind) us ds rest none
+    (subst (λ i. SetItems (plan_of rule' (front ++ r ∷ rs)) w d i (nodes_of (items ts) w r.kind) us) (sym same)
+    (sets (plan_of rule' (front ++ r ∷ rs)) (length front)
+    (find_row w name front r rs _ (apart' name (subst (λ (x : Spelled). is_in name (child_names x) ≡ true) (sym spelled) (rw (same_itself name) refl)))
+    (λ cs. subst (λ (x : Spelled). find_child w name (row_children (length front) (record r { xml = x }) ++ cs) ≡ Some (record { name = name; since = r.since; kind = held_kind r.kind; field = length front; place = all })) (sym spelled) (finds_first w name _ cs (same_itself name) known)))))

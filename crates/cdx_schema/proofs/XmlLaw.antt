@@ -9,7 +9,7 @@ use Rattle.cdx_models.specs.declared.bom.SpecVersion.TheVariants.{V1_3, V1_4, V1
 use Rattle.cdx_models.specs.Versions.{knows, label}
 use Rattle.cdx_models.specs.Trees.{Name, hash, property, attached_text, contact, entity, commit, action, patch, diff, issue, source, reference, dependency, composition, license, expression, tool, component, swid, pedigree, evidence, copyright, service, classification, service_data, tools_object, metadata, signer, signers, chain, bill, Tree, absent, text, number, boolean, items, fields, Trees, none, more, one, two, ◌⧺◌, is_absent, field, with_field}
 use Rattle.cdx_schema.specs.Kinds.{Lists, hashes, properties, urls, contacts, commits, patches, resolved, links, external_references, dependencies, depended, compositions, assemblies, composed, vulnerabilities, licenses, components, services, copyright_texts, endpoints, authors, tool_list, signer_list, chain_list, classifications, flows, Kind, strict, a_reference, a_signature, a_version, an_entry, a_bill, a_text, a_boolean, a_number, a_list, a_record, a_tools, a_data, a_license_choice, a_license_identifier, Need, optional, required, required_first, else_empty, Spelled, attribute, attribute_or, content, one_text, as_cdata, child, filled_child, read_child, children, either_child, the_version, Row}
-use Rattle.cdx_schema.specs.Table.{rows, list, row, must, at, of, each, old_reference}
+use Rattle.cdx_schema.specs.Table.{rows, list, row, must, from, at, of, each, old_reference}
 use Rattle.cdx_schema.specs.Results.{◌>>=◌}
 use Rattle.cdx_schema.specs.Faults.{lacking}
 use Rattle.cdx_schema.specs.Depth.{Depth, inside, name_too_deep}
@@ -26,7 +26,7 @@ use Rattle.cdx_schema.proofs.HeldKept.{held_there, held_kept, fits_first}
 use Rattle.cdx_schema.specs.Keeping.{keep, fits, is_shallow}
 use Rattle.cdx_models.specs.Trees.{spdx_id, license_name}
 use Rattle.cdx_schema.specs.Membership.{Never, IsOf, IsListOf, IsBooleanOf}
-use Rattle.cdx_schema.proofs.XmlBack.{plan_of, node_step, find_row, field_at, with_field_at, child_names, RowRead, RowsRead, Ends, IsXRead, silent_row, items_row, gathered, row_written, SetItems, SetsItem, gather, list_is, rows_read, record_xread, child_names_distinct, list_xread, text_xread, reference_xread, boolean_xread}
+use Rattle.cdx_schema.proofs.XmlBack.{finds_first, plan_of, node_step, find_row, field_at, with_field_at, child_names, RowRead, RowsRead, Ends, IsXRead, silent_row, items_row, gathered, row_written, SetItems, SetsItem, gather, list_is, rows_read, record_xread, child_names_distinct, list_xread, text_xread, reference_xread, boolean_xread}
 use Rattle.cdx_events.specs.declared.name.OwnedAttribute.{OwnedAttribute}
 use Rattle.cdx_events.specs.Nodes.{Node, Nodes, characters, no_nodes}
 use Rattle.cdx_schema.specs.Nodes.{◌⊕◌}
@@ -76,7 +76,7 @@ flip_false q n h = by (bytes_eq n q) refl
 pub skip_one : (q n : List ℕ) (t : Tree) (as' : List OwnedAttribute) → bytes_eq q n ≡ false → find_attribute q (attribute_of n t ++ as') ≡ find_attribute q as'
 skip_one q n t as' h = by (is_absent t)
   where
-    by : (b : Bool) → find_attribute q ((if b then [] else record { name = record { local = n; space = None; prefix = None }; value = text_of t } ∷ []) ++ as') ≡ find_attribute q as'
+    by : (b : Bool) → find_attribute q ((if b then [] else record { name = plain_name n; value = text_of t } ∷ []) ++ as') ≡ find_attribute q as'
     by true = refl
     by false = if_false (bytes_eq n q) _ _ (flip_false q n h)
 
@@ -141,7 +141,7 @@ AttributesHeld w _ _ = true ≡ false
 pub attribute_there : (q : List ℕ) (t : Tree) (as' : List OwnedAttribute) → is_absent t ≡ false → find_attribute q (attribute_of q t ++ as') ≡ Some (text_of t)
 attribute_there q t as' h = by (is_absent t) h
   where
-    by : (b : Bool) → b ≡ false → find_attribute q ((if b then [] else record { name = record { local = q; space = None; prefix = None }; value = text_of t } ∷ []) ++ as') ≡ Some (text_of t)
+    by : (b : Bool) → b ≡ false → find_attribute q ((if b then [] else record { name = plain_name q; value = text_of t } ∷ []) ++ as') ≡ Some (text_of t)
     by true e = absurd (true≢false e)
     by false e = if_true (bytes_eq q q) _ _ (same_itself q)
 
@@ -169,11 +169,11 @@ not_there w r t n pre rest gone lacks' none' =
 
 pub row_attribute_read : (w : SpecVersion) (r : Row) (t : Tree) (pre rest : List OwnedAttribute) (around : List ℕ) (p : ℕ) → AttributeHeld w r t r.xml
     → ((q : List ℕ) → is_in q (attribute_names r.xml) ≡ true → Lacks q pre × (find_attribute q rest ≡ None))
-    → (if knows r.since w then row_attribute r (pre ++ ((if knows r.since w then row_attributes r t else []) ++ rest)) w around p else Ok absent) ≡ Ok (first_field w r t)
+    → row_attribute r (pre ++ ((if knows r.since w then row_attributes r t else []) ++ rest)) w around p ≡ Ok (first_field w r t)
 row_attribute_read w r t pre rest around p held lacks' = by r.xml held lacks'
   where
     by : (x : Spelled) → AttributeHeld w r t x → ((q : List ℕ) → is_in q (attribute_names x) ≡ true → Lacks q pre × (find_attribute q rest ≡ None))
-        → (if knows r.since w then row_attribute (record r { xml = x }) (pre ++ ((if knows r.since w then row_attributes (record r { xml = x }) t else []) ++ rest)) w around p else Ok absent) ≡ Ok (first_field w (record r { xml = x }) t)
+        → row_attribute (record r { xml = x }) (pre ++ ((if knows r.since w then row_attributes (record r { xml = x }) t else []) ++ rest)) w around p ≡ Ok (first_field w (record r { xml = x }) t)
     by (attribute n) (inl (e)) l =
         ap (λ f. if knows r.since w then attribute_read f n (record r { xml = attribute n }) w around p else Ok absent) (not_there w r t n pre rest e.0 (l n (rw (same_itself n) refl)).0 (l n (rw (same_itself n) refl)).1)
         ∙ (gone e.1 ∙ ap Ok (sym e.0))
@@ -190,14 +190,14 @@ row_attribute_read w r t pre rest around p held lacks' = by r.xml held lacks'
         ∙ (ap (λ f. attribute_or_read f n m (record r { xml = attribute_or n m }) p) (found_there w r t n pre rest e.0 e.1 (l n (rw (same_itself n) refl)).0)
         ∙ ap (λ f. parsed f p n (text_of t) r.kind) e.2)
     by the_version e l = if_true (knows r.since w) _ _ e
-    by content e l = same_either (knows r.since w) (Ok absent)
-    by one_text e l = same_either (knows r.since w) (Ok absent)
-    by as_cdata e l = same_either (knows r.since w) (Ok absent)
-    by (child n) e l = same_either (knows r.since w) (Ok absent)
-    by (filled_child n) e l = same_either (knows r.since w) (Ok absent)
-    by (read_child n) e l = same_either (knows r.since w) (Ok absent)
-    by (children n) e l = same_either (knows r.since w) (Ok absent)
-    by (either_child m n) e l = same_either (knows r.since w) (Ok absent)
+    by content e l = refl
+    by one_text e l = refl
+    by as_cdata e l = refl
+    by (child n) e l = refl
+    by (filled_child n) e l = refl
+    by (read_child n) e l = refl
+    by (children n) e l = refl
+    by (either_child m n) e l = refl
 
 pub append_attributes : (x a b : List OwnedAttribute) → x ++ (a ++ b) ≡ (x ++ a) ++ b
 append_attributes [] a b = refl
@@ -211,7 +211,7 @@ pub attributes_back : (w : SpecVersion) (ts : Trees) (rs : List Row) (pre all' :
 unfolding attributes_read
 attributes_back w none [] pre all' around p dist lacks' held is = refl
 attributes_back w (more t ts) (r ∷ rs) pre all' around p dist lacks' held is =
-    ap (λ x. x >>= (λ u. attributes_read rs all' w around p >>= (λ us. Ok (more u us)))) (ap (λ a. if knows r.since w then row_attribute r a w around p else Ok absent) is
+    ap (λ x. x >>= (λ u. attributes_read rs all' w around p >>= (λ us. Ok (more u us)))) (ap (λ a. row_attribute r a w around p) is
     ∙ row_attribute_read w r t pre (attributes_in ts rs w) around p held.0 (λ q h. (lacks' q (is_in_first q (attribute_names r.xml) (all_attribute_names rs) h), no_attribute q ts rs w (apart q (attribute_names r.xml) (all_attribute_names rs) dist h))))
     ∙ ap (λ x. x >>= (λ us. Ok (more (first_field w r t) us))) (attributes_back w ts rs (pre ++ (if knows r.since w then row_attributes r t else [])) all' around p
     (distinct_later (attribute_names r.xml) (all_attribute_names rs) dist)
@@ -312,6 +312,10 @@ row_cases w d t r well (inr (inl h)) = inl (absent_is t (by r.need well h.1), in
     by else_empty e f = absurd (true≢false (sym e))
 row_cases w d t r well (inr (inr h)) = inr (h.0, held_there w d t r.kind h.2, h.2)
 
+pub and_false : (b : Bool) → (b && false) ≡ false
+and_false true = refl
+and_false false = refl
+
 pub lacks_not : (w : SpecVersion) (d : Depth) (t u : Tree) (r : Row) (o : Option (List ℕ))
     → ((t ≡ absent) × ((knows r.since w ≡ false) ⊎ (is_required r.need w ≡ false))) ⊎ ((knows r.since w ≡ true) × (is_absent t ≡ false) × Held w d t r.kind)
     → (is_absent t ≡ false → is_absent u ≡ false) → lacks o r u w ≡ false
@@ -319,23 +323,11 @@ lacks_not w d t u r None h f = refl
 lacks_not w d t u r (Some q) (inl (h)) f = by h.1
   where
     by : (knows r.since w ≡ false) ⊎ (is_required r.need w ≡ false) → lacks (Some q) r u w ≡ false
-    by (inl e) = rw e refl
-    by (inr e) = rw e (ap (λ b. b && is_absent u) (and_false (knows r.since w)))
-      where
-        and_false : (b : Bool) → (b && false) ≡ false
-        and_false true = refl
-        and_false false = refl
-lacks_not w d t u r (Some q) (inr h) f = rw (f h.1) (and_false' (knows r.since w && is_required r.need w))
-  where
-    and_false' : (b : Bool) → (b && false) ≡ false
-    and_false' true = refl
-    and_false' false = refl
+    by (inl e) = rw e (and_false (is_required r.need w))
+    by (inr e) = rw e refl
+lacks_not w d t u r (Some q) (inr h) f = rw (f h.1) (ap (λ b. is_required r.need w && b) (and_false (knows r.since w)) ∙ and_false (is_required r.need w))
 
 -- ---- one row's element
-
-pub and_false : (b : Bool) → (b && false) ≡ false
-and_false true = refl
-and_false false = refl
 
 -- A row without a field writes nothing.
 pub nothing_written : (w : SpecVersion) (t : Tree) (r : Row) → t ≡ absent → row_written r t w ≡ no_nodes
@@ -344,15 +336,15 @@ nothing_written w t r h = if_false (knows r.since w && not (is_absent t)) _ _ (a
 pub element_row : (w : SpecVersion) (d : Depth) (t : Tree) (r : Row) (u : Tree) (name : List ℕ) (as' : List OwnedAttribute) (xs : Nodes) (place' : Place)
     → is_in name (child_names r.xml) ≡ true
     → row_written r t w ≡ lone (plain_element name as' xs)
-    → ((i : ℕ) (cs : List Child) → find_child name (row_children i r ++ cs) ≡ Some (record { name = name; kind = r.kind; field = i; place = place' }))
+    → ((i : ℕ) (cs : List Child) → find_child w name (row_children i r ++ cs) ≡ Some (record { name = name; since = r.since; kind = r.kind; field = i; place = place' }))
     → ((i : ℕ) (ts : Trees) → stored place' i u ts ≡ with_field i u ts) → is_second place' absent ≡ false
     → knows r.since w ≡ true → ((p : ℕ) → xread (plain_element name as' xs) w r.kind p d ≡ Ok u)
     → RowRead w d t r absent u
 unfolding xread
 element_row w d t r u name as' xs place' among is finds stores first known read front rs rule' around ds rest p same apart' =
-    ap (λ ys. nodes_read ys (plan_of rule' (front ++ r ∷ rs) w) around w d p (ds ⧺ more absent rest)) is
-    ∙ (node_step (plan_of rule' (front ++ r ∷ rs) w) around w d p (record { local = name; space = None; prefix = None }) as' None xs (record { name = name; kind = r.kind; field = length front; place = place' }) u (ds ⧺ more absent rest)
-    (find_row name front r rs w _ (apart' name among) known (finds (length front)))
+    ap (λ ys. nodes_read ys (plan_of rule' (front ++ r ∷ rs)) around w d p (ds ⧺ more absent rest)) is
+    ∙ (node_step (plan_of rule' (front ++ r ∷ rs)) around w d p (plain_name name) as' (record { default = None }) xs (record { name = name; since = r.since; kind = r.kind; field = length front; place = place' }) u (ds ⧺ more absent rest)
+    (find_row w name front r rs _ (apart' name among) (finds (length front)))
     (ap (is_second place') (ap (λ i. field i (ds ⧺ more absent rest)) (sym same) ∙ field_at ds rest absent) ∙ first)
     (read p)
     ∙ ap Ok (stores (length front) (ds ⧺ more absent rest) ∙ (ap (λ i. with_field i u (ds ⧺ more absent rest)) (sym same) ∙ with_field_at ds rest absent u)))
@@ -388,7 +380,7 @@ child_row_back w d t r n e plain (inl h) f = subst (λ (x : Tree). RowRead w d x
 child_row_back w d t r n e plain (inr h) f = element_row w d t r (tripped w t r.kind) n (attributes_of t w r.kind) (nodes_of t w r.kind) last
     (subst (λ (x : Spelled). is_in n (child_names x) ≡ true) (sym e) (rw (same_itself n) refl))
     (if_true (knows r.since w && not (is_absent t)) _ _ (rw (h.0, h.1) refl) ∙ (ap (λ x. row_nodes x t w r.kind (nodes_of t w r.kind)) e ∙ ap lone (wrapped_plain w t n r.kind (nodes_of t w r.kind) plain)))
-    (λ i cs. subst (λ (x : Spelled). find_child n (row_children i (record r { xml = x }) ++ cs) ≡ Some (record { name = n; kind = r.kind; field = i; place = last })) (sym e) (if_true (bytes_eq n n) _ _ (same_itself n)))
+    (λ i cs. subst (λ (x : Spelled). find_child w n (row_children i (record r { xml = x }) ++ cs) ≡ Some (record { name = n; since = r.since; kind = r.kind; field = i; place = last })) (sym e) (finds_first w n _ cs (same_itself n) h.0))
     (λ i ts. refl) refl h.0
     (λ q. ap (λ x. xread x w r.kind q d) (sym (wrapped_plain w t n r.kind (nodes_of t w r.kind) plain)) ∙ f plain h.2 n q)
 
@@ -407,7 +399,7 @@ filled_row_back w d t r n e plain (inr h) f = by (is_hollow t) refl
     by false g = element_row w d t r (tripped w t r.kind) n (attributes_of t w r.kind) (nodes_of t w r.kind) last
         (subst (λ (x : Spelled). is_in n (child_names x) ≡ true) (sym e) (rw (same_itself n) refl))
         (at ∙ (if_false (is_hollow t) _ _ g ∙ ap lone (wrapped_plain w t n r.kind (nodes_of t w r.kind) plain)))
-        (λ i cs. subst (λ (x : Spelled). find_child n (row_children i (record r { xml = x }) ++ cs) ≡ Some (record { name = n; kind = r.kind; field = i; place = last })) (sym e) (if_true (bytes_eq n n) _ _ (same_itself n)))
+        (λ i cs. subst (λ (x : Spelled). find_child w n (row_children i (record r { xml = x }) ++ cs) ≡ Some (record { name = n; since = r.since; kind = r.kind; field = i; place = last })) (sym e) (finds_first w n _ cs (same_itself n) h.0))
         (λ i ts. refl) refl h.0
         (λ q. ap (λ x. xread x w r.kind q d) (sym (wrapped_plain w t n r.kind (nodes_of t w r.kind) plain)) ∙ f plain h.2 n q)
 
@@ -424,11 +416,11 @@ is_elem _ = true
 
 -- A plan appends each item of the kind to a field.
 abbrev pub Finds : SpecVersion → Depth → Plan → ℕ → Kind → List ℕ → Type 0
-Finds w d plan i k tag = (t : Tree) → Held w d t k → (c : Child) × (find_child (tag_of k t tag) plan.children ≡ Some c) × (c.field ≡ i) × (c.place ≡ all) × (c.kind ≡ k)
+Finds w d plan i k tag = (t : Tree) → Held w d t k → (c : Child) × (find_child w (tag_of k t tag) plan.children ≡ Some c) × (c.field ≡ i) × (c.place ≡ all) × (c.kind ≡ k)
 
 pub item_set : (w : SpecVersion) (d : Depth) (t : Tree) (k : Kind) (u : Tree) (plan : Plan) (i : ℕ) (tag : List ℕ) → Held w d t k → Finds w d plan i k tag → IsXRead w d t k u → SetsItem plan w d i (wrapped t w tag k (nodes_of t w k)) u
 item_set w d t k u plan i tag h finds read =
-    let f : (c : Child) × (find_child (tag_of k t tag) plan.children ≡ Some c) × (c.field ≡ i) × (c.place ≡ all) × (c.kind ≡ k) = finds t h in
+    let f : (c : Child) × (find_child w (tag_of k t tag) plan.children ≡ Some c) × (c.field ≡ i) × (c.place ≡ all) × (c.kind ≡ k) = finds t h in
     (f.0, f.1, f.2, f.3, (λ p. ap (λ x. xread (wrapped t w tag k (nodes_of t w k)) w x p d) f.4 ∙ read tag p))
 
 pub one_more : (plan : Plan) (w : SpecVersion) (d : Depth) (i : ℕ) (b : Bool) (x : Node) (xs : Nodes) (u : Tree) (us : Trees)
@@ -462,14 +454,14 @@ known_of w d r ts (inr (inl h)) = h.0
 known_of w d r ts (inr (inr h)) = h.0
 
 pub children_row_back : (w : SpecVersion) (d : Depth) (t : Tree) (l : Lists) (n : List ℕ) (r : Row) → r.kind ≡ a_list l → r.xml ≡ children n → (list l).name ≡ n → RowHeld w d t r
-    → ((ts : Trees) → t ≡ items ts → (plan : Plan) (i : ℕ) → AllHeld w d ts (list l).kind → find_child n plan.children ≡ Some (record { name = n; kind = (list l).kind; field = i; place = all }) → SetItems plan w d i (nodes_of (items ts) w (a_list l)) (items_tripped w ts (list l).kind))
+    → ((ts : Trees) → t ≡ items ts → (plan : Plan) (i : ℕ) → AllHeld w d ts (list l).kind → find_child w n plan.children ≡ Some (record { name = n; since = r.since; kind = (list l).kind; field = i; place = all }) → SetItems plan w d i (nodes_of (items ts) w (a_list l)) (items_tripped w ts (list l).kind))
     → RowRead w d t r absent (regathered (tripped w t (a_list l)))
 unfolding tripped nodes_of
 children_row_back w d absent l n r e x name h f = silent_row w d absent r absent (nothing_written w absent r refl)
 children_row_back w d (items ts) l n r e x name h f =
     items_row w d ts (items_tripped w ts (list l).kind) r n x (known_of w d r ts h)
     (λ plan i found. subst (λ (k : Kind). SetItems plan w d i (nodes_of (items ts) w k) (items_tripped w ts (list l).kind)) (sym e)
-    (f ts refl plan i (subst (λ (k : Kind). AllHeld w d ts (held_kind k)) e (list_row_held w d r ts h)) (subst (λ (k : Kind). find_child n plan.children ≡ Some (record { name = n; kind = held_kind k; field = i; place = all })) e found)))
+    (f ts refl plan i (subst (λ (k : Kind). AllHeld w d ts (held_kind k)) e (list_row_held w d r ts h)) (subst (λ (k : Kind). find_child w n plan.children ≡ Some (record { name = n; since = r.since; kind = held_kind k; field = i; place = all })) e found)))
 children_row_back w d (text s) l n r e x name h f = absurd (true≢false (no_leaf w d r (text s) refl (λ m. by m) (λ g. subst (λ (k : Kind). Held w d (text s) k) e g) h))
   where
     by : (m : Need) → is_written m (text s) ≡ true
@@ -549,7 +541,8 @@ unfolding tripped nodes_of xread rows attributes_read ended
 spdx_id_row w d s r x k known = element_row w d (fields spdx_id (one (text s))) r (fields spdx_id (one (text s))) (codes "id") [] (lone (characters s)) once
     (subst (λ (y : Spelled). is_in (codes "id") (child_names y) ≡ true) (sym x) refl)
     (if_true (knows r.since w && true) _ _ (rw known refl) ∙ (ap (λ y. row_nodes y (fields spdx_id (one (text s))) w r.kind (nodes_of (fields spdx_id (one (text s))) w r.kind)) x ∙ ap (λ l. lone (wrapped (fields spdx_id (one (text s))) w (codes "id") l (nodes_of (fields spdx_id (one (text s))) w l))) k))
-    (λ i cs. subst (λ (y : Spelled). find_child (codes "id") (row_children i (record r { xml = y }) ++ cs) ≡ Some (record { name = codes "id"; kind = r.kind; field = i; place = once })) (sym x) refl)
+    (λ i cs. subst (λ (y : Spelled). find_child w (codes "id") (row_children i (record r { xml = y }) ++ cs) ≡ Some (record { name = codes "id"; since = r.since; kind = r.kind; field = i; place = once })) (sym x)
+    (finds_first w (codes "id") (record { name = codes "id"; since = r.since; kind = r.kind; field = i; place = once }) (record { name = codes "name"; since = r.since; kind = r.kind; field = i; place = once } ∷ cs) refl known))
     (λ i ts. refl) refl known
     (λ q. ap (λ l. xread (plain_element (codes "id") [] (lone (characters s))) w l q d) k)
 
@@ -559,7 +552,8 @@ unfolding tripped nodes_of xread rows attributes_read ended
 license_name_row w d s r x k known = element_row w d (fields license_name (one (text s))) r (fields license_name (one (text s))) (codes "name") [] (lone (characters s)) once
     (subst (λ (y : Spelled). is_in (codes "name") (child_names y) ≡ true) (sym x) refl)
     (if_true (knows r.since w && true) _ _ (rw known refl) ∙ (ap (λ y. row_nodes y (fields license_name (one (text s))) w r.kind (nodes_of (fields license_name (one (text s))) w r.kind)) x ∙ ap (λ l. lone (wrapped (fields license_name (one (text s))) w (codes "id") l (nodes_of (fields license_name (one (text s))) w l))) k))
-    (λ i cs. subst (λ (y : Spelled). find_child (codes "name") (row_children i (record r { xml = y }) ++ cs) ≡ Some (record { name = codes "name"; kind = r.kind; field = i; place = once })) (sym x) refl)
+    (λ i cs. subst (λ (y : Spelled). find_child w (codes "name") (row_children i (record r { xml = y }) ++ cs) ≡ Some (record { name = codes "name"; since = r.since; kind = r.kind; field = i; place = once })) (sym x)
+    (finds_first w (codes "name") (record { name = codes "name"; since = r.since; kind = r.kind; field = i; place = once }) cs refl known))
     (λ i ts. refl) refl known
     (λ q. ap (λ l. xread (plain_element (codes "name") [] (lone (characters s))) w l q d) k)
 
@@ -582,8 +576,8 @@ ItemsRead w d t = (ts : Trees) → t ≡ items ts → (l : Lists) → is_well_ki
     → SetItems plan w d i (nodes_of (items ts) w (a_list l)) (items_tripped w ts (list l).kind)
 
 -- a child that is found by its own name
-pub finds_plain : (w : SpecVersion) (d : Depth) (plan : Plan) (i : ℕ) (k : Kind) (n : List ℕ) → is_plain k ≡ true → find_child n plan.children ≡ Some (record { name = n; kind = k; field = i; place = all }) → Finds w d plan i k n
-finds_plain w d plan i k n plain found t h = (record { name = n; kind = k; field = i; place = all }, ap (λ x. find_child x plan.children) (tag_plain k t n plain) ∙ found, refl, refl, refl)
+pub finds_plain : (w : SpecVersion) (d : Depth) (plan : Plan) (i : ℕ) (v : SpecVersion) (k : Kind) (n : List ℕ) → is_plain k ≡ true → find_child w n plan.children ≡ Some (record { name = n; since = v; kind = k; field = i; place = all }) → Finds w d plan i k n
+finds_plain w d plan i v k n plain found t h = (record { name = n; since = v; kind = k; field = i; place = all }, ap (λ x. find_child w x plan.children) (tag_plain k t n plain) ∙ found, refl, refl, refl)
 
 pub list_row : (w : SpecVersion) (d : Depth) (t : Tree) (r : Row) (n : List ℕ) (k : Kind) → r.kind ≡ k → r.xml ≡ children n → is_well_list k n ≡ true → RowHeld w d t r → ItemsRead w d t
     → RowRead w d t r absent (regathered (tripped w t r.kind))
@@ -593,7 +587,7 @@ list_row w d t r n (a_list l) e x well h f =
     subst (λ (j : Kind). RowRead w d t r absent (regathered (tripped w t j))) (sym e)
     (children_row_back w d t l n r e x (same_name (list l).name n p.0) h
     (λ ts is plan i held found. f ts is l p.1 plan i held
-    (subst (λ (m : List ℕ). Finds w d plan i (list l).kind m) (sym (same_name (list l).name n p.0)) (finds_plain w d plan i (list l).kind n q.0 found))))
+    (subst (λ (m : List ℕ). Finds w d plan i (list l).kind m) (sym (same_name (list l).name n p.0)) (finds_plain w d plan i r.since (list l).kind n q.0 found))))
 list_row w d t r n _ e x well h f = absurd (true≢false (sym well))
 
 pub row_back : (w : SpecVersion) (d : Depth) (t : Tree) (r : Row) → reads_well r.need r.kind r.xml ≡ true → RowHeld w d t r
@@ -647,7 +641,7 @@ optional_not required_first w h = absurd (true≢false (sym h))
 optional_not else_empty w h = absurd (true≢false (sym h))
 
 pub lacks_optional : (w : SpecVersion) (r : Row) (u : Tree) (q : List ℕ) → is_optional r.need ≡ true → lacks (Some q) r u w ≡ false
-lacks_optional w r u q h = rw (optional_not r.need w h) (ap (λ b. b && is_absent u) (and_false (knows r.since w)))
+lacks_optional w r u q h = rw (optional_not r.need w h) refl
 
 pub leaf_same : (w : SpecVersion) (d : Depth) (t : Tree) (k : Kind) → is_leaf k ≡ true → Held w d t k → t ≡ tripped w t k
 unfolding tripped
@@ -972,21 +966,21 @@ record_back dec w d chain ts other' deep h f = well_xread dec w d chain ts deep 
 
 pub finds_list : (w : SpecVersion) (d : Depth) (l : Lists) → Finds w d (plan_of_list l) 0 (list l).kind (list l).name
 unfolding list
-finds_list w d hashes t h = finds_plain w d (plan_of_list hashes) 0 (list hashes).kind (list hashes).name refl refl t h
-finds_list w d properties t h = finds_plain w d (plan_of_list properties) 0 (list properties).kind (list properties).name refl refl t h
-finds_list w d urls t h = finds_plain w d (plan_of_list urls) 0 (list urls).kind (list urls).name refl refl t h
-finds_list w d contacts t h = finds_plain w d (plan_of_list contacts) 0 (list contacts).kind (list contacts).name refl refl t h
-finds_list w d commits t h = finds_plain w d (plan_of_list commits) 0 (list commits).kind (list commits).name refl refl t h
-finds_list w d patches t h = finds_plain w d (plan_of_list patches) 0 (list patches).kind (list patches).name refl refl t h
-finds_list w d resolved t h = finds_plain w d (plan_of_list resolved) 0 (list resolved).kind (list resolved).name refl refl t h
-finds_list w d links t h = finds_plain w d (plan_of_list links) 0 (list links).kind (list links).name refl refl t h
-finds_list w d external_references t h = finds_plain w d (plan_of_list external_references) 0 (list external_references).kind (list external_references).name refl refl t h
-finds_list w d dependencies t h = finds_plain w d (plan_of_list dependencies) 0 (list dependencies).kind (list dependencies).name refl refl t h
-finds_list w d depended t h = finds_plain w d (plan_of_list depended) 0 (list depended).kind (list depended).name refl refl t h
-finds_list w d compositions t h = finds_plain w d (plan_of_list compositions) 0 (list compositions).kind (list compositions).name refl refl t h
-finds_list w d assemblies t h = finds_plain w d (plan_of_list assemblies) 0 (list assemblies).kind (list assemblies).name refl refl t h
-finds_list w d composed t h = finds_plain w d (plan_of_list composed) 0 (list composed).kind (list composed).name refl refl t h
-finds_list w d vulnerabilities t h = finds_plain w d (plan_of_list vulnerabilities) 0 (list vulnerabilities).kind (list vulnerabilities).name refl refl t h
+finds_list w d hashes t h = finds_plain w d (plan_of_list hashes) 0 V1_3 (list hashes).kind (list hashes).name refl refl t h
+finds_list w d properties t h = finds_plain w d (plan_of_list properties) 0 V1_3 (list properties).kind (list properties).name refl refl t h
+finds_list w d urls t h = finds_plain w d (plan_of_list urls) 0 V1_3 (list urls).kind (list urls).name refl refl t h
+finds_list w d contacts t h = finds_plain w d (plan_of_list contacts) 0 V1_3 (list contacts).kind (list contacts).name refl refl t h
+finds_list w d commits t h = finds_plain w d (plan_of_list commits) 0 V1_3 (list commits).kind (list commits).name refl refl t h
+finds_list w d patches t h = finds_plain w d (plan_of_list patches) 0 V1_3 (list patches).kind (list patches).name refl refl t h
+finds_list w d resolved t h = finds_plain w d (plan_of_list resolved) 0 V1_3 (list resolved).kind (list resolved).name refl refl t h
+finds_list w d links t h = finds_plain w d (plan_of_list links) 0 V1_3 (list links).kind (list links).name refl refl t h
+finds_list w d external_references t h = finds_plain w d (plan_of_list external_references) 0 V1_3 (list external_references).kind (list external_references).name refl refl t h
+finds_list w d dependencies t h = finds_plain w d (plan_of_list dependencies) 0 V1_3 (list dependencies).kind (list dependencies).name refl refl t h
+finds_list w d depended t h = finds_plain w d (plan_of_list depended) 0 V1_3 (list depended).kind (list depended).name refl refl t h
+finds_list w d compositions t h = finds_plain w d (plan_of_list compositions) 0 V1_3 (list compositions).kind (list compositions).name refl refl t h
+finds_list w d assemblies t h = finds_plain w d (plan_of_list assemblies) 0 V1_3 (list assemblies).kind (list assemblies).name refl refl t h
+finds_list w d composed t h = finds_plain w d (plan_of_list composed) 0 V1_3 (list composed).kind (list composed).name refl refl t h
+finds_list w d vulnerabilities t h = finds_plain w d (plan_of_list vulnerabilities) 0 V1_3 (list vulnerabilities).kind (list vulnerabilities).name refl refl t h
 finds_list w d licenses absent h = absurd (true≢false h)
 finds_list w d licenses (text x) h = absurd (true≢false h)
 finds_list w d licenses (number x) h = absurd (true≢false h)
@@ -994,19 +988,19 @@ finds_list w d licenses (boolean x) h = absurd (true≢false h)
 finds_list w d licenses (items x) h = absurd (true≢false h.0)
 finds_list w d licenses (fields n ts) h = by h.0
   where
-    by : (n ≡ license) ⊎ (n ≡ expression) → (c : Child) × (find_child (tag_of a_license_choice (fields n ts) (list licenses).name) (plan_of_list licenses).children ≡ Some c) × (c.field ≡ 0) × (c.place ≡ all) × (c.kind ≡ a_license_choice)
-    by (inl e) = (record { name = codes "license"; kind = a_license_choice; field = 0; place = all }, ap (λ (m : Name). find_child (name_in a_license_choice m (list licenses).name) (plan_of_list licenses).children) e, refl, refl, refl)
-    by (inr e) = (record { name = codes "expression"; kind = a_license_choice; field = 0; place = all }, ap (λ (m : Name). find_child (name_in a_license_choice m (list licenses).name) (plan_of_list licenses).children) e, refl, refl, refl)
-finds_list w d components t h = finds_plain w d (plan_of_list components) 0 (list components).kind (list components).name refl refl t h
-finds_list w d services t h = finds_plain w d (plan_of_list services) 0 (list services).kind (list services).name refl refl t h
-finds_list w d copyright_texts t h = finds_plain w d (plan_of_list copyright_texts) 0 (list copyright_texts).kind (list copyright_texts).name refl refl t h
-finds_list w d endpoints t h = finds_plain w d (plan_of_list endpoints) 0 (list endpoints).kind (list endpoints).name refl refl t h
-finds_list w d authors t h = finds_plain w d (plan_of_list authors) 0 (list authors).kind (list authors).name refl refl t h
-finds_list w d tool_list t h = finds_plain w d (plan_of_list tool_list) 0 (list tool_list).kind (list tool_list).name refl refl t h
-finds_list w d signer_list t h = finds_plain w d (plan_of_list signer_list) 0 (list signer_list).kind (list signer_list).name refl refl t h
-finds_list w d chain_list t h = finds_plain w d (plan_of_list chain_list) 0 (list chain_list).kind (list chain_list).name refl refl t h
-finds_list w d classifications t h = finds_plain w d (plan_of_list classifications) 0 (list classifications).kind (list classifications).name refl refl t h
-finds_list w d flows t h = finds_plain w d (plan_of_list flows) 0 (list flows).kind (list flows).name refl refl t h
+    by : (n ≡ license) ⊎ (n ≡ expression) → (c : Child) × (find_child w (tag_of a_license_choice (fields n ts) (list licenses).name) (plan_of_list licenses).children ≡ Some c) × (c.field ≡ 0) × (c.place ≡ all) × (c.kind ≡ a_license_choice)
+    by (inl e) = (record { name = codes "license"; since = V1_3; kind = a_license_choice; field = 0; place = all }, ap (λ (m : Name). find_child w (name_in a_license_choice m (list licenses).name) (plan_of_list licenses).children) e, refl, refl, refl)
+    by (inr e) = (record { name = codes "expression"; since = V1_3; kind = a_license_choice; field = 0; place = all }, ap (λ (m : Name). find_child w (name_in a_license_choice m (list licenses).name) (plan_of_list licenses).children) e, refl, refl, refl)
+finds_list w d components t h = finds_plain w d (plan_of_list components) 0 V1_3 (list components).kind (list components).name refl refl t h
+finds_list w d services t h = finds_plain w d (plan_of_list services) 0 V1_3 (list services).kind (list services).name refl refl t h
+finds_list w d copyright_texts t h = finds_plain w d (plan_of_list copyright_texts) 0 V1_3 (list copyright_texts).kind (list copyright_texts).name refl refl t h
+finds_list w d endpoints t h = finds_plain w d (plan_of_list endpoints) 0 V1_3 (list endpoints).kind (list endpoints).name refl refl t h
+finds_list w d authors t h = finds_plain w d (plan_of_list authors) 0 V1_3 (list authors).kind (list authors).name refl refl t h
+finds_list w d tool_list t h = finds_plain w d (plan_of_list tool_list) 0 V1_3 (list tool_list).kind (list tool_list).name refl refl t h
+finds_list w d signer_list t h = finds_plain w d (plan_of_list signer_list) 0 V1_3 (list signer_list).kind (list signer_list).name refl refl t h
+finds_list w d chain_list t h = finds_plain w d (plan_of_list chain_list) 0 V1_3 (list chain_list).kind (list chain_list).name refl refl t h
+finds_list w d classifications t h = finds_plain w d (plan_of_list classifications) 0 V1_3 (list classifications).kind (list classifications).name refl refl t h
+finds_list w d flows t h = finds_plain w d (plan_of_list flows) 0 V1_3 (list flows).kind (list flows).name refl refl t h
 
 pub list_elem : (l : Lists) → is_elem (list l).kind ≡ true
 unfolding list
@@ -1073,20 +1067,34 @@ tools_list_back w d ts us h tag p =
     by V1_5 (more x xs) = refl
 
 pub finds_tool : (w : SpecVersion) (d : Depth) → Finds w d tools_plan 0 (a_record tool) (codes "tool")
-finds_tool w d t h = finds_plain w d tools_plan 0 (a_record tool) (codes "tool") refl refl t h
+finds_tool w d t h = finds_plain w d tools_plan 0 V1_3 (a_record tool) (codes "tool") refl refl t h
 
--- the row of which the tools before an object are
+-- the row of which the tools before an object are, and the rows of an object as its plan knows them
 abbrev pub tool_row : Row
 tool_row = each tool_list "tool"
 
-pub tools_object_back : (d : Depth) (ts : Trees) → FieldsHeld V1_5 d ts (rows tools_object) → RowsRead V1_5 d ts (rows tools_object) (first_fields V1_5 ts (rows tools_object)) (second_fields V1_5 ts (rows tools_object))
+abbrev pub object_rows : List Row
+object_rows = from V1_5 (of (a_list services) "services") ∷ from V1_5 (of (a_list components) "components") ∷ []
+
+object_held : (d : Depth) (ts : Trees) → FieldsHeld V1_5 d ts (rows tools_object) → FieldsHeld V1_5 d ts object_rows
+unfolding rows
+object_held d none h = h
+object_held d (more s none) h = h
+object_held d (more s (more c none)) h = h
+object_held d (more s (more c (more x us))) h = h
+
+-- rows that are written and read well are read back
+abbrev pub RowsReadBack : SpecVersion → Depth → Trees → Type 0
+RowsReadBack w d ts = (rs : List Row) → all_well rs ≡ true → FieldsHeld w d ts rs → RowsRead w d ts rs (first_fields w ts rs) (second_fields w ts rs)
+
+pub tools_object_back : (d : Depth) (ts : Trees) → FieldsHeld V1_5 d ts (rows tools_object) → RowsRead V1_5 d ts object_rows (first_fields V1_5 ts object_rows) (second_fields V1_5 ts object_rows)
     → IsXRead V1_5 d (fields tools_object ts) a_tools (tripped V1_5 (fields tools_object ts) a_tools)
 unfolding xread nodes_of tripped rows list
 tools_object_back d none h r tag p = absurd (true≢false h)
 tools_object_back d (more s none) h r tag p = absurd (true≢false h.1)
 tools_object_back d (more s (more c (more x us))) h r tag p = absurd (true≢false h.1.1)
 tools_object_back d (more s (more c none)) h r tag p =
-    ap (λ x. x >>= (λ vs. tools_of E V1_5 vs)) (rows_read V1_5 d (two s c) (rows tools_object) (two absent absent) (two (tripped V1_5 s (a_list services)) (tripped V1_5 c (a_list components))) (tool_row ∷ []) strict tag (one absent) (suc p) refl refl r)
+    ap (λ x. x >>= (λ vs. tools_of E V1_5 vs)) (rows_read V1_5 d (two s c) object_rows (two absent absent) (two (tripped V1_5 s (a_list services)) (tripped V1_5 c (a_list components))) (tool_row ∷ []) strict tag (one absent) (suc p) refl refl r)
   where
     E : Element
     E = record { name = tag; attributes = []; namespace = None; nodes = fields_nodes (two s c) V1_5 (rows tools_object); start = p; read = λ plan v e xs. nodes_read (fields_nodes (two s c) V1_5 (rows tools_object)) plan tag v e (suc p) xs }
@@ -1101,12 +1109,12 @@ signer_xback w d ts h = by (two_texts_of w d ts (must (of a_text "algorithm")) (
     by e = subst (λ (x : Trees). IsXRead w d (fields signer x) a_signature (tripped w (fields signer x) a_signature)) (sym e.2) (λ tag p. refl)
 
 pub listed_back : (w : SpecVersion) (d : Depth) (n : Name) (name : List ℕ) (ts : Trees) (tag : List ℕ) (p : ℕ)
-    → find_child name signature_plan.children ≡ Some (record { name = name; kind = a_record n; field = 0; place = last })
+    → find_child w name signature_plan.children ≡ Some (record { name = name; since = V1_3; kind = a_record n; field = 0; place = last })
     → ((q : ℕ) → xread (plain_element name [] (fields_nodes ts w (rows n))) w (a_record n) q d ≡ Ok (tripped w (fields n ts) (a_record n)))
     → xread (plain_element tag [] (lone (plain_element name [] (fields_nodes ts w (rows n))))) w a_signature p d ≡ Ok (tripped w (fields n ts) a_signature)
 unfolding xread tripped
 listed_back w d n name ts tag p found read =
-    ap (λ x. x >>= (λ vs. signature_of E w vs)) (node_step signature_plan tag w d (suc p) (plain_name name) [] None (fields_nodes ts w (rows n)) (record { name = name; kind = a_record n; field = 0; place = last }) (tripped w (fields n ts) (a_record n)) (more absent (two absent absent)) found refl (read (suc p)))
+    ap (λ x. x >>= (λ vs. signature_of E w vs)) (node_step signature_plan tag w d (suc p) (plain_name name) [] (record { default = None }) (fields_nodes ts w (rows n)) (record { name = name; since = V1_3; kind = a_record n; field = 0; place = last }) (tripped w (fields n ts) (a_record n)) (more absent (two absent absent)) found refl (read (suc p)))
   where
     E : Element
     E = record { name = tag; attributes = []; namespace = None; nodes = lone (plain_element name [] (fields_nodes ts w (rows n))); start = p; read = λ plan v e xs. nodes_read (lone (plain_element name [] (fields_nodes ts w (rows n)))) plan tag v e (suc p) xs }
@@ -1134,23 +1142,23 @@ is_chain _ = false
 -- ---- data
 
 pub class_item : (w : SpecVersion) (d : Depth) (us : Trees) → FieldsHeld w d us (rows classification)
-    → SetsItem (data_plan w) w d 0 (wrapped (fields classification us) w (codes "classification") an_entry (nodes_of (fields classification us) w an_entry)) (tripped w (fields classification us) an_entry)
+    → SetsItem data_plan w d 0 (wrapped (fields classification us) w (codes "classification") an_entry (nodes_of (fields classification us) w an_entry)) (tripped w (fields classification us) an_entry)
 unfolding xread nodes_of rows attributes_read ended tripped
 class_item w d us h = by (two_texts_of w d us (must (at a_text "flow")) (must (row a_text content "classification")) refl refl refl refl refl refl h)
   where
-    by : (f : List ℕ) × (g : List ℕ) × (us ≡ two (text f) (text g)) → SetsItem (data_plan w) w d 0 (wrapped (fields classification us) w (codes "classification") an_entry (nodes_of (fields classification us) w an_entry)) (tripped w (fields classification us) an_entry)
-    by e = subst (λ (x : Trees). SetsItem (data_plan w) w d 0 (wrapped (fields classification x) w (codes "classification") an_entry (nodes_of (fields classification x) w an_entry)) (tripped w (fields classification x) an_entry)) (sym e.2)
-        (record { name = codes "classification"; kind = a_record classification; field = 0; place = all }, refl, refl, refl, (λ p. refl))
+    by : (f : List ℕ) × (g : List ℕ) × (us ≡ two (text f) (text g)) → SetsItem data_plan w d 0 (wrapped (fields classification us) w (codes "classification") an_entry (nodes_of (fields classification us) w an_entry)) (tripped w (fields classification us) an_entry)
+    by e = subst (λ (x : Trees). SetsItem data_plan w d 0 (wrapped (fields classification x) w (codes "classification") an_entry (nodes_of (fields classification x) w an_entry)) (tripped w (fields classification x) an_entry)) (sym e.2)
+        (record { name = codes "classification"; since = V1_3; kind = a_record classification; field = 0; place = all }, refl, refl, refl, (λ p. refl))
 
 abbrev pub FlowItem : Depth → Name → Trees → Type 0
-FlowItem d n us = SetsItem (data_plan V1_5) V1_5 d 1 (flow_of (fields n us) V1_5 an_entry (nodes_of (fields n us) V1_5 an_entry)) (tripped V1_5 (fields n us) an_entry)
+FlowItem d n us = SetsItem data_plan V1_5 d 1 (flow_of (fields n us) V1_5 an_entry (nodes_of (fields n us) V1_5 an_entry)) (tripped V1_5 (fields n us) an_entry)
 
 pub class_flow : (d : Depth) (us : Trees) → FieldsHeld V1_5 d us (rows classification) → FlowItem d classification us
 unfolding xread nodes_of rows attributes_read ended tripped
 class_flow d us h = by (two_texts_of V1_5 d us (must (at a_text "flow")) (must (row a_text content "classification")) refl refl refl refl refl refl h)
   where
     by : (f : List ℕ) × (g : List ℕ) × (us ≡ two (text f) (text g)) → FlowItem d classification us
-    by e = subst (FlowItem d classification) (sym e.2) (record { name = codes "dataflow"; kind = an_entry; field = 1; place = all }, refl, refl, refl, (λ p. refl))
+    by e = subst (FlowItem d classification) (sym e.2) (record { name = codes "dataflow"; since = V1_5; kind = an_entry; field = 1; place = all }, refl, refl, refl, (λ p. refl))
 
 pub flow_flow : (d : Depth) (us : Trees) → is_flow service_data us ≡ true → FieldsHeld V1_5 d us (rows service_data) → FlowItem d service_data us
 unfolding xread nodes_of rows attributes_read ended tripped
@@ -1161,7 +1169,7 @@ flow_flow d (more a (more b (more c (more x us)))) f h = absurd (true≢false h.
 flow_flow d (more a (more b (more c none))) f h = by a b c (optional_text V1_5 d a (at a_text "name") refl refl h.0) (optional_text V1_5 d b (at a_text "description") refl refl h.1.0) (class_of V1_5 d c (required_held V1_5 d c class_row refl refl h.1.1.0)) f
   where
     it : Child
-    it = record { name = codes "dataflow"; kind = an_entry; field = 1; place = all }
+    it = record { name = codes "dataflow"; since = V1_5; kind = an_entry; field = 1; place = all }
 
     two' : (x y : Tree) (f' g : List ℕ) → (x ≡ absent) ⊎ ((s : List ℕ) × (x ≡ text s)) → (y ≡ absent) ⊎ ((s : List ℕ) × (y ≡ text s)) → is_flow service_data (more x (more y (one (fields classification (two (text f') (text g)))))) ≡ true
         → FlowItem d service_data (more x (more y (one (fields classification (two (text f') (text g))))))
@@ -1174,7 +1182,7 @@ flow_flow d (more a (more b (more c none))) f h = by a b c (optional_text V1_5 d
         → FlowItem d service_data (more x (more y (one z)))
     by x y z e e' q fl = subst (λ (v : Tree). is_flow service_data (more x (more y (one v))) ≡ true → FlowItem d service_data (more x (more y (one v)))) (sym q.2) (two' x y q.0 q.1 e e') fl
 
-pub classes_set : (w : SpecVersion) (d : Depth) (ts : Trees) → AllHeld w d ts an_entry → any_flow ts ≡ false → SetItems (data_plan w) w d 0 (items_nodes ts w (named (codes "classification")) an_entry) (items_tripped w ts an_entry)
+pub classes_set : (w : SpecVersion) (d : Depth) (ts : Trees) → AllHeld w d ts an_entry → any_flow ts ≡ false → SetItems data_plan w d 0 (items_nodes ts w (named (codes "classification")) an_entry) (items_tripped w ts an_entry)
 unfolding nodes_of tripped
 classes_set w d none h f = tt
 classes_set w d (more absent ts) h f = absurd (true≢false h.0)
@@ -1183,14 +1191,14 @@ classes_set w d (more (number s) ts) h f = absurd (true≢false h.0)
 classes_set w d (more (boolean s) ts) h f = absurd (true≢false h.0)
 classes_set w d (more (items s) ts) h f = absurd (true≢false h.0.0)
 classes_set w d (more (fields n us) ts) h f =
-    one_more (data_plan w) w d 0 (is_passed_over (fields n us)) (wrapped (fields n us) w (codes "classification") an_entry (nodes_of (fields n us) w an_entry)) (items_nodes ts w (named (codes "classification")) an_entry) (tripped w (fields n us) an_entry) (items_tripped w ts an_entry)
+    one_more data_plan w d 0 (is_passed_over (fields n us)) (wrapped (fields n us) w (codes "classification") an_entry (nodes_of (fields n us) w an_entry)) (items_nodes ts w (named (codes "classification")) an_entry) (tripped w (fields n us) an_entry) (items_tripped w ts an_entry)
     (λ g. by h.0.0) (classes_set w d ts h.1 (or_false (is_flow n us) (any_flow ts) f).1)
   where
-    by : (n ≡ classification) ⊎ ((n ≡ service_data) × (is_flow n us ≡ true) × (w ≡ V1_5)) → SetsItem (data_plan w) w d 0 (wrapped (fields n us) w (codes "classification") an_entry (nodes_of (fields n us) w an_entry)) (tripped w (fields n us) an_entry)
-    by (inl e) = subst (λ (m : Name). FieldsHeld w (inside m d) us (rows m) → SetsItem (data_plan w) w d 0 (wrapped (fields m us) w (codes "classification") an_entry (nodes_of (fields m us) w an_entry)) (tripped w (fields m us) an_entry)) (sym e) (class_item w d us) h.0.2
+    by : (n ≡ classification) ⊎ ((n ≡ service_data) × (is_flow n us ≡ true) × (w ≡ V1_5)) → SetsItem data_plan w d 0 (wrapped (fields n us) w (codes "classification") an_entry (nodes_of (fields n us) w an_entry)) (tripped w (fields n us) an_entry)
+    by (inl e) = subst (λ (m : Name). FieldsHeld w (inside m d) us (rows m) → SetsItem data_plan w d 0 (wrapped (fields m us) w (codes "classification") an_entry (nodes_of (fields m us) w an_entry)) (tripped w (fields m us) an_entry)) (sym e) (class_item w d us) h.0.2
     by (inr e) = absurd (true≢false (sym e.1 ∙ (or_false (is_flow n us) (any_flow ts) f).0))
 
-pub flows_set : (d : Depth) (ts : Trees) → AllHeld V1_5 d ts an_entry → SetItems (data_plan V1_5) V1_5 d 1 (items_nodes ts V1_5 as_flows an_entry) (items_tripped V1_5 ts an_entry)
+pub flows_set : (d : Depth) (ts : Trees) → AllHeld V1_5 d ts an_entry → SetItems data_plan V1_5 d 1 (items_nodes ts V1_5 as_flows an_entry) (items_tripped V1_5 ts an_entry)
 unfolding nodes_of tripped
 flows_set d none h = tt
 flows_set d (more absent ts) h = absurd (true≢false h.0)
@@ -1199,7 +1207,7 @@ flows_set d (more (number s) ts) h = absurd (true≢false h.0)
 flows_set d (more (boolean s) ts) h = absurd (true≢false h.0)
 flows_set d (more (items s) ts) h = absurd (true≢false h.0.0)
 flows_set d (more (fields n us) ts) h =
-    one_more (data_plan V1_5) V1_5 d 1 (is_passed_over (fields n us)) (flow_of (fields n us) V1_5 an_entry (nodes_of (fields n us) V1_5 an_entry)) (items_nodes ts V1_5 as_flows an_entry) (tripped V1_5 (fields n us) an_entry) (items_tripped V1_5 ts an_entry)
+    one_more data_plan V1_5 d 1 (is_passed_over (fields n us)) (flow_of (fields n us) V1_5 an_entry (nodes_of (fields n us) V1_5 an_entry)) (items_nodes ts V1_5 as_flows an_entry) (tripped V1_5 (fields n us) an_entry) (items_tripped V1_5 ts an_entry)
     (λ g. by h.0.0) (flows_set d ts h.1)
   where
     by : (n ≡ classification) ⊎ ((n ≡ service_data) × (is_flow n us ≡ true) × (V1_5 ≡ V1_5)) → FlowItem d n us
@@ -1223,11 +1231,11 @@ pub data_at : (w : SpecVersion) (d : Depth) (ts : Trees) (b : Bool) → any_flow
     → (tag : List ℕ) (p : ℕ) → xread (plain_element tag [] (items_nodes ts w (if b then as_flows else named (codes "classification")) an_entry)) w a_data p d ≡ Ok (items (items_tripped w ts an_entry))
 unfolding xread
 data_at w d ts false f h tag p =
-    ap (λ x. x >>= (λ vs. Ok (data_of vs))) (gather (data_plan w) tag w d (suc p) (items_nodes ts w (named (codes "classification")) an_entry) (items_tripped w ts an_entry) none (one absent) none (classes_set w d ts h f))
+    ap (λ x. x >>= (λ vs. Ok (data_of vs))) (gather data_plan tag w d (suc p) (items_nodes ts w (named (codes "classification")) an_entry) (items_tripped w ts an_entry) none (one absent) none (classes_set w d ts h f))
     ∙ ap Ok (list_is (items_tripped w ts an_entry))
 data_at w d ts true f h tag p =
     subst (λ (v : SpecVersion). AllHeld v d ts an_entry → xread (plain_element tag [] (items_nodes ts v as_flows an_entry)) v a_data p d ≡ Ok (items (items_tripped v ts an_entry))) (sym (flow_version w d ts h f))
-    (λ g. ap (λ x. x >>= (λ vs. Ok (data_of vs))) (gather (data_plan V1_5) tag V1_5 d (suc p) (items_nodes ts V1_5 as_flows an_entry) (items_tripped V1_5 ts an_entry) (one absent) none none (flows_set d ts g)) ∙ ap Ok (last_is (items_tripped V1_5 ts an_entry))) h
+    (λ g. ap (λ x. x >>= (λ vs. Ok (data_of vs))) (gather data_plan tag V1_5 d (suc p) (items_nodes ts V1_5 as_flows an_entry) (items_tripped V1_5 ts an_entry) (one absent) none none (flows_set d ts g)) ∙ ap Ok (last_is (items_tripped V1_5 ts an_entry))) h
   where
     last_is : (us : Trees) → data_of (two absent (gathered us)) ≡ items us
     last_is none = refl
@@ -1272,7 +1280,7 @@ is_expression expression = true
 is_expression _ = false
 
 pub fields_case : (w : SpecVersion) (d : Depth) (n : Name) (ts : Trees) (k : Kind) → is_elem k ≡ true → Held w d (fields n ts) k
-    → ((n ≡ bill → ⊥) → XBack w d n ts) → (all_well (rows n) ≡ true → RowsRead w (inside n d) ts (rows n) (first_fields w ts (rows n)) (second_fields w ts (rows n))) → IsXRead w d (fields n ts) k (tripped w (fields n ts) k)
+    → ((n ≡ bill → ⊥) → XBack w d n ts) → RowsReadBack w (inside n d) ts → IsXRead w d (fields n ts) k (tripped w (fields n ts) k)
 unfolding tripped rows list
 fields_case w d n ts (a_record m) e h f g = subst (λ (j : Name). IsXRead w d (fields n ts) (a_record j) (tripped w (fields n ts) (a_record j))) h.0 (f (λ b. true≢false (sym e ∙ (ap (λ (j : Name). is_elem (a_record j)) (sym h.0) ∙ ap (λ (j : Name). is_elem (a_record j)) b))))
 fields_case w d n ts a_license_choice e h f g = by h.0
@@ -1282,9 +1290,9 @@ fields_case w d n ts a_license_choice e h f g = by h.0
     by (inr q) = subst (λ (m : Name). ((m ≡ bill → ⊥) → XBack w d m ts) → IsXRead w d (fields m ts) a_license_choice (tripped w (fields m ts) a_license_choice)) (sym q) (λ x. choice_expression w d ts (x (λ b. true≢false (ap is_expression b)))) f
 fields_case w d n ts a_license_identifier e h f g = identifier_xback w d (fields n ts) h
 fields_case w d n ts a_tools e h f g =
-    subst (λ (m : Name). FieldsHeld w (inside m d) ts (rows m) → (all_well (rows m) ≡ true → RowsRead w (inside m d) ts (rows m) (first_fields w ts (rows m)) (second_fields w ts (rows m))) → IsXRead w d (fields m ts) a_tools (tripped w (fields m ts) a_tools)) (sym h.0.0)
-    (subst (λ (v : SpecVersion). FieldsHeld v d ts (rows tools_object) → (all_well (rows tools_object) ≡ true → RowsRead v d ts (rows tools_object) (first_fields v ts (rows tools_object)) (second_fields v ts (rows tools_object))) → IsXRead v d (fields tools_object ts) a_tools (tripped v (fields tools_object ts) a_tools)) (sym h.0.1)
-    (λ x y. tools_object_back d ts x (y refl))) h.2 g
+    subst (λ (m : Name). FieldsHeld w (inside m d) ts (rows m) → RowsReadBack w (inside m d) ts → IsXRead w d (fields m ts) a_tools (tripped w (fields m ts) a_tools)) (sym h.0.0)
+    (subst (λ (v : SpecVersion). FieldsHeld v d ts (rows tools_object) → RowsReadBack v d ts → IsXRead v d (fields tools_object ts) a_tools (tripped v (fields tools_object ts) a_tools)) (sym h.0.1)
+    (λ x y. tools_object_back d ts x (y object_rows (unfold list in refl) (object_held d ts x)))) h.2 g
 fields_case w d n ts a_signature e h f g = by h.0
   where
     by : (n ≡ signers) ⊎ ((n ≡ chain) ⊎ (n ≡ signer)) → IsXRead w d (fields n ts) a_signature (tripped w (fields n ts) a_signature)
@@ -1311,7 +1319,7 @@ mutual
   xml_back dec w d (number n) k e h = number_case w d n k e h
   xml_back dec w d (boolean b) k e h = boolean_case w d b k h
   xml_back dec w d (items ts) k e h = items_case w d ts k h (λ l g. items_back dec w d ts (list l).kind (list l).name (plan_of_list l) 0 (list_elem l) g (finds_list w d l)) (λ g. items_back dec w d ts (a_record tool) (codes "tool") tools_plan 0 refl g (finds_tool w d))
-  xml_back dec w d (fields n ts) k e h = fields_case w d n ts k e h (λ b. record_back dec w d n ts b h.1 h.2 (λ well. rows_back dec w (inside n d) ts (rows n) well h.2)) (λ well. rows_back dec w (inside n d) ts (rows n) well h.2)
+  xml_back dec w d (fields n ts) k e h = fields_case w d n ts k e h (λ b. record_back dec w d n ts b h.1 h.2 (λ well. rows_back dec w (inside n d) ts (rows n) well h.2)) (λ rs well held. rows_back dec w (inside n d) ts rs well held)
 
   pub items_back : Decimals → (w : SpecVersion) → (d : Depth) (ts : Trees) (k : Kind) (tag : List ℕ) (plan : Plan) (i : ℕ) → is_elem k ≡ true → AllHeld w d ts k → Finds w d plan i k tag
       → SetItems plan w d i (items_nodes ts w (named tag) k) (items_tripped w ts k)
