@@ -35,6 +35,7 @@ pub mod Written
 pub mod Unwritten
 pub mod RoadSettle
 pub mod ViewTexts
+pub mod FaultPlaces
 pub mod Local
 pub mod DroppedRead
 pub mod DroppedLaw
