@@ -22,11 +22,11 @@ use Rattle.serde_json.specs.View.{view}
 use Rattle.serde_json.specs.declared.value.Value.{Value}
 use Rattle.cdx_events.specs.Nodes.{Node}
 
--- A bill: its texts are UTF-8.
+-- A bill. Its texts are in UTF-8.
 abbrev pub IsBill : Tree → Type 0
 IsBill b = IsOf b a_bill
 
--- A bill whatever its texts are. The laws ask no more.
+-- A tree with the shape of a bill, whatever its texts are. The laws ask no more.
 abbrev pub HasBillShape : Tree → Type 0
 HasBillShape b = HasShape b a_bill
 

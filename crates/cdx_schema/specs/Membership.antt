@@ -1,4 +1,4 @@
--- Which trees are of a kind, and which of them a version can hold.
+-- Which trees are of a kind.
 use Rattle.std.specs.Prelude.{◌≡◌, ℕ, ◌<◌, ◌^◌, List, [], ◌∷◌, Bool, true, false, ◌⊎◌}
 use Rattle.std.specs.Str.{IsUtf8}
 use Rattle.cdx_models.specs.Versions.{is_label}
@@ -70,14 +70,15 @@ abbrev mutual
   AreFieldsAll Q (more t ts) [] = Never
   AreFieldsAll Q (more t ts) (r ∷ rs) = (((t ≡ absent) × (may_lack r.need ≡ true)) ⊎ IsOfAll Q t r.kind) × AreFieldsAll Q ts rs
 
--- A tree of a kind: its texts are UTF-8.
+-- A tree of a kind. Texts are in UTF-8.
 abbrev pub IsOf : Tree → Kind → Type 0
 IsOf t k = IsOfAll IsUtf8 t k
 
--- A tree with the shape of a kind, whatever its texts are.
+-- Nothing is asked of a text.
 abbrev pub AnyText : List ℕ → Type 0
 AnyText s = Unit {0}
 
+-- A tree with the shape of a kind, whatever its texts are.
 abbrev pub HasShape : Tree → Kind → Type 0
 HasShape t k = IsOfAll AnyText t k
 
