@@ -1,6 +1,6 @@
 -- Worked rows on JSON readings, by computation.
 use Prim.Native.String.{String}
-use Rattle.std.specs.Prelude.{◌≡◌, refl, ℕ, zero, suc, List, [], ◌∷◌, Bool, codes, Result, Ok, Err, Option, Some, None, true, false}
+use Rattle.std.specs.Prelude.{◌≡◌, refl, ℕ, zero, suc, List, [], ◌∷◌, Bool, codes, Result, Ok, Err, true, false}
 use Rattle.serde_json.specs.Data.{Data, no_items, no_members, null}
 use Rattle.cdx_models.specs.declared.bom.SpecVersion.TheVariants.{V1_3, V1_4, V1_5}
 use Rattle.cdx_models.specs.Trees.{Tree, absent, number, items, fields, none, more, one, two, bill, component, chain, signers, signer, license, spdx_id, metadata, classification, service_data, dependency}
@@ -8,7 +8,7 @@ use Rattle.cdx_schema.specs.Kinds as kind
 use Rattle.cdx_schema.specs.Depth.{top}
 use Rattle.cdx_models.specs.declared.errors.Step.{Step}
 use Rattle.cdx_models.specs.declared.errors.JsonKind.{JsonKind}
-use Rattle.cdx_schema.specs.Faults.{JsonFault, to_member, to_item, here, missing, wrong_kind, out_of_range, bad_format, bad_spec_version, too_deep}
+use Rattle.cdx_schema.specs.Faults.{JsonFault, to_member, to_item, missing, wrong_kind, out_of_range, bad_format, bad_spec_version, too_deep}
 use Rattle.cdx_schema.specs.JsonReading.{jread, json_denotes}
 use Rattle.cdx_schema.proofs.Literals.{str, num, obj, arr, ◌↪◌⨟◌, ◌⨠◌, t', reading_on_literals}
 

@@ -11,9 +11,9 @@ use Rattle.cdx_schema.specs.Kinds.{Kind, a_record, a_license_identifier, Row, Me
 use Rattle.cdx_schema.specs.Table.{rows}
 use Rattle.cdx_schema.specs.Results.{◌>>=◌}
 use Rattle.cdx_schema.specs.Faults.{JsonFault, under, to_member}
-use Rattle.cdx_models.specs.Trees.{Name, Tree, absent, fields, Trees, none, more}
+use Rattle.cdx_models.specs.Trees.{Name, Tree, absent, fields, more}
 use Rattle.cdx_schema.specs.Depth.{Depth, inside}
-use Rattle.cdx_schema.specs.JsonReading.{jread, rows_read, row_read, member_read, found_read, Object, seen, own_read, record_read, no_own, id_read, name_read, at_depth, Found, nothing, a_null, found}
+use Rattle.cdx_schema.specs.JsonReading.{jread, rows_read, row_read, member_read, found_read, Object, seen, own_read, no_own, id_read, name_read, at_depth, Found, nothing, a_null, found}
 use Rattle.cdx_schema.proofs.JsonBack.{seen_is, as_seen, is_in, names, own_names, row_name, not_in_append, or_false, other_name, both_false, plain_names}
 
 -- Two objects are alike outside a name.

@@ -1,5 +1,5 @@
 -- The laws, proved.
-use Rattle.std.specs.Prelude.{◌≡◌, not, ◌||◌, true, Result, Ok, Err}
+use Rattle.std.specs.Prelude.{◌≡◌, not, ◌||◌, Result, Ok, Err}
 use Rattle.std.specs.Str.{IsUtf8}
 use Rattle.std.proofs.lemmas.Str.{IsUtf8-nil}
 use Rattle.serde_json.specs.View.{view}

@@ -1,5 +1,5 @@
 -- Reading back the children that a record's rows are written as.
-use Rattle.std.specs.Prelude.{◌≡◌, refl, ℕ, suc, ◌+◌, List, [], ◌∷◌, ◌++◌, length, Bool, true, false, not, ◌&&◌, if◌then◌else◌, Option, Some, None, Ok}
+use Rattle.std.specs.Prelude.{◌≡◌, refl, ℕ, suc, ◌+◌, List, [], ◌∷◌, ◌++◌, length, Bool, true, false, not, ◌&&◌, if◌then◌else◌, Some, None, Ok}
 use Rattle.std.proofs.Common.{true≢false}
 use Rattle.std.specs.Str.{bytes_eq}
 use mathlib.Core.Path.{ap, sym, ◌∙◌, subst}
@@ -13,7 +13,7 @@ use Rattle.cdx_schema.specs.Results.{◌>>=◌}
 use Rattle.cdx_schema.specs.Depth.{Depth, inside, name_too_deep}
 use Rattle.cdx_schema.specs.Held.{held_kind}
 use Rattle.cdx_schema.specs.XmlReading.{xread, nodes_read, node_read, Plan, Child, Place, last, once, all, find_child, row_children, children_from, stored, appended, is_second, plan_of_list, list_of, lacks, owed, filled, ended, attributes_read, in_force, content_from, no_content, content_read, Element, end_of}
-use Rattle.cdx_schema.specs.XmlSpelling.{nodes_of, fields_nodes, row_nodes, wrapped, lone, tag_of, plain_element, plain_name, attributes_of}
+use Rattle.cdx_schema.specs.XmlSpelling.{nodes_of, fields_nodes, row_nodes, wrapped, lone, tag_of, plain_element, attributes_of}
 use Rattle.cdx_schema.proofs.JsonBack.{is_in, distinct, same_itself, or_false, if_true, if_false, not_in_append, apart_first, is_in_first}
 use Rattle.cdx_schema.proofs.Groups.{nodes_in_groups, count}
 use Rattle.cdx_events.specs.declared.name.OwnedAttribute.{OwnedAttribute}
