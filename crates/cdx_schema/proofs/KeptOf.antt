@@ -1,4 +1,4 @@
--- What a version keeps of a tree of a kind is of that kind, and fits what the tree fits.
+-- What a version keeps of a tree of a kind is of that kind, and fits what the tree fits. Q is what is asked of a text.
 use Rattle.std.specs.Prelude.{◌≡◌, refl, ℕ, zero, suc, List, [], ◌∷◌, Bool, true, false, not, ◌&&◌, if◌then◌else◌, ◌⊎◌}
 use Rattle.std.proofs.Common.{true≢false, inl, inr}
 use mathlib.Core.Path.{ap, sym, ◌∙◌, subst}
@@ -18,7 +18,7 @@ use Rattle.cdx_schema.proofs.KeptTwice.{stays}
 use Rattle.cdx_schema.proofs.HeldKept.{label_is, flow_stays}
 use Rattle.cdx_schema.proofs.Sound.{both, free_kind, there, free_need, free_there, free_rows, sound_since, all_sound, sound, sound_parts}
 
-pub class_entry : (Q : List ℕ → Type 0) → (t : Tree) → IsOfAll Q t (a_record classification) → IsOfAll Q t an_entry
+pub class_entry : (Q : List ℕ → Type 0) (t : Tree) → IsOfAll Q t (a_record classification) → IsOfAll Q t an_entry
 class_entry Q absent h = h
 class_entry Q (text s) h = h
 class_entry Q (number n) h = h
@@ -26,36 +26,36 @@ class_entry Q (boolean b) h = h
 class_entry Q (items ts) h = absurd (true≢false h.0)
 class_entry Q (fields n ts) h = (inl h.0, h.1)
 
-required_of : (Q : List ℕ → Type 0) → (t : Tree) (k : Kind) → ((t ≡ absent) × (false ≡ true)) ⊎ IsOfAll Q t k → IsOfAll Q t k
+required_of : (Q : List ℕ → Type 0) (t : Tree) (k : Kind) → ((t ≡ absent) × (false ≡ true)) ⊎ IsOfAll Q t k → IsOfAll Q t k
 required_of Q t k (inl h) = absurd (true≢false (sym h.1))
 required_of Q t k (inr h) = h
 
-pub third_of : (Q : List ℕ → Type 0) → (ts : Trees) → AreFieldsAll Q ts (rows service_data) → IsOfAll Q (field 2 ts) (a_record classification)
+pub third_of : (Q : List ℕ → Type 0) (ts : Trees) → AreFieldsAll Q ts (rows service_data) → IsOfAll Q (field 2 ts) (a_record classification)
 unfolding rows
 third_of Q none h = absurd (true≢false h)
 third_of Q (more a none) h = absurd (true≢false h.1)
 third_of Q (more a (more b none)) h = absurd (true≢false h.1.1)
 third_of Q (more a (more b (more c ts))) h = required_of Q c (a_record classification) h.1.1.0
 
-text_of_kept : (Q : List ℕ → Type 0) → (l : SpecVersion) (k : Kind) (s : List ℕ) → IsTextOf Q k s → IsOfAll Q (kept_text l k s) k
+text_of_kept : (Q : List ℕ → Type 0) (l : SpecVersion) (k : Kind) (s : List ℕ) → IsTextOf Q k s → IsOfAll Q (kept_text l k s) k
 text_of_kept Q l a_version s h = label_is l
 text_of_kept Q l _ s h = h
 
-plain_of : (Q : List ℕ → Type 0) → (w : SpecVersion) (k : Kind) (n : Name) (us : Trees) → before_1_5 k n us ≡ fields n us → IsOfAll Q (fields n us) k → IsOfAll Q (kept_record w k n us) k
+plain_of : (Q : List ℕ → Type 0) (w : SpecVersion) (k : Kind) (n : Name) (us : Trees) → before_1_5 k n us ≡ fields n us → IsOfAll Q (fields n us) k → IsOfAll Q (kept_record w k n us) k
 plain_of Q w k n us e h = subst (λ (t : Tree). IsOfAll Q t k) (sym (stays w k n us e)) h
 
-tools_of_kept : (Q : List ℕ → Type 0) → (w l : SpecVersion) (us : Trees) → AreFieldsAll Q us (rows tools_object) → IsOfAll Q (kept_record w a_tools tools_object us) a_tools
+tools_of_kept : (Q : List ℕ → Type 0) (w l : SpecVersion) (us : Trees) → AreFieldsAll Q us (rows tools_object) → IsOfAll Q (kept_record w a_tools tools_object us) a_tools
 tools_of_kept Q V1_3 l us h = (tt, tt)
 tools_of_kept Q V1_4 l us h = (tt, tt)
 tools_of_kept Q V1_5 l us h = (refl, h)
 
-flow_of_kept : (Q : List ℕ → Type 0) → (w l : SpecVersion) (ts : Trees) → is_flow service_data ts ≡ true → AreFieldsAll Q (rows_kept w l ts (rows service_data)) (rows service_data)
+flow_of_kept : (Q : List ℕ → Type 0) (w l : SpecVersion) (ts : Trees) → is_flow service_data ts ≡ true → AreFieldsAll Q (rows_kept w l ts (rows service_data)) (rows service_data)
     → IsOfAll Q (kept_record w an_entry service_data (rows_kept w l ts (rows service_data))) an_entry
 flow_of_kept Q V1_3 l ts f h = class_entry Q _ (third_of Q (rows_kept V1_3 l ts (rows service_data)) h)
 flow_of_kept Q V1_4 l ts f h = class_entry Q _ (third_of Q (rows_kept V1_4 l ts (rows service_data)) h)
 flow_of_kept Q V1_5 l ts f h = (inr (refl, flow_stays V1_5 l ts ∙ f), h)
 
-record_of_kept : (Q : List ℕ → Type 0) → (w l : SpecVersion) (k : Kind) (n : Name) (ts : Trees) → IsRecordOf k n ts → AreFieldsAll Q (rows_kept w l ts (rows n)) (rows n) → IsOfAll Q (kept_record w k n (rows_kept w l ts (rows n))) k
+record_of_kept : (Q : List ℕ → Type 0) (w l : SpecVersion) (k : Kind) (n : Name) (ts : Trees) → IsRecordOf k n ts → AreFieldsAll Q (rows_kept w l ts (rows n)) (rows n) → IsOfAll Q (kept_record w k n (rows_kept w l ts (rows n))) k
 record_of_kept Q w l (a_record m) n ts is h = plain_of Q w (a_record m) n (rows_kept w l ts (rows n)) refl (is, h)
 record_of_kept Q w l a_license_choice n ts is h = plain_of Q w a_license_choice n (rows_kept w l ts (rows n)) refl (is, h)
 record_of_kept Q w l a_license_identifier n ts is h = plain_of Q w a_license_identifier n (rows_kept w l ts (rows n)) refl (is, h)
@@ -80,7 +80,7 @@ since_lacks V1_4 _ k w s h = absurd (true≢false (sym s))
 since_lacks V1_5 optional k w s h = refl
 since_lacks V1_5 _ k w s h = absurd (true≢false (sym s))
 
-row_of_kept : (Q : List ℕ → Type 0) → (w l : SpecVersion) (t : Tree) (r : Row) (b : Bool) → knows r.since w ≡ b → sound_since r.since r.need r.kind ≡ true → IsFieldAll Q t r → (IsOfAll Q t r.kind → IsOfAll Q (kept w l t r.kind) r.kind) → IsFieldAll Q (if b then kept w l t r.kind else absent) r
+row_of_kept : (Q : List ℕ → Type 0) (w l : SpecVersion) (t : Tree) (r : Row) (b : Bool) → knows r.since w ≡ b → sound_since r.since r.need r.kind ≡ true → IsFieldAll Q t r → (IsOfAll Q t r.kind → IsOfAll Q (kept w l t r.kind) r.kind) → IsFieldAll Q (if b then kept w l t r.kind else absent) r
 unfolding kept
 row_of_kept Q w l t r false known s h f = inl (refl, since_lacks r.since r.need r.kind w s known)
 row_of_kept Q w l t r true known s (inl h) f = inl (ap (λ x. kept w l x r.kind) h.0, h.1)
@@ -89,7 +89,7 @@ row_of_kept Q w l t r true known s (inr h) f = inr (f h)
 mutual
   unfolding kept
 
-  pub kept_of : (Q : List ℕ → Type 0) → (w l : SpecVersion) (t : Tree) (k : Kind) → IsOfAll Q t k → IsOfAll Q (kept w l t k) k
+  pub kept_of : (Q : List ℕ → Type 0) (w l : SpecVersion) (t : Tree) (k : Kind) → IsOfAll Q t k → IsOfAll Q (kept w l t k) k
   kept_of Q w l absent k h = absurd (true≢false h)
   kept_of Q w l (text s) k h = text_of_kept Q l k s h
   kept_of Q w l (number n) k h = h
@@ -97,11 +97,11 @@ mutual
   kept_of Q w l (items ts) k h = (h.0, items_kept_of Q w l ts (held_kind k) h.1)
   kept_of Q w l (fields n ts) k h = record_of_kept Q w l k n ts h.0 (rows_kept_of Q w l ts (rows n) (sound n) h.1)
 
-  pub items_kept_of : (Q : List ℕ → Type 0) → (w l : SpecVersion) (ts : Trees) (k : Kind) → AreOfAll Q ts k → AreOfAll Q (items_kept w l ts k) k
+  pub items_kept_of : (Q : List ℕ → Type 0) (w l : SpecVersion) (ts : Trees) (k : Kind) → AreOfAll Q ts k → AreOfAll Q (items_kept w l ts k) k
   items_kept_of Q w l none k h = tt
   items_kept_of Q w l (more t ts) k h = (kept_of Q w l t k h.0, items_kept_of Q w l ts k h.1)
 
-  pub rows_kept_of : (Q : List ℕ → Type 0) → (w l : SpecVersion) (ts : Trees) (rs : List Row) → all_sound rs ≡ true → AreFieldsAll Q ts rs → AreFieldsAll Q (rows_kept w l ts rs) rs
+  pub rows_kept_of : (Q : List ℕ → Type 0) (w l : SpecVersion) (ts : Trees) (rs : List Row) → all_sound rs ≡ true → AreFieldsAll Q ts rs → AreFieldsAll Q (rows_kept w l ts rs) rs
   rows_kept_of Q w l none [] s h = tt
   rows_kept_of Q w l none (r ∷ rs) s h = h
   rows_kept_of Q w l (more t ts) [] s h = absurd (true≢false h)
@@ -112,7 +112,7 @@ mutual
 
 -- ---- versions
 
-pub of_there : (Q : List ℕ → Type 0) → (t : Tree) (k : Kind) → IsOfAll Q t k → is_absent t ≡ false
+pub of_there : (Q : List ℕ → Type 0) (t : Tree) (k : Kind) → IsOfAll Q t k → is_absent t ≡ false
 of_there Q absent k h = absurd (true≢false h)
 of_there Q (text s) k h = refl
 of_there Q (number n) k h = refl

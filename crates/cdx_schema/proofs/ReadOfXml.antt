@@ -1,4 +1,4 @@
--- What is read of an element as a kind is of that kind, and shallow.
+-- What is read of an element as a kind is of that kind, and shallow. Q is what is asked of a text.
 use Rattle.std.specs.Prelude.{◌≡◌, refl, ℕ, zero, suc, ◌+◌, ◌<◌, ◌^◌, List, [], ◌∷◌, ◌++◌, reverse, Bool, true, false, ◌&&◌, nat_lt, if◌then◌else◌, ◌⊎◌, ◌==◌, Option, Some, None, Result, Ok, Err, codes}
 use Rattle.std.proofs.Common.{true≢false, inl, inr}
 use Rattle.std.specs.Str.{bytes_eq, trim}
@@ -54,21 +54,21 @@ kind_at i [] = a_text
 kind_at zero (k ∷ ks) = k
 kind_at (suc i) (k ∷ ks) = kind_at i ks
 
-absent_slot : (Q : List ℕ → Type 0) → (k : Kind) (d : Depth) → SlotOf Q k d absent
+absent_slot : (Q : List ℕ → Type 0) (k : Kind) (d : Depth) → SlotOf Q k d absent
 unfolding is_shallow
 absent_slot Q k d = (inl refl, refl)
 
-slot_of : (Q : List ℕ → Type 0) → (k : Kind) (d : Depth) (t : Tree) → IsReadOf Q k d t → SlotOf Q k d t
+slot_of : (Q : List ℕ → Type 0) (k : Kind) (d : Depth) (t : Tree) → IsReadOf Q k d t → SlotOf Q k d t
 slot_of Q k d t h = (inr h.0, h.1)
 
-slot_at : (Q : List ℕ → Type 0) → (i : ℕ) (ts : Trees) (ks : List Kind) (d : Depth) → AreSlots Q ts ks d → SlotOf Q (kind_at i ks) d (field i ts)
+slot_at : (Q : List ℕ → Type 0) (i : ℕ) (ts : Trees) (ks : List Kind) (d : Depth) → AreSlots Q ts ks d → SlotOf Q (kind_at i ks) d (field i ts)
 slot_at Q i none [] d h = absent_slot Q a_text d
 slot_at Q zero (more t ts) (k ∷ ks) d h = h.0
 slot_at Q (suc i) (more t ts) (k ∷ ks) d h = slot_at Q i ts ks d h.1
 slot_at Q i none (k ∷ ks) d h = absurd (true≢false h)
 slot_at Q i (more t ts) [] d h = absurd (true≢false h)
 
-with_slot : (Q : List ℕ → Type 0) → (i : ℕ) (u : Tree) (ts : Trees) (ks : List Kind) (d : Depth) → AreSlots Q ts ks d → SlotOf Q (kind_at i ks) d u → AreSlots Q (with_field i u ts) ks d
+with_slot : (Q : List ℕ → Type 0) (i : ℕ) (u : Tree) (ts : Trees) (ks : List Kind) (d : Depth) → AreSlots Q ts ks d → SlotOf Q (kind_at i ks) d u → AreSlots Q (with_field i u ts) ks d
 with_slot Q i u none [] d h s = tt
 with_slot Q zero u (more t ts) (k ∷ ks) d h s = (s, h.1)
 with_slot Q (suc i) u (more t ts) (k ∷ ks) d h s = (h.0, with_slot Q i u ts ks d h.1 s)
@@ -114,7 +114,7 @@ abbrev GoodChildren : (Q : List ℕ → Type 0) → List Child → List Kind →
 GoodChildren Q [] ks = Unit {0}
 GoodChildren Q (c ∷ cs) ks = GoodChild Q c ks × GoodChildren Q cs ks
 
-append_of : (Q : List ℕ → Type 0) → (ts : Trees) (t : Tree) (k : Kind) → AreOfAll Q ts k → IsOfAll Q t k → AreOfAll Q (ts ⧺ one t) k
+append_of : (Q : List ℕ → Type 0) (ts : Trees) (t : Tree) (k : Kind) → AreOfAll Q ts k → IsOfAll Q t k → AreOfAll Q (ts ⧺ one t) k
 append_of Q none t k h g = (g, tt)
 append_of Q (more u ts) t k h g = (h.0, append_of Q ts t k h.1 g)
 
@@ -125,11 +125,11 @@ append_shallow (more u ts) t d h g =
     let p : (is_shallow u d ≡ true) × (are_shallow ts d ≡ true) = and_true (is_shallow u d) (are_shallow ts d) h in
     both (is_shallow u d) (are_shallow (ts ⧺ one t) d) p.0 (append_shallow ts t d p.1 g)
 
-alone : (Q : List ℕ → Type 0) → (t : Tree) (s : Kind) (d : Depth) → IsListOf s → IsOfAll Q t (held_kind s) → is_shallow t d ≡ true → IsReadOf Q s d (items (one t))
+alone : (Q : List ℕ → Type 0) (t : Tree) (s : Kind) (d : Depth) → IsListOf s → IsOfAll Q t (held_kind s) → is_shallow t d ≡ true → IsReadOf Q s d (items (one t))
 unfolding is_shallow
 alone Q t s d l h e = ((l, (h, tt)), both (is_shallow t d) true e refl)
 
-appended_slot : (Q : List ℕ → Type 0) → (u t : Tree) (s : Kind) (d : Depth) → IsListOf s → SlotOf Q s d u → IsOfAll Q t (held_kind s) → is_shallow t d ≡ true → IsReadOf Q s d (appended u t)
+appended_slot : (Q : List ℕ → Type 0) (u t : Tree) (s : Kind) (d : Depth) → IsListOf s → SlotOf Q s d u → IsOfAll Q t (held_kind s) → is_shallow t d ≡ true → IsReadOf Q s d (appended u t)
 unfolding is_shallow
 appended_slot Q (items ts) t s d l (inr h, e) g f = ((l, append_of Q ts t (held_kind s) h.1 g), append_shallow ts t d e f)
 appended_slot Q (items ts) t s d l (inl h, e) g f = absurd (true≢false (sym (ap is_absent h)))
@@ -143,10 +143,10 @@ appended_slot Q (fields n x) t s d l h g f = alone Q t s d l g f
 abbrev Holds : (Q : List ℕ → Type 0) → Trees → List Kind → List Bool → Depth → Type 0
 Holds Q ts ks bs d = AreSlots Q ts ks d × Present ts bs
 
-set_holds : (Q : List ℕ → Type 0) → (i : ℕ) (u : Tree) (ts : Trees) (ks : List Kind) (bs : List Bool) (d : Depth) → Holds Q ts ks bs d → IsReadOf Q (kind_at i ks) d u → Holds Q (with_field i u ts) ks bs d
+set_holds : (Q : List ℕ → Type 0) (i : ℕ) (u : Tree) (ts : Trees) (ks : List Kind) (bs : List Bool) (d : Depth) → Holds Q ts ks bs d → IsReadOf Q (kind_at i ks) d u → Holds Q (with_field i u ts) ks bs d
 set_holds Q i u ts ks bs d h r = (with_slot Q i u ts ks d h.0 (slot_of Q (kind_at i ks) d u r), with_present i u ts bs (of_there Q u (kind_at i ks) r.0) h.1)
 
-stored_holds : (Q : List ℕ → Type 0) → (p : Place) (i : ℕ) (k : Kind) (t : Tree) (ts : Trees) (ks : List Kind) (bs : List Bool) (d : Depth) → GoodAt Q p k (kind_at i ks) → Holds Q ts ks bs d → IsReadOf Q k d t → Holds Q (stored p i t ts) ks bs d
+stored_holds : (Q : List ℕ → Type 0) (p : Place) (i : ℕ) (k : Kind) (t : Tree) (ts : Trees) (ks : List Kind) (bs : List Bool) (d : Depth) → GoodAt Q p k (kind_at i ks) → Holds Q ts ks bs d → IsReadOf Q k d t → Holds Q (stored p i t ts) ks bs d
 stored_holds Q last i k t ts ks bs d g h r = set_holds Q i t ts ks bs d h (g t r.0, r.1)
 stored_holds Q once i k t ts ks bs d g h r = set_holds Q i t ts ks bs d h (g t r.0, r.1)
 stored_holds Q all i k t ts ks bs d g h r = set_holds Q i (appended (field i ts) t) ts ks bs d h (appended_slot Q (field i ts) t (kind_at i ks) d g.0 (slot_at Q i ts ks d h.0) (g.1 t r.0) r.1)
@@ -174,7 +174,7 @@ abbrev GoodSome : (Q : List ℕ → Type 0) → Option Child → List Kind → T
 GoodSome Q None ks = Unit {0}
 GoodSome Q (Some c) ks = GoodChild Q c ks
 
-find_good : (Q : List ℕ → Type 0) → (v : SpecVersion) (s : List ℕ) (cs : List Child) (ks : List Kind) → GoodChildren Q cs ks → GoodSome Q (find_child v s cs) ks
+find_good : (Q : List ℕ → Type 0) (v : SpecVersion) (s : List ℕ) (cs : List Child) (ks : List Kind) → GoodChildren Q cs ks → GoodSome Q (find_child v s cs) ks
 find_good Q v s [] ks h = tt
 find_good Q v s (c ∷ cs) ks h = by (bytes_eq s c.name && knows c.since v) (find_good Q v s cs ks h.1)
   where
@@ -182,7 +182,7 @@ find_good Q v s (c ∷ cs) ks h = by (bytes_eq s c.name && knows c.since v) (fin
     by true g = h.0
     by false g = g
 
-child_holds : (Q : List ℕ → Type 0) → (o : Option Child) (r : Rule) (read : Reading) (around : List ℕ) (v : SpecVersion) (d : Depth) (p : ℕ) (ts us : Trees) (ks : List Kind) (bs : List Bool) → GoodSome Q o ks → Good Q read → Holds Q ts ks bs d
+child_holds : (Q : List ℕ → Type 0) (o : Option Child) (r : Rule) (read : Reading) (around : List ℕ) (v : SpecVersion) (d : Depth) (p : ℕ) (ts us : Trees) (ks : List Kind) (bs : List Bool) → GoodSome Q o ks → Good Q read → Holds Q ts ks bs d
     → child_read o r read around v d p ts ≡ Ok us → Holds Q us ks bs d
 child_holds Q None r read around v d p ts us ks bs g f h e = subst (λ (x : Trees). Holds Q x ks bs d) (unknown_holds r around p ts us e) h
 child_holds Q (Some c) r read around v d p ts us ks bs g f h e =
@@ -191,7 +191,7 @@ child_holds Q (Some c) r read around v d p ts us ks bs g f h e =
     let x : (t : Tree) × (read v c.kind p d ≡ Ok t) × (Ok (stored c.place c.field t ts) ≡ Ok us) = bind_ok (read v c.kind p d) (λ t. Ok (stored c.place c.field t ts)) us a.1 in
     subst (λ (y : Trees). Holds Q y ks bs d) (ok_same x.2) (stored_holds Q c.place c.field c.kind x.0 ts ks bs d g h (f v c.kind p d x.0 x.1))
 
-node_holds : (Q : List ℕ → Type 0) → (x : Node) (read : Reading) (plan : Plan) (around : List ℕ) (v : SpecVersion) (d : Depth) (p : ℕ) (ts us : Trees) (ks : List Kind) (bs : List Bool) → GoodChildren Q plan.children ks → Good Q read → Holds Q ts ks bs d
+node_holds : (Q : List ℕ → Type 0) (x : Node) (read : Reading) (plan : Plan) (around : List ℕ) (v : SpecVersion) (d : Depth) (p : ℕ) (ts us : Trees) (ks : List Kind) (bs : List Bool) → GoodChildren Q plan.children ks → Good Q read → Holds Q ts ks bs d
     → node_read x read plan around v d p ts ≡ Ok us → Holds Q us ks bs d
 node_holds Q (characters s) read plan around v d p ts us ks bs g f h e = subst (λ (x : Trees). Holds Q x ks bs d) (stray_holds plan.rule _ around p ts us e) h
 node_holds Q (cdata s) read plan around v d p ts us ks bs g f h e = subst (λ (x : Trees). Holds Q x ks bs d) (stray_holds plan.rule _ around p ts us e) h
@@ -203,7 +203,7 @@ TextSome : (Q : List ℕ → Type 0) → Option (List ℕ) → Type 0
 TextSome Q None = Unit {0}
 TextSome Q (Some s) = Q s
 
-find_texts : (Q : List ℕ → Type 0) → (q : List ℕ) (as' : List OwnedAttribute) → AttributeTexts Q as' → TextSome Q (find_attribute q as')
+find_texts : (Q : List ℕ → Type 0) (q : List ℕ) (as' : List OwnedAttribute) → AttributeTexts Q as' → TextSome Q (find_attribute q as')
 unfolding TextSome
 find_texts Q q [] h = tt
 find_texts Q q (a ∷ as') h = by (bytes_eq a.name.local_name q) (find_texts Q q as' h.1)
@@ -212,15 +212,15 @@ find_texts Q q (a ∷ as') h = by (bytes_eq a.name.local_name q) (find_texts Q q
     by true g = h.0
     by false g = g
 
-append_texts : (Q : List ℕ → Type 0) → (xs ys : List OwnedAttribute) → AttributeTexts Q xs → AttributeTexts Q ys → AttributeTexts Q (xs ++ ys)
+append_texts : (Q : List ℕ → Type 0) (xs ys : List OwnedAttribute) → AttributeTexts Q xs → AttributeTexts Q ys → AttributeTexts Q (xs ++ ys)
 append_texts Q [] ys h g = g
 append_texts Q (x ∷ xs) ys h g = (h.0, append_texts Q xs ys h.1 g)
 
-reverse_texts : (Q : List ℕ → Type 0) → (xs : List OwnedAttribute) → AttributeTexts Q xs → AttributeTexts Q (reverse xs)
+reverse_texts : (Q : List ℕ → Type 0) (xs : List OwnedAttribute) → AttributeTexts Q xs → AttributeTexts Q (reverse xs)
 reverse_texts Q [] h = tt
 reverse_texts Q (x ∷ xs) h = subst (AttributeTexts Q) (sym (reverse_onto xs x [])) (append_texts Q (reverse xs) (x ∷ []) (reverse_texts Q xs h.1) (h.0, tt))
 
-force_texts : (Q : List ℕ → Type 0) → (n : Name) (as' : List OwnedAttribute) → AttributeTexts Q as' → AttributeTexts Q (in_force n as')
+force_texts : (Q : List ℕ → Type 0) (n : Name) (as' : List OwnedAttribute) → AttributeTexts Q as' → AttributeTexts Q (in_force n as')
 force_texts Q attached_text as' h = reverse_texts Q as' h
 force_texts Q _ as' h = h
 
@@ -230,7 +230,7 @@ after_was s (node (characters x) xs) around p t e = absurd (err_ok e)
 after_was s (node (cdata x) xs) around p t e = absurd (err_ok e)
 after_was s (node (element n as' default ys) xs) around p t e = absurd (err_ok e)
 
-text_in_good : (Q : List ℕ → Type 0) → (o : Result (List ℕ) XmlReadError) (xs : Nodes) (around : List ℕ) (p : ℕ) (t : List ℕ) → (o ≡ Ok t → Q t) → NodesTexts Q xs → text_in o xs around p ≡ Ok t → Q t
+text_in_good : (Q : List ℕ → Type 0) (o : Result (List ℕ) XmlReadError) (xs : Nodes) (around : List ℕ) (p : ℕ) (t : List ℕ) → (o ≡ Ok t → Q t) → NodesTexts Q xs → text_in o xs around p ≡ Ok t → Q t
 text_in_good Q o no_nodes around p t f u e = f e
 text_in_good Q o (node (characters x) xs) around p t f u e = subst Q (after_was x xs around (suc p) t e) u.0
 text_in_good Q o (node (cdata x) xs) around p t f u e = subst Q (after_was x xs around (suc p) t e) u.0
@@ -239,7 +239,7 @@ text_in_good Q o (node (element n as' default ys) xs) around p t f u e = absurd 
 simple_good : (Q : List ℕ → Type 0) → Q [] → (xs : Nodes) (around : List ℕ) (p : ℕ) (t : List ℕ) → NodesTexts Q xs → simple_text xs around p ≡ Ok t → Q t
 simple_good Q nil xs around p t u e = text_in_good Q (Ok []) xs around p t (λ h. subst Q (ok_same h) nil) u e
 
-exact_good : (Q : List ℕ → Type 0) → (xs : Nodes) (around : List ℕ) (p : ℕ) (t : List ℕ) → NodesTexts Q xs → exact_text xs around p ≡ Ok t → Q t
+exact_good : (Q : List ℕ → Type 0) (xs : Nodes) (around : List ℕ) (p : ℕ) (t : List ℕ) → NodesTexts Q xs → exact_text xs around p ≡ Ok t → Q t
 exact_good Q xs around p t u e = text_in_good Q (Err (unexpected p around kinds.EndElement)) xs around p t (λ h. absurd (err_ok h)) u e
 
 -- ---- leaves
@@ -271,12 +271,12 @@ number_below (c ∷ cs) n h = by (c == 43) h
     by true g = below_is (digits_of cs) n g
     by false g = below_is (digits_of (c ∷ cs)) n g
 
-number_leaf : (Q : List ℕ → Type 0) → (o : Option ℕ) (d : Depth) (t : Tree) → ((n : ℕ) → o ≡ Some n → n < 2 ^ 32) → number_tree o ≡ Some t → IsReadOf Q a_number d t
+number_leaf : (Q : List ℕ → Type 0) (o : Option ℕ) (d : Depth) (t : Tree) → ((n : ℕ) → o ≡ Some n → n < 2 ^ 32) → number_tree o ≡ Some t → IsReadOf Q a_number d t
 unfolding is_shallow
 number_leaf Q None d t f h = none_some h
 number_leaf Q (Some n) d t f h = subst (λ (x : Tree). IsReadOf Q a_number d x) (some_same h) (f n refl, refl)
 
-boolean_leaf : (Q : List ℕ → Type 0) → (o : Option Bool) (d : Depth) (t : Tree) → boolean_tree o ≡ Some t → IsReadOf Q a_boolean d t
+boolean_leaf : (Q : List ℕ → Type 0) (o : Option Bool) (d : Depth) (t : Tree) → boolean_tree o ≡ Some t → IsReadOf Q a_boolean d t
 unfolding is_shallow
 boolean_leaf Q None d t h = none_some h
 boolean_leaf Q (Some b) d t h = subst (λ (x : Tree). IsReadOf Q a_boolean d x) (some_same h) (tt, refl)
@@ -287,7 +287,7 @@ is_leaf a_boolean = true
 is_leaf a_number = true
 is_leaf _ = false
 
-leaf_good : (Q : List ℕ → Type 0) → (k : Kind) (s : List ℕ) (d : Depth) (t : Tree) → is_leaf k ≡ true → Q s → of_text k s ≡ Some t → IsReadOf Q k d t
+leaf_good : (Q : List ℕ → Type 0) (k : Kind) (s : List ℕ) (d : Depth) (t : Tree) → is_leaf k ≡ true → Q s → of_text k s ≡ Some t → IsReadOf Q k d t
 unfolding is_shallow
 leaf_good Q a_text s d t l u h = subst (λ (x : Tree). IsReadOf Q a_text d x) (some_same h) (u, refl)
 leaf_good Q a_boolean s d t l u h = boolean_leaf Q (boolean_of s) d t h
@@ -402,20 +402,20 @@ no_flag (attribute_or q m) n v = refl
 no_flag the_version n v = refl
 no_flag _ n v = refl
 
-absent_attributed : (Q : List ℕ → Type 0) → (k : Kind) (d : Depth) (b : Bool) (t : Tree) → b ≡ false → absent ≡ t → Attributed Q k d b t
+absent_attributed : (Q : List ℕ → Type 0) (k : Kind) (d : Depth) (b : Bool) (t : Tree) → b ≡ false → absent ≡ t → Attributed Q k d b t
 absent_attributed Q k d b t h e = subst (λ (x : Tree). Attributed Q k d b x) e (absent_slot Q k d, λ g. absurd (true≢false (sym g ∙ h)))
 
-read_attributed : (Q : List ℕ → Type 0) → (k : Kind) (d : Depth) (b : Bool) (t : Tree) → IsReadOf Q k d t → Attributed Q k d b t
+read_attributed : (Q : List ℕ → Type 0) (k : Kind) (d : Depth) (b : Bool) (t : Tree) → IsReadOf Q k d t → Attributed Q k d b t
 read_attributed Q k d b t h = (slot_of Q k d t h, λ e. of_there Q t k h.0)
 
-attribute_good : (Q : List ℕ → Type 0) → (o : Option (List ℕ)) (q : List ℕ) (r : Row) (v : SpecVersion) (around : List ℕ) (p : ℕ) (d : Depth) (t : Tree) → TextSome Q o → is_leaf r.kind ≡ true → attribute_read o q r v around p ≡ Ok t → Attributed Q r.kind d (is_required r.need v) t
+attribute_good : (Q : List ℕ → Type 0) (o : Option (List ℕ)) (q : List ℕ) (r : Row) (v : SpecVersion) (around : List ℕ) (p : ℕ) (d : Depth) (t : Tree) → TextSome Q o → is_leaf r.kind ≡ true → attribute_read o q r v around p ≡ Ok t → Attributed Q r.kind d (is_required r.need v) t
 unfolding TextSome
 attribute_good Q None q r v around p d t u l e =
     let a : (is_required r.need v ≡ false) × (Ok absent ≡ Ok t) = if_was (is_required r.need v) (lacking p around q) (Ok absent) t e in
     absent_attributed Q r.kind d (is_required r.need v) t a.0 (ok_same a.1)
 attribute_good Q (Some s) q r v around p d t u l e = read_attributed Q r.kind d (is_required r.need v) t (leaf_good Q r.kind s d t l u (parsed_was (of_text r.kind s) p q s r.kind t e))
 
-number_default : (Q : List ℕ → Type 0) → (k : Kind) (m : ℕ) (d : Depth) (t : Tree) → nat_lt m (2 ^ 32) ≡ true → is_number_kind k ≡ true → number m ≡ t → IsReadOf Q k d t
+number_default : (Q : List ℕ → Type 0) (k : Kind) (m : ℕ) (d : Depth) (t : Tree) → nat_lt m (2 ^ 32) ≡ true → is_number_kind k ≡ true → number m ≡ t → IsReadOf Q k d t
 unfolding is_shallow
 number_default Q a_number m d t lt h e = subst (λ (x : Tree). IsReadOf Q a_number d x) e (above m (2 ^ 32) lt, refl)
 number_default Q _ m d t lt h e = absurd (true≢false (sym h))
@@ -424,18 +424,18 @@ number_kind_leaf : (k : Kind) → is_number_kind k ≡ true → is_leaf k ≡ tr
 number_kind_leaf a_number h = refl
 number_kind_leaf _ h = absurd (true≢false (sym h))
 
-attribute_or_good : (Q : List ℕ → Type 0) → (o : Option (List ℕ)) (q : List ℕ) (m : ℕ) (r : Row) (p : ℕ) (d : Depth) (t : Tree) → TextSome Q o → nat_lt m (2 ^ 32) ≡ true → is_number_kind r.kind ≡ true → attribute_or_read o q m r p ≡ Ok t → IsReadOf Q r.kind d t
+attribute_or_good : (Q : List ℕ → Type 0) (o : Option (List ℕ)) (q : List ℕ) (m : ℕ) (r : Row) (p : ℕ) (d : Depth) (t : Tree) → TextSome Q o → nat_lt m (2 ^ 32) ≡ true → is_number_kind r.kind ≡ true → attribute_or_read o q m r p ≡ Ok t → IsReadOf Q r.kind d t
 unfolding TextSome
 attribute_or_good Q None q m r p d t u lt l e = number_default Q r.kind m d t lt l (ok_same e)
 attribute_or_good Q (Some s) q m r p d t u lt l e = leaf_good Q r.kind s d t (number_kind_leaf r.kind l) u (parsed_was (of_text r.kind s) p q s r.kind t e)
 
-version_good : (Q : List ℕ → Type 0) → (k : Kind) (v : SpecVersion) (d : Depth) (t : Tree) → is_version_kind k ≡ true → text (label v) ≡ t → IsReadOf Q k d t
+version_good : (Q : List ℕ → Type 0) (k : Kind) (v : SpecVersion) (d : Depth) (t : Tree) → is_version_kind k ≡ true → text (label v) ≡ t → IsReadOf Q k d t
 unfolding is_shallow
 version_good Q a_version v d t h e = subst (λ (x : Tree). IsReadOf Q a_version d x) e (label_is v, refl)
 version_good Q _ v d t h e = absurd (true≢false (sym h))
 
 -- What a row gives where the version knows it, and elsewhere.
-known_attributed : (Q : List ℕ → Type 0) → (b : Bool) (k : Kind) (d : Depth) (f : Bool) (g : Result Tree XmlReadError) (t : Tree) → (b ≡ true → g ≡ Ok t → Attributed Q k d f t) → (b ≡ false → f ≡ false) → (if b then g else Ok absent) ≡ Ok t → Attributed Q k d f t
+known_attributed : (Q : List ℕ → Type 0) (b : Bool) (k : Kind) (d : Depth) (f : Bool) (g : Result Tree XmlReadError) (t : Tree) → (b ≡ true → g ≡ Ok t → Attributed Q k d f t) → (b ≡ false → f ≡ false) → (if b then g else Ok absent) ≡ Ok t → Attributed Q k d f t
 known_attributed Q true k d f g t there gone e = there refl e
 known_attributed Q false k d f g t there gone e = absent_attributed Q k d f t (gone refl) (ok_same e)
 
@@ -443,11 +443,11 @@ and_known : (b c : Bool) → b ≡ false → (b && c) ≡ false
 and_known true c h = absurd (true≢false h)
 and_known false c h = refl
 
-known_and : (Q : List ℕ → Type 0) → (k : Kind) (d : Depth) (b c : Bool) (t : Tree) → b ≡ true → Attributed Q k d c t → Attributed Q k d (b && c) t
+known_and : (Q : List ℕ → Type 0) (k : Kind) (d : Depth) (b c : Bool) (t : Tree) → b ≡ true → Attributed Q k d c t → Attributed Q k d (b && c) t
 known_and Q k d true c t h a = a
 known_and Q k d false c t h a = absurd (true≢false (sym h))
 
-row_attributed : (Q : List ℕ → Type 0) → (r : Row) (as' : List OwnedAttribute) (v : SpecVersion) (around : List ℕ) (p : ℕ) (d : Depth) (t : Tree) → AttributeTexts Q as' → reads_xml r.xml r.need r.kind ≡ true → row_attribute r as' v around p ≡ Ok t
+row_attributed : (Q : List ℕ → Type 0) (r : Row) (as' : List OwnedAttribute) (v : SpecVersion) (around : List ℕ) (p : ℕ) (d : Depth) (t : Tree) → AttributeTexts Q as' → reads_xml r.xml r.need r.kind ≡ true → row_attribute r as' v around p ≡ Ok t
     → Attributed Q r.kind d (flag_by (knows r.since v) r.xml r.need v) t
 row_attributed Q r as' v around p d t u h e = by r.xml h e
   where
@@ -469,7 +469,7 @@ row_attributed Q r as' v around p d t u h e = by r.xml h e
     by (children q) g f = absent_attributed Q r.kind d false t refl (ok_same f)
     by (either_child q m) g f = absent_attributed Q r.kind d false t refl (ok_same f)
 
-attributes_hold : (Q : List ℕ → Type 0) → (rs : List Row) (as' : List OwnedAttribute) (v : SpecVersion) (around : List ℕ) (p : ℕ) (d : Depth) (ts : Trees) → AttributeTexts Q as' → all_xml rs ≡ true → attributes_read rs as' v around p ≡ Ok ts → Holds Q ts (row_kinds rs) (flags rs v) d
+attributes_hold : (Q : List ℕ → Type 0) (rs : List Row) (as' : List OwnedAttribute) (v : SpecVersion) (around : List ℕ) (p : ℕ) (d : Depth) (ts : Trees) → AttributeTexts Q as' → all_xml rs ≡ true → attributes_read rs as' v around p ≡ Ok ts → Holds Q ts (row_kinds rs) (flags rs v) d
 unfolding attributes_read
 attributes_hold Q [] as' v around p d ts u h e = subst (λ (x : Trees). Holds Q x [] [] d) (ok_same e) (tt, tt)
 attributes_hold Q (r ∷ rs) as' v around p d ts u h e =
@@ -539,19 +539,19 @@ filled_there r t h = by r.xml r.need t h
 abbrev Ended : (Q : List ℕ → Type 0) → Row → Depth → Tree → Type 0
 Ended Q r d t = IsFieldAll Q t r × (is_shallow t d ≡ true)
 
-empty_filled : (Q : List ℕ → Type 0) → (k : Kind) (d : Depth) → is_list_kind k ≡ true → IsReadOf Q k d (items none)
+empty_filled : (Q : List ℕ → Type 0) (k : Kind) (d : Depth) → is_list_kind k ≡ true → IsReadOf Q k d (items none)
 unfolding is_shallow
 empty_filled Q (a_list l) d h = ((tt, tt), refl)
 empty_filled Q _ d h = absurd (true≢false (sym h))
 
-children_ended : (Q : List ℕ → Type 0) → (n : Need) (q : List ℕ) (r : Row) (d : Depth) → is_list_kind r.kind ≡ true → (((filled (record r { xml = children q; need = n }) absent ≡ absent) × (may_lack n ≡ true)) ⊎ IsOfAll Q (filled (record r { xml = children q; need = n }) absent) r.kind) × (is_shallow (filled (record r { xml = children q; need = n }) absent) d ≡ true)
+children_ended : (Q : List ℕ → Type 0) (n : Need) (q : List ℕ) (r : Row) (d : Depth) → is_list_kind r.kind ≡ true → (((filled (record r { xml = children q; need = n }) absent ≡ absent) × (may_lack n ≡ true)) ⊎ IsOfAll Q (filled (record r { xml = children q; need = n }) absent) r.kind) × (is_shallow (filled (record r { xml = children q; need = n }) absent) d ≡ true)
 unfolding is_shallow
 children_ended Q optional q r d l = (inl (refl, refl), refl)
 children_ended Q required_first q r d l = (inl (refl, refl), refl)
 children_ended Q required q r d l = (inr (empty_filled Q r.kind d l).0, (empty_filled Q r.kind d l).1)
 children_ended Q else_empty q r d l = (inr (empty_filled Q r.kind d l).0, (empty_filled Q r.kind d l).1)
 
-absent_ended : (Q : List ℕ → Type 0) → (r : Row) (v : SpecVersion) (d : Depth) → sound_since r.since r.need r.kind ≡ true → reads_xml r.xml r.need r.kind ≡ true → lacks (owed r.xml) r absent v ≡ false
+absent_ended : (Q : List ℕ → Type 0) (r : Row) (v : SpecVersion) (d : Depth) → sound_since r.since r.need r.kind ≡ true → reads_xml r.xml r.need r.kind ≡ true → lacks (owed r.xml) r absent v ≡ false
     → (last_flag_by (knows r.since v) r.xml r.need v ≡ true → true ≡ false) → Ended Q r d (filled r absent)
 unfolding is_shallow
 absent_ended Q r v d s h l f = by r.xml h l f
@@ -570,12 +570,12 @@ absent_ended Q r v d s h l f = by r.xml h l f
     by (either_child q m) g o e = (inl (refl, child_lacks (knows r.since v) r v refl s g o), refl)
     by (children q) g o e = children_ended Q r.need q r d g
 
-row_ended : (Q : List ℕ → Type 0) → (r : Row) (v : SpecVersion) (d : Depth) (t : Tree) → sound_since r.since r.need r.kind ≡ true → reads_xml r.xml r.need r.kind ≡ true → SlotOf Q r.kind d t → lacks (owed r.xml) r t v ≡ false
+row_ended : (Q : List ℕ → Type 0) (r : Row) (v : SpecVersion) (d : Depth) (t : Tree) → sound_since r.since r.need r.kind ≡ true → reads_xml r.xml r.need r.kind ≡ true → SlotOf Q r.kind d t → lacks (owed r.xml) r t v ≡ false
     → (last_flag_by (knows r.since v) r.xml r.need v ≡ true → is_absent t ≡ false) → Ended Q r d (filled r t)
 row_ended Q r v d t s h (inr is, sh) l f = subst (λ (x : Tree). Ended Q r d x) (sym (filled_there r t (of_there Q t r.kind is))) (inr is, sh)
 row_ended Q r v d t s h (inl is, sh) l f = subst (λ (x : Tree). Ended Q r d (filled r x)) (sym is) (absent_ended Q r v d s h (sym (ap (λ x. lacks (owed r.xml) r x v) is) ∙ l) (λ e. sym (ap is_absent is) ∙ f e))
 
-pub ended_good : (Q : List ℕ → Type 0) → (rs : List Row) (ts : Trees) (v : SpecVersion) (around : List ℕ) (p : ℕ) (d : Depth) (us : Trees) → all_xml rs ≡ true → Holds Q ts (row_kinds rs) (last_flags rs v) d → ended rs ts v around p ≡ Ok us → AreRead Q rs d us
+pub ended_good : (Q : List ℕ → Type 0) (rs : List Row) (ts : Trees) (v : SpecVersion) (around : List ℕ) (p : ℕ) (d : Depth) (us : Trees) → all_xml rs ≡ true → Holds Q ts (row_kinds rs) (last_flags rs v) d → ended rs ts v around p ≡ Ok us → AreRead Q rs d us
 unfolding ended is_shallow
 ended_good Q [] ts v around p d us h holds e = subst (λ (x : Trees). AreRead Q [] d x) (ok_same e) (tt, refl)
 ended_good Q (r ∷ rs) none v around p d us h holds e = absurd (true≢false holds.0)
@@ -588,7 +588,7 @@ ended_good Q (r ∷ rs) (more t ts) v around p d us h holds e =
 
 -- ---- plans
 
-good_append : (Q : List ℕ → Type 0) → (xs ys : List Child) (ks : List Kind) → GoodChildren Q xs ks → GoodChildren Q ys ks → GoodChildren Q (xs ++ ys) ks
+good_append : (Q : List ℕ → Type 0) (xs ys : List Child) (ks : List Kind) → GoodChildren Q xs ks → GoodChildren Q ys ks → GoodChildren Q (xs ++ ys) ks
 good_append Q [] ys ks h g = g
 good_append Q (x ∷ xs) ys ks h g = (h.0, good_append Q xs ys ks h.1 g)
 
@@ -599,7 +599,7 @@ list_kind_of _ h = absurd (true≢false (sym h))
 abbrev same_kind : (Q : List ℕ → Type 0) → {k s : Kind} → s ≡ k → (t : Tree) → IsOfAll Q t k → IsOfAll Q t s
 same_kind Q e t h = subst (λ (x : Kind). IsOfAll Q t x) (sym e) h
 
-row_children_good : (Q : List ℕ → Type 0) → (i : ℕ) (r : Row) (ks : List Kind) → reads_xml r.xml r.need r.kind ≡ true → kind_at i ks ≡ r.kind → GoodChildren Q (row_children i r) ks
+row_children_good : (Q : List ℕ → Type 0) (i : ℕ) (r : Row) (ks : List Kind) → reads_xml r.xml r.need r.kind ≡ true → kind_at i ks ≡ r.kind → GoodChildren Q (row_children i r) ks
 row_children_good Q i r ks h e = by r.xml h
   where
     by : (x : Spelled) → reads_xml x r.need r.kind ≡ true → GoodChildren Q (row_children i (record r { xml = x })) ks
@@ -619,13 +619,13 @@ none_plus j = omega arith
 plus_one : (i j : ℕ) → suc i + j ≡ i + suc j
 plus_one i j = omega arith
 
-children_good : (Q : List ℕ → Type 0) → (i : ℕ) (rs : List Row) (ks : List Kind) → all_xml rs ≡ true → ((j : ℕ) → kind_at (i + j) ks ≡ kind_at j (row_kinds rs)) → GoodChildren Q (children_from i rs) ks
+children_good : (Q : List ℕ → Type 0) (i : ℕ) (rs : List Row) (ks : List Kind) → all_xml rs ≡ true → ((j : ℕ) → kind_at (i + j) ks ≡ kind_at j (row_kinds rs)) → GoodChildren Q (children_from i rs) ks
 children_good Q i [] ks h f = tt
 children_good Q i (r ∷ rs) ks h f = good_append Q (row_children i r) (children_from (suc i) rs) ks
     (row_children_good Q i r ks (row_parts r rs h).1 (ap (λ j. kind_at j ks) (sym (plus_none i)) ∙ f 0))
     (children_good Q (suc i) rs ks (row_parts r rs h).2 (λ j. ap (λ m. kind_at m ks) (plus_one i j) ∙ f (suc j)))
 
-plan_good : (Q : List ℕ → Type 0) → (n : Name) → GoodChildren Q (children_from 0 (rows n)) (row_kinds (rows n))
+plan_good : (Q : List ℕ → Type 0) (n : Name) → GoodChildren Q (children_from 0 (rows n)) (row_kinds (rows n))
 plan_good Q n = children_good Q 0 (rows n) (row_kinds (rows n)) (reads_rows n) (λ j. ap (λ m. kind_at m (row_kinds (rows n))) (none_plus j))
 
 -- ---- elements
@@ -718,16 +718,16 @@ flags_end signers v = refl
 flags_end chain v = refl
 flags_end bill v = refl
 
-text_kind_read : (Q : List ℕ → Type 0) → (k : Kind) (s : List ℕ) (d : Depth) → is_text_kind k ≡ true → Q s → IsReadOf Q k d (text s)
+text_kind_read : (Q : List ℕ → Type 0) (k : Kind) (s : List ℕ) (d : Depth) → is_text_kind k ≡ true → Q s → IsReadOf Q k d (text s)
 unfolding is_shallow
 text_kind_read Q a_text s d h u = (u, refl)
 text_kind_read Q _ s d h u = absurd (true≢false (sym h))
 
-text_set : (Q : List ℕ → Type 0) → (i : ℕ) (s : List ℕ) (ts us : Trees) (ks : List Kind) (bs : List Bool) (d : Depth) → is_text_kind (kind_at i ks) ≡ true → Q s → Holds Q ts ks bs d → with_field i (text s) ts ≡ us → Holds Q us ks (flag_at i bs) d
+text_set : (Q : List ℕ → Type 0) (i : ℕ) (s : List ℕ) (ts us : Trees) (ks : List Kind) (bs : List Bool) (d : Depth) → is_text_kind (kind_at i ks) ≡ true → Q s → Holds Q ts ks bs d → with_field i (text s) ts ≡ us → Holds Q us ks (flag_at i bs) d
 text_set Q i s ts us ks bs d h u holds e = subst (λ (x : Trees). Holds Q x ks (flag_at i bs) d) e
     (with_slot Q i (text s) ts ks d holds.0 (slot_of Q (kind_at i ks) d (text s) (text_kind_read Q (kind_at i ks) s d h u)), now_present i (text s) ts bs refl holds.1)
 
-content_good : (Q : List ℕ → Type 0) → (c : Content) (e : Element) (n : Name) (ts us : Trees) (v : SpecVersion) (bs : List Bool) (d : Depth) → GoodElement Q e → is_text_at c (row_kinds (rows n)) ≡ true → Holds Q ts (row_kinds (rows n)) bs d
+content_good : (Q : List ℕ → Type 0) (c : Content) (e : Element) (n : Name) (ts us : Trees) (v : SpecVersion) (bs : List Bool) (d : Depth) → GoodElement Q e → is_text_at c (row_kinds (rows n)) ≡ true → Holds Q ts (row_kinds (rows n)) bs d
     → content_read c e n ts v d ≡ Ok us → Holds Q us (row_kinds (rows n)) (at_end c bs) d
 content_good Q no_content e n ts us v bs d g h holds o = g.0 (record_plan n) (row_kinds (rows n)) bs v d ts us (plan_good Q n) holds o
 content_good Q (any_text i) e n ts us v bs d g h holds o =
@@ -737,7 +737,7 @@ content_good Q (one_text_alone i) e n ts us v bs d g h holds o =
     let x : (s : List ℕ) × (exact_text e.nodes e.name (suc e.start) ≡ Ok s) × (Ok (with_field i (text s) ts) ≡ Ok us) = bind_ok (exact_text e.nodes e.name (suc e.start)) (λ s. Ok (with_field i (text s) ts)) us o in
     text_set Q i x.0 ts us (row_kinds (rows n)) bs d h (exact_good Q e.nodes e.name (suc e.start) x.0 g.2 x.1) holds (ok_same x.2)
 
-record_good : (Q : List ℕ → Type 0) → (e : Element) (n : Name) (v : SpecVersion) (d : Depth) (t : Tree) → GoodElement Q e → record_read e n v d ≡ Ok t → IsRecordRead Q n (inside n d) t
+record_good : (Q : List ℕ → Type 0) (e : Element) (n : Name) (v : SpecVersion) (d : Depth) (t : Tree) → GoodElement Q e → record_read e n v d ≡ Ok t → IsRecordRead Q n (inside n d) t
 record_good Q e n v d t g o =
     let x : (us : Trees) × (record_so_far e n v (inside n d) ≡ Ok us) × ((ended (rows n) us v e.name (end_of e) >>= (λ zs. Ok (fields n zs))) ≡ Ok t) = bind_ok (record_so_far e n v (inside n d)) (λ us. ended (rows n) us v e.name (end_of e) >>= (λ zs. Ok (fields n zs))) t o in
     let y : (zs : Trees) × (ended (rows n) x.0 v e.name (end_of e) ≡ Ok zs) × (Ok (fields n zs) ≡ Ok t) = bind_ok (ended (rows n) x.0 v e.name (end_of e)) (λ zs. Ok (fields n zs)) t x.2 in
@@ -748,7 +748,7 @@ record_good Q e n v d t g o =
 
 -- ---- forms of their own
 
-lists_good : (Q : List ℕ → Type 0) → (l : Lists) → GoodChildren Q (plan_of_list l).children (a_list l ∷ [])
+lists_good : (Q : List ℕ → Type 0) (l : Lists) → GoodChildren Q (plan_of_list l).children (a_list l ∷ [])
 unfolding list
 lists_good Q hashes = ((tt, λ t h. h), tt)
 lists_good Q properties = ((tt, λ t h. h), tt)
@@ -777,7 +777,7 @@ lists_good Q classifications = ((tt, λ t h. h), tt)
 lists_good Q flows = ((tt, λ t h. h), tt)
 lists_good Q licenses = ((tt, λ t h. h), ((tt, λ t h. h), tt))
 
-list_of_good : (Q : List ℕ → Type 0) → (t : Tree) (l : Lists) (d : Depth) → SlotOf Q (a_list l) d t → IsReadOf Q (a_list l) d (list_of t)
+list_of_good : (Q : List ℕ → Type 0) (t : Tree) (l : Lists) (d : Depth) → SlotOf Q (a_list l) d t → IsReadOf Q (a_list l) d (list_of t)
 unfolding is_shallow
 list_of_good Q absent l d h = ((tt, tt), refl)
 list_of_good Q (text s) l d (inr h, e) = (h, e)
@@ -791,13 +791,13 @@ list_of_good Q (boolean s) l d (inl h, e) = absurd (true≢false (sym (ap is_abs
 list_of_good Q (items s) l d (inl h, e) = absurd (true≢false (sym (ap is_absent h)))
 list_of_good Q (fields n s) l d (inl h, e) = absurd (true≢false (sym (ap is_absent h)))
 
-list_good : (Q : List ℕ → Type 0) → (e : Element) (l : Lists) (v : SpecVersion) (d : Depth) (t : Tree) → GoodElement Q e → list_read e l v d ≡ Ok t → IsReadOf Q (a_list l) d t
+list_good : (Q : List ℕ → Type 0) (e : Element) (l : Lists) (v : SpecVersion) (d : Depth) (t : Tree) → GoodElement Q e → list_read e l v d ≡ Ok t → IsReadOf Q (a_list l) d t
 list_good Q e l v d t g o =
     let x : (ts : Trees) × (e.read (plan_of_list l) v d (one absent) ≡ Ok ts) × (Ok (list_of (field 0 ts)) ≡ Ok t) = bind_ok (e.read (plan_of_list l) v d (one absent)) (λ ts. Ok (list_of (field 0 ts))) t o in
     let h : Holds Q x.0 (a_list l ∷ []) [] d = g.0 (plan_of_list l) (a_list l ∷ []) [] v d (one absent) x.0 (lists_good Q l) ((absent_slot Q (a_list l) d, tt), tt) x.1 in
     subst (λ (y : Tree). IsReadOf Q (a_list l) d y) (ok_same x.2) (list_of_good Q (field 0 x.0) l d (slot_at Q 0 x.0 (a_list l ∷ []) d h.0))
 
-reference_good : (Q : List ℕ → Type 0) → (e : Element) (v : SpecVersion) (d : Depth) (t : Tree) → GoodElement Q e → reference_read e v d ≡ Ok t → IsReadOf Q a_reference d t
+reference_good : (Q : List ℕ → Type 0) (e : Element) (v : SpecVersion) (d : Depth) (t : Tree) → GoodElement Q e → reference_read e v d ≡ Ok t → IsReadOf Q a_reference d t
 unfolding is_shallow TextSome
 reference_good Q e v d t g o = by (find_attribute (codes "ref") e.attributes) (find_texts Q (codes "ref") e.attributes g.1) o
   where
@@ -818,14 +818,14 @@ either_was true c r s f t h = inl h
 either_was false true r s f t h = inr h
 either_was false false r s f t h = absurd (err_ok h)
 
-choice_good : (Q : List ℕ → Type 0) → (e : Element) (v : SpecVersion) (d : Depth) (t : Tree) → GoodElement Q e → choice_read e v d ≡ Ok t → IsReadOf Q a_license_choice d t
+choice_good : (Q : List ℕ → Type 0) (e : Element) (v : SpecVersion) (d : Depth) (t : Tree) → GoodElement Q e → choice_read e v d ≡ Ok t → IsReadOf Q a_license_choice d t
 choice_good Q e v d t g o = by (either_was (bytes_eq e.name (codes "license")) (bytes_eq e.name (codes "expression")) (record_read e license v d) (record_read e expression v d) (lacking e.start e.name (codes "license or expression")) t o)
   where
     by : (record_read e license v d ≡ Ok t) ⊎ (record_read e expression v d ≡ Ok t) → IsReadOf Q a_license_choice d t
     by (inl h) = flat_is Q a_license_choice license d t (record_good Q e license v d t g h) refl (λ ts f. (inl refl, f))
     by (inr h) = flat_is Q a_license_choice expression d t (record_good Q e expression v d t g h) refl (λ ts f. (inr refl, f))
 
-identifier_good : (Q : List ℕ → Type 0) → (e : Element) (v : SpecVersion) (d : Depth) (t : Tree) → GoodElement Q e → identifier_read e v d ≡ Ok t → IsReadOf Q a_license_identifier d t
+identifier_good : (Q : List ℕ → Type 0) (e : Element) (v : SpecVersion) (d : Depth) (t : Tree) → GoodElement Q e → identifier_read e v d ≡ Ok t → IsReadOf Q a_license_identifier d t
 identifier_good Q e v d t g o = by (either_was (bytes_eq e.name (codes "id")) (bytes_eq e.name (codes "name")) (record_read e spdx_id v d) (record_read e license_name v d) (lacking e.start e.name (codes "id or name")) t o)
   where
     by : (record_read e spdx_id v d ≡ Ok t) ⊎ (record_read e license_name v d ≡ Ok t) → IsReadOf Q a_license_identifier d t
@@ -841,7 +841,7 @@ tools_children : (Q : List ℕ → Type 0) → GoodChildren Q tools_plan.childre
 unfolding list
 tools_children Q = ((tt, λ t h. h), ((λ t h. h), ((λ t h. h), tt)))
 
-tool_list_tools : (Q : List ℕ → Type 0) → (t : Tree) → IsOfAll Q t (a_list tool_list) → IsOfAll Q t a_tools
+tool_list_tools : (Q : List ℕ → Type 0) (t : Tree) → IsOfAll Q t (a_list tool_list) → IsOfAll Q t a_tools
 unfolding list
 tool_list_tools Q absent h = h
 tool_list_tools Q (text s) h = h
@@ -850,11 +850,11 @@ tool_list_tools Q (boolean s) h = h
 tool_list_tools Q (items ts) h = h
 tool_list_tools Q (fields n ts) h = absurd (true≢false h.0)
 
-part_of : (Q : List ℕ → Type 0) → (k : Kind) (d : Depth) (t : Tree) → SlotOf Q k d t → ((t ≡ absent) × (true ≡ true)) ⊎ IsOfAll Q t k
+part_of : (Q : List ℕ → Type 0) (k : Kind) (d : Depth) (t : Tree) → SlotOf Q k d t → ((t ≡ absent) × (true ≡ true)) ⊎ IsOfAll Q t k
 part_of Q k d t (inl h, e) = inl (h, refl)
 part_of Q k d t (inr h, e) = inr h
 
-object_good : (Q : List ℕ → Type 0) → (v : SpecVersion) (ts : Trees) (d : Depth) → AreSlots Q ts tools_kinds d → IsReadOf Q a_tools d (tools_object_of v ts)
+object_good : (Q : List ℕ → Type 0) (v : SpecVersion) (ts : Trees) (d : Depth) → AreSlots Q ts tools_kinds d → IsReadOf Q a_tools d (tools_object_of v ts)
 unfolding is_shallow rows
 object_good Q V1_3 ts d h = ((tt, tt), refl)
 object_good Q V1_4 ts d h = ((tt, tt), refl)
@@ -863,11 +863,11 @@ object_good Q V1_5 ts d h =
     let b : SlotOf Q (a_list components) d (field 2 ts) = slot_at Q 2 ts tools_kinds d h in
     ((refl, (part_of Q (a_list services) d (field 1 ts) a, (part_of Q (a_list components) d (field 2 ts) b, tt))), both (is_shallow (field 1 ts) d) (is_shallow (field 2 ts) d && true) a.1 (both (is_shallow (field 2 ts) d) true b.1 refl))
 
-there_good : (Q : List ℕ → Type 0) → (k : Kind) (d : Depth) (t : Tree) → is_absent t ≡ false → SlotOf Q k d t → IsReadOf Q k d t
+there_good : (Q : List ℕ → Type 0) (k : Kind) (d : Depth) (t : Tree) → is_absent t ≡ false → SlotOf Q k d t → IsReadOf Q k d t
 there_good Q k d t a (inl h, e) = absurd (true≢false (sym (ap is_absent h) ∙ a))
 there_good Q k d t a (inr h, e) = (h, e)
 
-tools_of_good : (Q : List ℕ → Type 0) → (e : Element) (v : SpecVersion) (ts : Trees) (d : Depth) (t : Tree) → AreSlots Q ts tools_kinds d → tools_of e v ts ≡ Ok t → IsReadOf Q a_tools d t
+tools_of_good : (Q : List ℕ → Type 0) (e : Element) (v : SpecVersion) (ts : Trees) (d : Depth) (t : Tree) → AreSlots Q ts tools_kinds d → tools_of e v ts ≡ Ok t → IsReadOf Q a_tools d t
 tools_of_good Q e v ts d t h o = by (field 0 ts) (slot_at Q 0 ts tools_kinds d h) o
   where
     f : XmlReadError
@@ -892,7 +892,7 @@ tools_of_good Q e v ts d t h o = by (field 0 ts) (slot_at Q 0 ts tools_kinds d h
 no_flags : List Bool
 no_flags = []
 
-tools_good : (Q : List ℕ → Type 0) → (e : Element) (v : SpecVersion) (d : Depth) (t : Tree) → GoodElement Q e → tools_read e v d ≡ Ok t → IsReadOf Q a_tools d t
+tools_good : (Q : List ℕ → Type 0) (e : Element) (v : SpecVersion) (d : Depth) (t : Tree) → GoodElement Q e → tools_read e v d ≡ Ok t → IsReadOf Q a_tools d t
 tools_good Q e v d t g o =
     let x : (ts : Trees) × (e.read tools_plan v d (more absent (two absent absent)) ≡ Ok ts) × (tools_of e v ts ≡ Ok t) = bind_ok (e.read tools_plan v d (more absent (two absent absent))) (λ ts. tools_of e v ts) t o in
     let h : Holds Q x.0 tools_kinds [] d = g.0 tools_plan tools_kinds [] v d (more absent (two absent absent)) x.0 (tools_children Q) ((absent_slot Q (a_list tool_list) d, (absent_slot Q (a_list services) d, (absent_slot Q (a_list components) d, tt))), tt) x.1 in
@@ -907,11 +907,11 @@ data_children : (Q : List ℕ → Type 0) → GoodChildren Q data_plan.children 
 unfolding list
 data_children Q = ((tt, λ t h. h), ((tt, λ t h. h), tt))
 
-entries_of : (Q : List ℕ → Type 0) → (ts : Trees) → AreOfAll Q ts (a_record classification) → AreOfAll Q ts an_entry
+entries_of : (Q : List ℕ → Type 0) (ts : Trees) → AreOfAll Q ts (a_record classification) → AreOfAll Q ts an_entry
 entries_of Q none h = tt
 entries_of Q (more t ts) h = (class_entry Q t h.0, entries_of Q ts h.1)
 
-classes_data : (Q : List ℕ → Type 0) → (t : Tree) → IsOfAll Q t (a_list classifications) → IsOfAll Q t a_data
+classes_data : (Q : List ℕ → Type 0) (t : Tree) → IsOfAll Q t (a_list classifications) → IsOfAll Q t a_data
 unfolding list
 classes_data Q absent h = h
 classes_data Q (text s) h = h
@@ -920,7 +920,7 @@ classes_data Q (boolean s) h = h
 classes_data Q (items ts) h = (tt, entries_of Q ts h.1)
 classes_data Q (fields n ts) h = absurd (true≢false h.0)
 
-data_of_good : (Q : List ℕ → Type 0) → (ts : Trees) (d : Depth) → AreSlots Q ts data_kinds d → IsReadOf Q a_data d (data_of ts)
+data_of_good : (Q : List ℕ → Type 0) (ts : Trees) (d : Depth) → AreSlots Q ts data_kinds d → IsReadOf Q a_data d (data_of ts)
 data_of_good Q ts d h = by (field 1 ts) (slot_at Q 1 ts data_kinds d h)
   where
     classes : IsReadOf Q a_data d (list_of (field 0 ts))
@@ -938,7 +938,7 @@ data_of_good Q ts d h = by (field 1 ts) (slot_at Q 1 ts data_kinds d h)
     by (items x) s = there_good Q a_data d (items x) refl s
     by (fields n x) s = there_good Q a_data d (fields n x) refl s
 
-data_good : (Q : List ℕ → Type 0) → (e : Element) (v : SpecVersion) (d : Depth) (t : Tree) → GoodElement Q e → data_read e v d ≡ Ok t → IsReadOf Q a_data d t
+data_good : (Q : List ℕ → Type 0) (e : Element) (v : SpecVersion) (d : Depth) (t : Tree) → GoodElement Q e → data_read e v d ≡ Ok t → IsReadOf Q a_data d t
 data_good Q e v d t g o =
     let x : (ts : Trees) × (e.read data_plan v d (two absent absent) ≡ Ok ts) × (Ok (data_of ts) ≡ Ok t) = bind_ok (e.read data_plan v d (two absent absent)) (λ ts. Ok (data_of ts)) t o in
     let h : Holds Q x.0 data_kinds [] d = g.0 data_plan data_kinds [] v d (two absent absent) x.0 (data_children Q) ((absent_slot Q (a_list classifications) d, (absent_slot Q a_data d, tt)), tt) x.1 in
@@ -949,7 +949,7 @@ data_good Q e v d t g o =
 abbrev signature_kinds : List Kind
 signature_kinds = a_signature ∷ a_text ∷ a_text ∷ []
 
-signers_signature : (Q : List ℕ → Type 0) → (t : Tree) → IsOfAll Q t (a_record signers) → IsOfAll Q t a_signature
+signers_signature : (Q : List ℕ → Type 0) (t : Tree) → IsOfAll Q t (a_record signers) → IsOfAll Q t a_signature
 signers_signature Q absent h = h
 signers_signature Q (text s) h = h
 signers_signature Q (number s) h = h
@@ -957,7 +957,7 @@ signers_signature Q (boolean s) h = h
 signers_signature Q (items ts) h = absurd (true≢false h.0)
 signers_signature Q (fields n ts) h = (inl h.0, h.1)
 
-chain_signature : (Q : List ℕ → Type 0) → (t : Tree) → IsOfAll Q t (a_record chain) → IsOfAll Q t a_signature
+chain_signature : (Q : List ℕ → Type 0) (t : Tree) → IsOfAll Q t (a_record chain) → IsOfAll Q t a_signature
 chain_signature Q absent h = h
 chain_signature Q (text s) h = h
 chain_signature Q (number s) h = h
@@ -965,7 +965,7 @@ chain_signature Q (boolean s) h = h
 chain_signature Q (items ts) h = absurd (true≢false h.0)
 chain_signature Q (fields n ts) h = (inr (inl h.0), h.1)
 
-signature_of_good : (Q : List ℕ → Type 0) → (e : Element) (v : SpecVersion) (ts : Trees) (d : Depth) (t : Tree) → AreSlots Q ts signature_kinds d → signature_of e v ts ≡ Ok t → IsReadOf Q a_signature d t
+signature_of_good : (Q : List ℕ → Type 0) (e : Element) (v : SpecVersion) (ts : Trees) (d : Depth) (t : Tree) → AreSlots Q ts signature_kinds d → signature_of e v ts ≡ Ok t → IsReadOf Q a_signature d t
 signature_of_good Q e v ts d t h o = by (field 0 ts) (slot_at Q 0 ts signature_kinds d h) o
   where
     single : (ended (rows signer) (two (field 1 ts) (field 2 ts)) v e.name (end_of e) >>= (λ us. Ok (fields signer us))) ≡ Ok t → IsReadOf Q a_signature d t
@@ -993,7 +993,7 @@ signature_of_good Q e v ts d t h o = by (field 0 ts) (slot_at Q 0 ts signature_k
     by (items x) s g = listed (items x) refl s refl g
     by (fields n x) s g = listed (fields n x) refl s refl g
 
-signature_good : (Q : List ℕ → Type 0) → (e : Element) (v : SpecVersion) (d : Depth) (t : Tree) → GoodElement Q e → signature_read e v d ≡ Ok t → IsReadOf Q a_signature d t
+signature_good : (Q : List ℕ → Type 0) (e : Element) (v : SpecVersion) (d : Depth) (t : Tree) → GoodElement Q e → signature_read e v d ≡ Ok t → IsReadOf Q a_signature d t
 signature_good Q e v d t g o =
     let x : (ts : Trees) × (e.read signature_plan v d (more absent (two absent absent)) ≡ Ok ts) × (signature_of e v ts ≡ Ok t) = bind_ok (e.read signature_plan v d (more absent (two absent absent))) (λ ts. signature_of e v ts) t o in
     let h : Holds Q x.0 signature_kinds [] d = g.0 signature_plan signature_kinds [] v d (more absent (two absent absent)) x.0 (signers_signature Q, (chain_signature Q, ((λ t h. h), ((λ t h. h), tt)))) ((absent_slot Q a_signature d, (absent_slot Q a_text d, (absent_slot Q a_text d, tt))), tt) x.1 in
@@ -1001,7 +1001,7 @@ signature_good Q e v d t g o =
 
 -- ---- all row_kinds
 
-bill_good : (Q : List ℕ → Type 0) → (e : Element) (v : SpecVersion) (d : Depth) (t : Tree) → GoodElement Q e → bill_read e v d ≡ Ok t → IsReadOf Q a_bill d t
+bill_good : (Q : List ℕ → Type 0) (e : Element) (v : SpecVersion) (d : Depth) (t : Tree) → GoodElement Q e → bill_read e v d ≡ Ok t → IsReadOf Q a_bill d t
 bill_good Q e v d t g o = by (bytes_eq e.name (codes "bom")) (in_namespace e.namespace (namespace v)) o
   where
     by : (b c : Bool) → (if b then (if c then record_read e bill v d else Err (namespaced (namespace v) e.namespace)) else Err (unexpected e.start (codes "bom") kinds.StartElement)) ≡ Ok t → IsReadOf Q a_bill d t
@@ -1009,37 +1009,37 @@ bill_good Q e v d t g o = by (bytes_eq e.name (codes "bom")) (in_namespace e.nam
     by true false h = absurd (err_ok h)
     by false c h = absurd (err_ok h)
 
-text_element : (Q : List ℕ → Type 0) → (e : Element) (d : Depth) (t : Tree) → GoodElement Q e → (text_read e >>= (λ s. Ok (text s))) ≡ Ok t → IsReadOf Q a_text d t
+text_element : (Q : List ℕ → Type 0) (e : Element) (d : Depth) (t : Tree) → GoodElement Q e → (text_read e >>= (λ s. Ok (text s))) ≡ Ok t → IsReadOf Q a_text d t
 unfolding is_shallow
 text_element Q e d t g o =
     let x : (s : List ℕ) × (text_read e ≡ Ok s) × (Ok (text s) ≡ Ok t) = bind_ok (text_read e) (λ s. Ok (text s)) t o in
     subst (λ (y : Tree). IsReadOf Q a_text d y) (ok_same x.2) (simple_good Q g.3 e.nodes e.name (suc e.start) x.0 g.2 x.1, refl)
 
-boolean_element : (Q : List ℕ → Type 0) → (e : Element) (d : Depth) (t : Tree) → boolean_read e ≡ Ok t → IsReadOf Q a_boolean d t
+boolean_element : (Q : List ℕ → Type 0) (e : Element) (d : Depth) (t : Tree) → boolean_read e ≡ Ok t → IsReadOf Q a_boolean d t
 boolean_element Q e d t o =
     let x : (s : List ℕ) × (text_read e ≡ Ok s) × (parsed (boolean_tree (boolean_of s)) (end_of e) e.name s a_boolean ≡ Ok t) = bind_ok (text_read e) (λ s. parsed (boolean_tree (boolean_of s)) (end_of e) e.name s a_boolean) t o in
     boolean_leaf Q (boolean_of x.0) d t (parsed_was (boolean_tree (boolean_of x.0)) (end_of e) e.name x.0 a_boolean t x.2)
 
-number_alone_good : (Q : List ℕ → Type 0) → (o : Option ℕ) (s : List ℕ) (xs : Nodes) (around : List ℕ) (p : ℕ) (d : Depth) (t : Tree) → ((n : ℕ) → o ≡ Some n → n < 2 ^ 32) → number_alone o s xs around p ≡ Ok t → IsReadOf Q a_number d t
+number_alone_good : (Q : List ℕ → Type 0) (o : Option ℕ) (s : List ℕ) (xs : Nodes) (around : List ℕ) (p : ℕ) (d : Depth) (t : Tree) → ((n : ℕ) → o ≡ Some n → n < 2 ^ 32) → number_alone o s xs around p ≡ Ok t → IsReadOf Q a_number d t
 unfolding is_shallow
 number_alone_good Q None s xs around p d t f h = absurd (err_ok h)
 number_alone_good Q (Some n) s xs around p d t f h =
     let x : (u : List ℕ) × (after_text s xs around (suc p) ≡ Ok u) × (Ok (number n) ≡ Ok t) = bind_ok (after_text s xs around (suc p)) (λ u. Ok (number n)) t h in
     subst (λ (y : Tree). IsReadOf Q a_number d y) (ok_same x.2) (f n refl, refl)
 
-number_in_good : (Q : List ℕ → Type 0) → (xs : Nodes) (around : List ℕ) (p : ℕ) (d : Depth) (t : Tree) → number_in xs around p ≡ Ok t → IsReadOf Q a_number d t
+number_in_good : (Q : List ℕ → Type 0) (xs : Nodes) (around : List ℕ) (p : ℕ) (d : Depth) (t : Tree) → number_in xs around p ≡ Ok t → IsReadOf Q a_number d t
 number_in_good Q no_nodes around p d t h = absurd (err_ok h)
 number_in_good Q (node (characters s) xs) around p d t h = number_alone_good Q (number_of (trim s)) s xs around p d t (number_below (trim s)) h
 number_in_good Q (node (cdata s) xs) around p d t h = number_alone_good Q (number_of (trim s)) s xs around p d t (number_below (trim s)) h
 number_in_good Q (node (element n as' default ys) xs) around p d t h = absurd (err_ok h)
 
-entry_element : (Q : List ℕ → Type 0) → (e : Element) (v : SpecVersion) (d : Depth) (t : Tree) → GoodElement Q e → (record_read e service_data v d >>= (λ s. Ok (entry_of s))) ≡ Ok t → IsReadOf Q an_entry d t
+entry_element : (Q : List ℕ → Type 0) (e : Element) (v : SpecVersion) (d : Depth) (t : Tree) → GoodElement Q e → (record_read e service_data v d >>= (λ s. Ok (entry_of s))) ≡ Ok t → IsReadOf Q an_entry d t
 entry_element Q e v d t g o =
     let x : (s : Tree) × (record_read e service_data v d ≡ Ok s) × (Ok (entry_of s) ≡ Ok t) = bind_ok (record_read e service_data v d) (λ s. Ok (entry_of s)) t o in
     let p : IsRecordRead Q service_data d x.0 = record_good Q e service_data v d x.0 g x.1 in
     subst (λ (y : Tree). IsReadOf Q an_entry d y) (ap entry_of (sym p.1) ∙ ok_same x.2) (flow_entry Q p.0 d p.2)
 
-kind_good : (Q : List ℕ → Type 0) → (e : Element) (v : SpecVersion) (k : Kind) (d : Depth) (t : Tree) → GoodElement Q e → kind_read e v k d ≡ Ok t → IsReadOf Q k d t
+kind_good : (Q : List ℕ → Type 0) (e : Element) (v : SpecVersion) (k : Kind) (d : Depth) (t : Tree) → GoodElement Q e → kind_read e v k d ≡ Ok t → IsReadOf Q k d t
 kind_good Q e v a_text d t g o = text_element Q e d t g o
 kind_good Q e v a_boolean d t g o = boolean_element Q e d t o
 kind_good Q e v a_number d t g o = number_in_good Q e.nodes e.name (suc e.start) d t o

@@ -12,19 +12,19 @@ use Rattle.cdx_schema.specs.Texts.{AreTexts, AreTextsIn, AreTextsOf, AttributeTe
 use Rattle.cdx_events.specs.declared.name.OwnedAttribute.{OwnedAttribute}
 use Rattle.cdx_events.specs.Nodes.{Node, characters, cdata, element, Nodes, no_nodes, node}
 
-text_shape : (Q : List ℕ → Type 0) → (k : Kind) (s : List ℕ) → IsTextOf Q k s → IsTextOf AnyText k s
+text_shape : (Q : List ℕ → Type 0) (k : Kind) (s : List ℕ) → IsTextOf Q k s → IsTextOf AnyText k s
 text_shape Q a_text s h = tt
 text_shape Q a_reference s h = tt
 text_shape Q a_version s h = h
 text_shape Q _ s h = h
 
-field_shape : (Q : List ℕ → Type 0) → (t : Tree) (r : Row) → (IsOfAll Q t r.kind → HasShape t r.kind) → ((t ≡ absent) × (may_lack r.need ≡ true)) ⊎ IsOfAll Q t r.kind → ((t ≡ absent) × (may_lack r.need ≡ true)) ⊎ HasShape t r.kind
+field_shape : (Q : List ℕ → Type 0) (t : Tree) (r : Row) → (IsOfAll Q t r.kind → HasShape t r.kind) → ((t ≡ absent) × (may_lack r.need ≡ true)) ⊎ IsOfAll Q t r.kind → ((t ≡ absent) × (may_lack r.need ≡ true)) ⊎ HasShape t r.kind
 field_shape Q t r f (inl h) = inl h
 field_shape Q t r f (inr h) = inr (f h)
 
 -- What is of a kind has its shape.
 mutual
-  pub shape : (Q : List ℕ → Type 0) → (t : Tree) (k : Kind) → IsOfAll Q t k → HasShape t k
+  pub shape : (Q : List ℕ → Type 0) (t : Tree) (k : Kind) → IsOfAll Q t k → HasShape t k
   shape Q absent k h = h
   shape Q (text s) k h = text_shape Q k s h
   shape Q (number n) k h = h
@@ -32,11 +32,11 @@ mutual
   shape Q (items ts) k h = (h.0, shapes Q ts (held_kind k) h.1)
   shape Q (fields n ts) k h = (h.0, field_shapes Q ts (rows n) h.1)
 
-  shapes : (Q : List ℕ → Type 0) → (ts : Trees) (k : Kind) → AreOfAll Q ts k → HaveShape ts k
+  shapes : (Q : List ℕ → Type 0) (ts : Trees) (k : Kind) → AreOfAll Q ts k → HaveShape ts k
   shapes Q none k h = tt
   shapes Q (more t ts) k h = (shape Q t k h.0, shapes Q ts k h.1)
 
-  field_shapes : (Q : List ℕ → Type 0) → (ts : Trees) (rs : List Row) → AreFieldsAll Q ts rs → FieldsHaveShape ts rs
+  field_shapes : (Q : List ℕ → Type 0) (ts : Trees) (rs : List Row) → AreFieldsAll Q ts rs → FieldsHaveShape ts rs
   field_shapes Q none [] h = tt
   field_shapes Q none (r ∷ rs) h = h
   field_shapes Q (more t ts) [] h = h

@@ -1,4 +1,4 @@
--- What a trip makes of a tree of a kind is of that kind, and fits what the tree fits.
+-- What a trip makes of a tree of a kind is of that kind, and fits what the tree fits. Q is what is asked of a text.
 use Rattle.std.specs.Prelude.{◌≡◌, refl, ℕ, List, [], ◌∷◌, Bool, true, false, not, ◌&&◌, if◌then◌else◌, ◌⊎◌}
 use Rattle.std.proofs.Common.{true≢false, inl, inr}
 use mathlib.Core.Path.{ap, sym, ◌∙◌, subst}
@@ -53,7 +53,7 @@ mutual
 
 -- ---- kinds
 
-list_of_trip : (Q : List ℕ → Type 0) → (k : Kind) (w : SpecVersion) (us : Trees) → IsListOf k → AreOfAll Q us (held_kind k) → IsOfAll Q (list_after k w us) k
+list_of_trip : (Q : List ℕ → Type 0) (k : Kind) (w : SpecVersion) (us : Trees) → IsListOf k → AreOfAll Q us (held_kind k) → IsOfAll Q (list_after k w us) k
 unfolding rows
 list_of_trip Q a_tools V1_5 none l h = (refl, (inl (refl, refl), (inl (refl, refl), tt)))
 list_of_trip Q a_tools V1_5 (more u us) l h = (l, h)
@@ -102,13 +102,13 @@ read_lacks : (n : Need) (k : Kind) → sound_xml (read_child []) n k ≡ true �
 read_lacks optional k s = refl
 read_lacks _ k s = absurd (true≢false (sym s))
 
-none_of : (Q : List ℕ → Type 0) → (n : Need) (u : Tree) (k : Kind) → ((u ≡ absent) × (may_lack n ≡ true)) ⊎ IsOfAll Q u k → ((none_is_absent n u ≡ absent) × (may_lack n ≡ true)) ⊎ IsOfAll Q (none_is_absent n u) k
+none_of : (Q : List ℕ → Type 0) (n : Need) (u : Tree) (k : Kind) → ((u ≡ absent) × (may_lack n ≡ true)) ⊎ IsOfAll Q u k → ((none_is_absent n u ≡ absent) × (may_lack n ≡ true)) ⊎ IsOfAll Q (none_is_absent n u) k
 none_of Q optional (items none) k h = inl (refl, refl)
 none_of Q optional (items (more u us)) k h = h
 none_of Q optional _ k h = h
 none_of Q _ u k h = h
 
-field_of_trip : (Q : List ℕ → Type 0) → (r : Row) (t u : Tree) → sound_xml r.xml r.need r.kind ≡ true → IsFieldAll Q u r → IsFieldAll Q (field_after r t u) r
+field_of_trip : (Q : List ℕ → Type 0) (r : Row) (t u : Tree) → sound_xml r.xml r.need r.kind ≡ true → IsFieldAll Q u r → IsFieldAll Q (field_after r t u) r
 field_of_trip Q r t u s h = by r.xml s
   where
     by : (x : Spelled) → sound_xml x r.need r.kind ≡ true → IsFieldAll Q (field_after (record r { xml = x }) t u) r
@@ -128,11 +128,11 @@ field_of_trip Q r t u s h = by r.xml s
     by (either_child q m) e = h
     by the_version e = h
 
-item_of_trip : (Q : List ℕ → Type 0) → (b : Bool) (t : Tree) (ts : Trees) (k : Kind) → IsOfAll Q t k → AreOfAll Q ts k → AreOfAll Q (if b then ts else more t ts) k
+item_of_trip : (Q : List ℕ → Type 0) (b : Bool) (t : Tree) (ts : Trees) (k : Kind) → IsOfAll Q t k → AreOfAll Q ts k → AreOfAll Q (if b then ts else more t ts) k
 item_of_trip Q true t ts k h g = g
 item_of_trip Q false t ts k h g = (h, g)
 
-absent_trip : (Q : List ℕ → Type 0) → (w : SpecVersion) (t : Tree) (r : Row) → IsFieldAll Q t r → (IsOfAll Q t r.kind → IsOfAll Q (tripped w t r.kind) r.kind) → IsFieldAll Q (tripped w t r.kind) r
+absent_trip : (Q : List ℕ → Type 0) (w : SpecVersion) (t : Tree) (r : Row) → IsFieldAll Q t r → (IsOfAll Q t r.kind → IsOfAll Q (tripped w t r.kind) r.kind) → IsFieldAll Q (tripped w t r.kind) r
 unfolding tripped
 absent_trip Q w t r (inl h) f = inl (ap (λ x. tripped w x r.kind) h.0, h.1)
 absent_trip Q w t r (inr h) f = inr (f h)
@@ -140,7 +140,7 @@ absent_trip Q w t r (inr h) f = inr (f h)
 mutual
   unfolding tripped
 
-  pub tripped_of : (Q : List ℕ → Type 0) → (w : SpecVersion) (t : Tree) (k : Kind) → IsOfAll Q t k → IsOfAll Q (tripped w t k) k
+  pub tripped_of : (Q : List ℕ → Type 0) (w : SpecVersion) (t : Tree) (k : Kind) → IsOfAll Q t k → IsOfAll Q (tripped w t k) k
   tripped_of Q w absent k h = h
   tripped_of Q w (text s) k h = h
   tripped_of Q w (number n) k h = h
@@ -148,11 +148,11 @@ mutual
   tripped_of Q w (items ts) k h = list_of_trip Q k w (items_tripped w ts (held_kind k)) h.0 (items_tripped_of Q w ts (held_kind k) h.1)
   tripped_of Q w (fields n ts) k h = (record_of_trip w k n ts h.0, rows_tripped_of Q w ts (rows n) (sound n) h.1)
 
-  items_tripped_of : (Q : List ℕ → Type 0) → (w : SpecVersion) (ts : Trees) (k : Kind) → AreOfAll Q ts k → AreOfAll Q (items_tripped w ts k) k
+  items_tripped_of : (Q : List ℕ → Type 0) (w : SpecVersion) (ts : Trees) (k : Kind) → AreOfAll Q ts k → AreOfAll Q (items_tripped w ts k) k
   items_tripped_of Q w none k h = tt
   items_tripped_of Q w (more t ts) k h = item_of_trip Q (is_passed_over t) (tripped w t k) (items_tripped w ts k) k (tripped_of Q w t k h.0) (items_tripped_of Q w ts k h.1)
 
-  rows_tripped_of : (Q : List ℕ → Type 0) → (w : SpecVersion) (ts : Trees) (rs : List Row) → all_sound rs ≡ true → AreFieldsAll Q ts rs → AreFieldsAll Q (rows_tripped w ts rs) rs
+  rows_tripped_of : (Q : List ℕ → Type 0) (w : SpecVersion) (ts : Trees) (rs : List Row) → all_sound rs ≡ true → AreFieldsAll Q ts rs → AreFieldsAll Q (rows_tripped w ts rs) rs
   rows_tripped_of Q w none [] s h = tt
   rows_tripped_of Q w none (r ∷ rs) s h = h
   rows_tripped_of Q w (more t ts) [] s h = absurd (true≢false h)
@@ -161,7 +161,7 @@ mutual
     rows_tripped_of Q w ts rs (sound_parts r rs s).2 h.1,
   )
 
-pub bare_of : (Q : List ℕ → Type 0) → (t : Tree) (k : Kind) → IsOfAll Q t k → IsOfAll Q (bare t) k
+pub bare_of : (Q : List ℕ → Type 0) (t : Tree) (k : Kind) → IsOfAll Q t k → IsOfAll Q (bare t) k
 bare_of Q t k h = subst (λ (x : Tree). IsOfAll Q x k) (bare_is t k) (tripped_of Q V1_3 t k h)
 
 -- ---- versions
