@@ -8,7 +8,7 @@ pub mod DecimalTexts
 pub mod BillLaw
 pub mod HeldKept
 pub mod LeafLemmas
-mod Passed
+pub mod Passed
 pub mod KeptTwice
 pub mod Groups
 mod KeepRows
