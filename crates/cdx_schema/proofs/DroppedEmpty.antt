@@ -22,7 +22,7 @@ use Rattle.cdx_schema.proofs.XmlBack.{row_written}
 use Rattle.cdx_schema.proofs.XmlLaw.{is_plain, tag_plain, optional_text}
 use Rattle.cdx_schema.proofs.JsonBack.{one_text_of, required_held, held_text, IsTextHeld, IsNumberHeld}
 use Rattle.cdx_schema.proofs.HeldKept.{held_kept, fits_first}
-use Rattle.cdx_schema.specs.Membership.{IsOf, IsListOf, IsBooleanOf}
+use Rattle.cdx_schema.specs.Membership.{IsListOf}
 use Rattle.cdx_schema.specs.Keeping.{keep}
 use Rattle.cdx_schema.specs.Depth.{top}
 use Rattle.cdx_schema.specs.JsonSpelling.{is_written}

@@ -5,7 +5,7 @@ use Rattle.std.proofs.Common.{true≢false, inl, inr}
 use Rattle.std.specs.Str.{bytes_eq}
 use mathlib.Core.Path.{ap, sym, ◌∙◌, subst}
 use Rattle.cdx_models.specs.declared.bom.SpecVersion.{SpecVersion}
-use Rattle.cdx_models.specs.declared.bom.SpecVersion.TheVariants.{V1_3, V1_4, V1_5}
+use Rattle.cdx_models.specs.declared.bom.SpecVersion.TheVariants.{V1_5}
 use Rattle.cdx_models.specs.Versions.{knows}
 use Rattle.cdx_models.specs.Trees.{Name, hash, property, attached_text, contact, entity, commit, action, patch, diff, issue, source, reference, dependency, composition, license, expression, spdx_id, license_name, tool, component, swid, pedigree, evidence, copyright, service, classification, service_data, tools_object, metadata, signer, signers, chain, bill, Tree, absent, text, number, boolean, items, fields, Trees, none, more, one, is_absent}
 use Rattle.cdx_schema.specs.Kinds.{Lists, Kind, a_text, a_boolean, a_number, a_version, a_list, a_record, a_reference, a_license_choice, a_license_identifier, a_tools, a_data, an_entry, a_signature, a_bill, Rule, Spelled, attribute, attribute_or, content, one_text, as_cdata, child, filled_child, read_child, children, either_child, the_version, Need, optional, required, required_first, else_empty, Row}
@@ -17,7 +17,7 @@ use Rattle.cdx_schema.specs.Trips.{is_hollow, is_passed_over}
 use Rattle.cdx_schema.specs.XmlReading.{Plan, Child, Place, last, all, once, find_child, row_children, record_plan, plan_of_list, tools_plan, data_plan, signature_plan, content_from}
 use Rattle.cdx_schema.specs.XmlSpelling.{nodes_of, items_nodes, fields_nodes, row_nodes, wrapped, lone, tag_of, named}
 use Rattle.cdx_schema.specs.Dropped.{lean, lean_nodes, earlier, record_hole, child_hole, node_hole, hole, holes, has_empty, have_empty, any_empty}
-use Rattle.cdx_schema.proofs.JsonBack.{is_in, distinct, same_itself, or_false, if_true, if_false, apart_first, is_in_first, and_true, same_name, Held, AllHeld, FieldsHeld, RowHeld}
+use Rattle.cdx_schema.proofs.JsonBack.{is_in, distinct, same_itself, or_false, apart_first, is_in_first, and_true, same_name, Held, AllHeld, FieldsHeld, RowHeld}
 use Rattle.cdx_schema.proofs.XmlBack.{child_names, all_child_names, find_row, finds_first, passes_first, plan_of, append_lists, names_append, row_written, child_names_distinct}
 use Rattle.cdx_schema.proofs.XmlLaw.{is_plain, tag_plain, finds_list, finds_tool, not_false, optional_text}
 use Rattle.cdx_schema.proofs.JsonBack.{one_text_of, IsTextHeld, IsNumberHeld}

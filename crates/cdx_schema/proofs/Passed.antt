@@ -3,14 +3,13 @@ use Rattle.std.specs.Prelude.{◌≡◌, refl, ℕ, List, [], ◌∷◌, ◌++�
 use Rattle.std.proofs.Common.{true≢false}
 use Rattle.std.specs.Str.{bytes_eq}
 use mathlib.Core.Path.{ap, sym, ◌∙◌}
-use Rattle.serde_json.specs.Data.{Data, Members, put}
-use Rattle.serde_json.specs.Data as json
+use Rattle.serde_json.specs.Data.{Members, put}
 use Rattle.serde_json.proofs.Views.{get_member-put_other}
 use Rattle.cdx_models.specs.declared.bom.SpecVersion.{SpecVersion}
 use Rattle.cdx_models.specs.declared.bom.SpecVersion.TheVariants.{V1_3, V1_4, V1_5}
 use Rattle.cdx_models.specs.Versions.{knows}
 use Rattle.cdx_models.specs.Entries.{entry_of}
-use Rattle.cdx_models.specs.Trees.{Name, classification, service_data, tools_object, bill, Tree, absent, fields, Trees, none, more}
+use Rattle.cdx_models.specs.Trees.{Name, classification, service_data, tools_object, bill, Tree, absent, Trees, more}
 use Rattle.cdx_schema.specs.Kinds.{Kind, a_text, a_boolean, a_number, a_version, a_list, a_record, a_reference, a_license_choice, a_license_identifier, a_tools, a_data, an_entry, a_signature, a_bill, Row, Member, member, merged}
 use Rattle.cdx_schema.specs.Table.{rows}
 use Rattle.cdx_schema.specs.Results.{◌>>=◌}

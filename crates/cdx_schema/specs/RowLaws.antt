@@ -7,7 +7,7 @@ use Rattle.serde_json.specs.Find.{get_member}
 use Rattle.cdx_models.specs.declared.bom.SpecVersion.{SpecVersion}
 use Rattle.cdx_models.specs.declared.bom.SpecVersion.TheVariants.{V1_3, V1_4, V1_5}
 use Rattle.cdx_models.specs.Versions.{knows}
-use Rattle.cdx_models.specs.Trees.{Name, classification, service_data, tools_object, bill, Tree, fields, Trees, none, more, one, absent, ◌⧺◌, field}
+use Rattle.cdx_models.specs.Trees.{Name, classification, service_data, tools_object, bill, fields, Trees, none, more, one, absent, ◌⧺◌, field}
 use Rattle.cdx_models.specs.declared.errors.XmlReadError.{XmlReadError}
 use Rattle.cdx_events.specs.declared.name.OwnedName.{OwnedName}
 use Rattle.cdx_events.specs.declared.name.OwnedAttribute.{OwnedAttribute}
@@ -23,7 +23,7 @@ use Rattle.cdx_schema.specs.Membership.{Never}
 use Rattle.cdx_schema.specs.JsonReading.{jread, seen, rows_read, own_read, or_else}
 use Rattle.cdx_schema.specs.JsonSpelling.{jspell, members_spelled, heading}
 use Rattle.cdx_schema.specs.Keeping.{keep, rows_kept}
-use Rattle.cdx_schema.specs.XmlReading.{Element, Plan, record_plan, plan_of_list, list_of, node_read, content_from, no_content, record_so_far, ended, end_of, xread, nodes_read}
+use Rattle.cdx_schema.specs.XmlReading.{Element, record_plan, plan_of_list, list_of, node_read, content_from, no_content, record_so_far, ended, end_of, xread, nodes_read}
 use Rattle.cdx_schema.specs.XmlSpelling.{spelled, plain_element, ordered, attributes_in, fields_nodes}
 
 -- ---- members that no row has
