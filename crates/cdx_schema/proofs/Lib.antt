@@ -14,6 +14,7 @@ pub mod Groups
 mod KeepRows
 mod RoadRows
 mod XmlRows
+mod RecordRows
 pub mod SameTrip
 pub mod NoFloats
 pub mod BillRead
