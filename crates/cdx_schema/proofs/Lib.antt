@@ -9,12 +9,13 @@ pub mod BillLaw
 pub mod HeldKept
 pub mod LeafLemmas
 pub mod Shape
-mod Passed
+pub mod Passed
 pub mod KeptTwice
 pub mod Groups
 mod KeepRows
 mod RoadRows
 mod XmlRows
+mod RecordRows
 pub mod SameTrip
 pub mod NoFloats
 pub mod BillRead

@@ -18,4 +18,5 @@ pub mod Roads
 pub mod Texts
 pub mod Laws
 pub mod Locality
+pub mod RowLaws
 pub mod Dropped
