@@ -22,6 +22,8 @@ use Rattle.cdx_schema.specs.XmlReading.{xread, xml_denotes}
 use Rattle.cdx_schema.specs.XmlSpelling.{spelled, plain_name}
 use Rattle.cdx_schema.specs.Keeping.{keep, fits}
 use Rattle.cdx_schema.specs.Trips.{bare}
+use Rattle.cdx_schema.specs.Table.{rows}
+use Rattle.cdx_schema.specs.RowLaws.{known_names}
 use Rattle.cdx_schema.proofs.Literals.{str, num, obj, arr, ◌↪◌⨟◌, ◌⨠◌, ◌⊳◌, at, el, tag, txt, leaf, t', reading_on_literals}
 use Rattle.cdx_schema.proofs.RecordRows.{of_fields, list_of, hash_json, hash_xml, class_tree, class_xml, flow_tree, signer_tree, signer_json, signer_xml, small_tree, small_xml}
 
@@ -323,3 +325,14 @@ pedigree_fits : (fits V1_3 (of_fields name.pedigree (absent ∷ absent ∷ list_
     × (fits V1_4 (of_fields name.pedigree (absent ∷ absent ∷ list_of (small_tree ∷ []) ∷ absent ∷ absent ∷ absent ∷ [])) (kind.a_record name.pedigree) ≡ true)
 unfolding reading_on_literals
 pedigree_fits = (refl, refl)
+
+-- ---- which names a version knows
+
+known_of_license : (known_names V1_5 (rows name.license) ≡ codes "bomRef" ∷ codes "id" ∷ codes "name" ∷ codes "text" ∷ codes "url" ∷ codes "properties" ∷ [])
+    × (known_names V1_4 (rows name.license) ≡ codes "id" ∷ codes "name" ∷ codes "text" ∷ codes "url" ∷ [])
+unfolding reading_on_literals
+known_of_license = (refl, refl)
+
+known_of_flow : known_names V1_5 (rows name.service_data) ≡ codes "name" ∷ codes "description" ∷ codes "flow" ∷ codes "classification" ∷ []
+unfolding reading_on_literals
+known_of_flow = refl
