@@ -15,7 +15,8 @@ pub mod Groups
 mod KeepRows
 mod RoadRows
 mod XmlRows
-mod RecordRows
+pub mod RecordRows
+mod RuleRows
 pub mod SameTrip
 pub mod NoFloats
 pub mod BillRead
