@@ -5,7 +5,7 @@ use crate::list::List;
 use crate::name::{Namespace, OwnedAttribute, OwnedName};
 use crate::text::Text;
 
-#[derive(Debug, Drop)]
+#[derive(Debug, Drop, PartialEq, Eq)]
 pub enum XmlEvent {
     StartDocument,
     EndDocument,

@@ -1,24 +1,24 @@
 ghost use Rattle.std.specs.Prelude.{◌≡◌, IfOk};
-ghost use Rattle.cdx_events.specs.Name.{local, same_part, same_name};
+ghost use Rattle.cdx_events.specs.Name.{local};
 
 use crate::list::List;
 use crate::text::Text;
 use std::alloc::{AllocError, Global};
 
-#[derive(Debug, Drop)]
+#[derive(Debug, Drop, PartialEq, Eq)]
 pub struct OwnedName {
     pub local_name: Text,
     pub namespace: Option<Text>,
     pub prefix: Option<Text>,
 }
 
-#[derive(Debug, Drop)]
+#[derive(Debug, Drop, PartialEq, Eq)]
 pub struct OwnedAttribute {
     pub name: OwnedName,
     pub value: Text,
 }
 
-#[derive(Debug, Drop)]
+#[derive(Debug, Drop, PartialEq, Eq)]
 pub struct Namespace {
     pub default: Option<Text>,
 }
@@ -29,16 +29,6 @@ fn copy_part(alloc: Global, part: &Option<Text>) -> Result<Option<Text>, AllocEr
     match part {
         None => Ok(None),
         Some(text) => Ok(Some(text.copy(alloc)?)),
-    }
-}
-
-fn same_part(a: &Option<Text>, b: &Option<Text>) -> bool
-    ensures { result ≡ same_part a.now b.now }
-{
-    match (a, b) {
-        (None, None) => true,
-        (Some(a), Some(b)) => a.same(b),
-        _ => false,
     }
 }
 
@@ -62,15 +52,5 @@ impl OwnedName {
             namespace: copy_part(alloc, &self.namespace)?,
             prefix: copy_part(alloc, &self.prefix)?,
         })
-    }
-
-    /// All three parts are equal.
-    #[tactic(auto, unfolding(crate::specs::Name::same_name))]
-    pub fn same(&self, other: &OwnedName) -> bool
-        ensures { result ≡ same_name self.now other.now }
-    {
-        self.local_name.same(&other.local_name)
-            && same_part(&self.namespace, &other.namespace)
-            && same_part(&self.prefix, &other.prefix)
     }
 }
