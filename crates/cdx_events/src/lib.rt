@@ -2,8 +2,11 @@
 #![tactic(auto)]
 
 mod balance;
+mod copied;
 mod event;
+mod event_stream;
 mod events;
+mod faults;
 mod laws;
 mod list;
 mod memory;
@@ -15,11 +18,15 @@ mod text;
 mod writer;
 
 pub use balance::Balance;
+pub use copied::Copied;
 pub use event::{EventKind, XmlEvent};
+pub use event_stream::{EventSink, EventSource};
 pub use events::{Events, EventsError};
 pub use laws::one_root;
 pub use list::List;
-pub use memory::{MemorySink, MemorySource, SoundSource};
+pub use memory::{
+    MemoryEventSink, MemoryEventSource, MemorySink, MemorySource, NullSink, SoundSource,
+};
 pub use name::{Namespace, OwnedAttribute, OwnedName};
 pub use outside::{ReadSource, WriteSink};
 pub use reader::EventReader;

@@ -1,10 +1,12 @@
 ghost use Rattle.std.specs.Prelude.{◌≡◌, IfOk};
 ghost use Rattle.cdx_events.specs.Name.{local};
 
+use crate::copied::Copied;
 use crate::list::List;
 use crate::text::Text;
 use std::alloc::{AllocError, Global};
 
+/// A name. Two names are equal where all three parts are.
 #[derive(Debug, Drop, PartialEq, Eq)]
 pub struct OwnedName {
     pub local_name: Text,
@@ -12,12 +14,14 @@ pub struct OwnedName {
     pub prefix: Option<Text>,
 }
 
+/// An attribute of a start tag.
 #[derive(Debug, Drop, PartialEq, Eq)]
 pub struct OwnedAttribute {
     pub name: OwnedName,
     pub value: Text,
 }
 
+/// The default namespace in scope.
 #[derive(Debug, Drop, PartialEq, Eq)]
 pub struct Namespace {
     pub default: Option<Text>,
@@ -33,7 +37,7 @@ fn copy_part(alloc: Global, part: &Option<Text>) -> Result<Option<Text>, AllocEr
 }
 
 impl OwnedName {
-    /// A name without namespace and prefix.
+    /// A name without namespace and prefix. Only want of memory refuses.
     pub fn local(alloc: Global, name: &str) -> Result<OwnedName, AllocError>
         ensures { IfOk result (λ n. n ≡ local name.now) }
     {
@@ -44,6 +48,7 @@ impl OwnedName {
         })
     }
 
+    /// A copy, equal to its original. Only want of memory refuses.
     pub fn copy(&self, alloc: Global) -> Result<OwnedName, AllocError>
         ensures { IfOk result (λ n. n ≡ self.now) }
     {
@@ -51,6 +56,35 @@ impl OwnedName {
             local_name: self.local_name.copy(alloc)?,
             namespace: copy_part(alloc, &self.namespace)?,
             prefix: copy_part(alloc, &self.prefix)?,
+        })
+    }
+}
+
+impl OwnedAttribute {
+    /// A copy, equal to its original. Only want of memory refuses.
+    pub fn copy(&self, alloc: Global) -> Result<OwnedAttribute, AllocError>
+        ensures { IfOk result (λ a. a ≡ self.now) }
+    {
+        Ok(OwnedAttribute {
+            name: self.name.copy(alloc)?,
+            value: self.value.copy(alloc)?,
+        })
+    }
+}
+
+impl Copied for OwnedAttribute {
+    fn copied(&self, alloc: Global) -> Result<OwnedAttribute, AllocError> {
+        self.copy(alloc)
+    }
+}
+
+impl Namespace {
+    /// A copy, equal to its original. Only want of memory refuses.
+    pub fn copy(&self, alloc: Global) -> Result<Namespace, AllocError>
+        ensures { IfOk result (λ n. n ≡ self.now) }
+    {
+        Ok(Namespace {
+            default: copy_part(alloc, &self.default)?,
         })
     }
 }

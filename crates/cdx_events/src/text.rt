@@ -1,5 +1,6 @@
 ghost use Rattle.std.specs.Prelude.{◌≡◌, IfOk, bytes_eq, string_bytes};
 
+use crate::copied::Copied;
 use std::alloc::{AllocError, Global};
 use std::marker::Model;
 
@@ -52,6 +53,12 @@ impl Text {
         ensures { result ≡ bytes_eq self.now text.now }
     {
         self.as_str() == text
+    }
+}
+
+impl Copied for Text {
+    fn copied(&self, alloc: Global) -> Result<Text, AllocError> {
+        self.copy(alloc)
     }
 }
 
