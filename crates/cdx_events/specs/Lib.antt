@@ -9,3 +9,5 @@ pub mod Causes
 pub mod Memory
 pub mod Counts
 pub mod Told
+pub mod Gather
+pub mod Send
