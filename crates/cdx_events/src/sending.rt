@@ -4,6 +4,7 @@ ghost use Rattle.cdx_events.specs.Send.{Sends};
 use crate::event_stream::EventSink;
 use crate::events::Events;
 use crate::stream::Failed;
+use std::collections::VecDeque;
 
 /// A sink failed. The first `put` events went out.
 #[derive(Clone, Copy, Debug, PartialEq, Eq)]
@@ -16,9 +17,11 @@ pub struct SendError {
 pub fn send<K: EventSink>(events: Events, sink: &mut K) -> Result<(), SendError>
     ensures { Sends events (K.written sink.old) (K.written sink.new) (K.faults sink.old) (K.faults sink.new) result }
 {
-    for (put, event) in events.into_list().into_vec().into_iter().enumerate() {
+    let mut waiting = VecDeque::from(events.into_list().into_vec());
+    let mut put = 0;
+    while let Some(event) = waiting.pop_front() {
         match sink.put(event) {
-            Ok(()) => {}
+            Ok(()) => put += 1,
             Err(Failed) => return Err(SendError { put }),
         }
     }
