@@ -37,3 +37,6 @@ pub use sending::{SendError, send};
 pub use stream::{Failed, Sink, Source};
 pub use text::Text;
 pub use writer::EventWriter;
+
+#[cfg(test)]
+mod tests;

@@ -30,6 +30,13 @@ impl MemoryEventSink {
     {
         self.held.as_slice()
     }
+
+    /// How many calls there were, up to the last value of the type. It takes no memory.
+    pub fn calls(&self) -> u64
+        ensures { result ≡ self.now.counts.calls }
+    {
+        self.calls.made()
+    }
 }
 
 impl EventSink for MemoryEventSink {

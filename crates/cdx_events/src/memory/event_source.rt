@@ -21,6 +21,13 @@ impl MemoryEventSource {
             calls: Calls::new(fails),
         }
     }
+
+    /// How many calls there were, up to the last value of the type. It takes no memory.
+    pub fn calls(&self) -> u64
+        ensures { result ≡ self.now.counts.calls }
+    {
+        self.calls.made()
+    }
 }
 
 impl EventSource for MemoryEventSource {

@@ -18,6 +18,12 @@ impl Calls {
         }
     }
 
+    pub(super) fn made(&self) -> u64
+        ensures { result ≡ self.now.calls }
+    {
+        self.made
+    }
+
     // One more call, which fails where it is to.
     pub(super) fn begin(&mut self) -> Result<(), Failed>
         ensures told { is_ok result ≡ not (is_told self.old) }
