@@ -81,6 +81,12 @@ impl<T: Copied> List<T> {
     }
 }
 
+impl<T: Copied> Copied for List<T> {
+    fn copied(&self, alloc: Global) -> Result<List<T>, AllocError> {
+        self.copy(alloc)
+    }
+}
+
 impl<T: Drop> List<T> {
     /// Appends an item. Where there is no memory, the list is as before and the item is dropped.
     pub fn push(&mut self, item: T) -> Result<(), AllocError>

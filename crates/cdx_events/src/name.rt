@@ -60,6 +60,12 @@ impl OwnedName {
     }
 }
 
+impl Copied for OwnedName {
+    fn copied(&self, alloc: Global) -> Result<OwnedName, AllocError> {
+        self.copy(alloc)
+    }
+}
+
 impl OwnedAttribute {
     /// A copy, equal to its original. Only want of memory refuses.
     pub fn copy(&self, alloc: Global) -> Result<OwnedAttribute, AllocError>
@@ -86,5 +92,11 @@ impl Namespace {
         Ok(Namespace {
             default: copy_part(alloc, &self.default)?,
         })
+    }
+}
+
+impl Copied for Namespace {
+    fn copied(&self, alloc: Global) -> Result<Namespace, AllocError> {
+        self.copy(alloc)
     }
 }

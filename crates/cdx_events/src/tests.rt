@@ -45,20 +45,24 @@ fn attribute(alloc: Global, name: &str, value: &str) -> Result<OwnedAttribute, A
     })
 }
 
-/// A bill with one tool: 13 events.
-fn bill(alloc: Global) -> Result<List<XmlEvent>, AllocError> {
+fn root(alloc: Global) -> Result<XmlEvent, AllocError> {
     let mut attributes = List::new(alloc);
     attributes.push(attribute(alloc, "serialNumber", SERIAL)?)?;
     attributes.push(attribute(alloc, "version", "1")?)?;
-    let mut list = List::new(alloc);
-    list.push(XmlEvent::StartDocument)?;
-    list.push(XmlEvent::StartElement {
+    Ok(XmlEvent::StartElement {
         name: OwnedName::local(alloc, "bom")?,
         attributes,
         namespace: Namespace {
             default: Some(Text::new(alloc, NAMESPACE)?),
         },
-    })?;
+    })
+}
+
+/// A bill with one tool: 13 events.
+fn bill(alloc: Global) -> Result<List<XmlEvent>, AllocError> {
+    let mut list = List::new(alloc);
+    list.push(XmlEvent::StartDocument)?;
+    list.push(root(alloc)?)?;
     for word in [
         "<metadata",
         "<tools",
@@ -121,102 +125,122 @@ fn unbalanced_lists(rt: HostRuntime) -> Result<(), Fail> {
         (["^", "<a", "/a", "$"].as_slice(), None),
         (["^", "<a", "/a", "$", "$"].as_slice(), Some(4)),
     ] {
-        assert_eq!(rt; place(alloc, events(alloc, words)?), want);
-        assert_eq!(rt; place_written(alloc, events(alloc, words)?)?, want);
+        assert!(rt; place(alloc, events(alloc, words)?) == want);
+        assert!(rt; place_written(alloc, events(alloc, words)?)? == want);
     }
     Ok(())
 }
 
-fn gathered(
+/// What gathering this answers, and whether it gives the list.
+fn gathers(
     alloc: Global,
+    list: List<XmlEvent>,
     budget: usize,
     fails: &[u64],
-) -> Result<Result<Events, GatherError>, AllocError> {
-    let mut source = MemoryEventSource::new(bill(alloc)?, numbers(alloc, fails)?);
-    Ok(gather(alloc, &mut source, budget))
+) -> Result<Option<GatherError>, AllocError> {
+    let mut source = MemoryEventSource::new(list, numbers(alloc, fails)?);
+    match gather(alloc, &mut source, budget) {
+        Ok(_) => Ok(None),
+        Err(error) => Ok(Some(error)),
+    }
+}
+
+/// The first event is read, and none stands past the last.
+fn reads(events: &Events) -> bool {
+    let mut reader = EventReader::new(events);
+    let first = reader.next().map(XmlEvent::kind);
+    first == Some(EventKind::StartDocument)
+        && reader.place() == 1
+        && events.get(12).is_some()
+        && events.get(13).is_none()
+        && events.len() == 13
+}
+
+/// A bill is gathered whole, and its copy is equal to it.
+fn gathers_all(alloc: Global) -> Result<bool, AllocError> {
+    let mut source = MemoryEventSource::new(bill(alloc)?, List::new(alloc));
+    match gather(alloc, &mut source, 13) {
+        Ok(events) => {
+            let list = events.copy(alloc)?.into_list();
+            let all = reads(&events) && source.calls() == 13;
+            Ok(all && list == events.into_list())
+        }
+        Err(_) => Ok(false),
+    }
 }
 
 #[test]
-fn gathers(rt: HostRuntime) -> Result<(), Fail> {
+fn gathers_from_a_source(rt: HostRuntime) -> Result<(), Fail> {
     let alloc = rt.alloc();
     for (budget, fails, want) in [
-        (5, [].as_slice(), GatherError::Budget { taken: 5 }),
-        (12, [].as_slice(), GatherError::Budget { taken: 12 }),
-        (0, [1].as_slice(), GatherError::Budget { taken: 0 }),
-        (13, [2].as_slice(), GatherError::Fault { taken: 1 }),
+        (5, [].as_slice(), Some(GatherError::Budget { taken: 5 })),
+        (12, [].as_slice(), Some(GatherError::Budget { taken: 12 })),
+        (0, [1].as_slice(), Some(GatherError::Budget { taken: 0 })),
+        (13, [2].as_slice(), Some(GatherError::Fault { taken: 1 })),
+        (13, [14].as_slice(), None),
     ] {
-        match gathered(alloc, budget, fails)? {
-            Ok(_) => assert!(rt; false, "no refusal at {budget}"),
-            Err(error) => assert_eq!(rt; error, want),
-        }
+        assert!(rt; gathers(alloc, bill(alloc)?, budget, fails)? == want);
     }
-    match gathered(alloc, 13, &[])? {
-        Ok(events) => assert!(rt; events.into_list() == bill(alloc)?),
-        Err(_) => assert!(rt; false, "a bill is refused"),
-    }
-    let mut source = MemoryEventSource::new(events(alloc, &["^", "<a"])?, List::new(alloc));
-    match gather(alloc, &mut source, 9) {
-        Ok(_) => assert!(rt; false, "no refusal"),
-        Err(error) => assert_eq!(rt; error, GatherError::Unbalanced { place: 2 }),
-    }
-    assert_eq!(rt; source.calls(), 3);
+    let early = gathers(alloc, events(alloc, &["^", "<a"])?, 9, &[])?;
+    assert!(rt; early == Some(GatherError::Unbalanced { place: 2 }));
+    assert!(rt; gathers_all(alloc)?);
     Ok(())
 }
 
+/// What sending a bill answers, and how many of its first events stand in the sink.
+fn sends(
+    alloc: Global,
+    room: usize,
+    fails: &[u64],
+) -> Result<(Result<(), SendError>, Option<usize>), AllocError> {
+    let list = bill(alloc)?;
+    let mut sink = MemoryEventSink::new(alloc, room, numbers(alloc, fails)?)?;
+    let answer = match Events::from_list(alloc, bill(alloc)?) {
+        Ok(events) => send(events, &mut sink),
+        Err(_) => Err(SendError { put: 99 }),
+    };
+    let held = sink.events();
+    if list.as_slice().get(..held.len()) == Some(held) {
+        Ok((answer, Some(held.len())))
+    } else {
+        Ok((answer, None))
+    }
+}
+
 #[test]
-fn sends(rt: HostRuntime) -> Result<(), Fail> {
+fn sends_into_a_sink(rt: HostRuntime) -> Result<(), Fail> {
     let alloc = rt.alloc();
-    for (room, fails, want) in [
-        (13, [4].as_slice(), Err(SendError { put: 3 })),
-        (13, [].as_slice(), Ok(())),
-        (2, [].as_slice(), Err(SendError { put: 2 })),
+    for (room, fails, answer, held) in [
+        (13, [4].as_slice(), Err(SendError { put: 3 }), 3),
+        (13, [].as_slice(), Ok(()), 13),
+        (2, [].as_slice(), Err(SendError { put: 2 }), 2),
     ] {
-        let Ok(events) = Events::from_list(alloc, bill(alloc)?) else {
-            return Ok(assert!(rt; false, "a bill is refused"));
-        };
-        let mut sink = MemoryEventSink::new(alloc, room, numbers(alloc, fails)?)?;
-        assert_eq!(rt; send(events, &mut sink), want);
-        let put = match want {
-            Ok(()) => 13,
-            Err(error) => error.put,
-        };
-        let list = bill(alloc)?;
-        assert!(rt; Some(sink.events()) == list.as_slice().get(..put));
+        assert!(rt; sends(alloc, room, fails)? == (answer, Some(held)));
     }
     Ok(())
 }
 
-#[test]
-fn copies(rt: HostRuntime) -> Result<(), Fail> {
-    let alloc = rt.alloc();
-    let name = OwnedName {
+/// Whether the copy is equal to its original.
+fn copies<T: Copied + PartialEq>(alloc: Global, original: T) -> Result<bool, AllocError> {
+    let copy = original.copied(alloc)?;
+    Ok(copy == original)
+}
+
+fn full_name(alloc: Global, prefix: &str) -> Result<OwnedName, AllocError> {
+    Ok(OwnedName {
         local_name: Text::new(alloc, "a")?,
         namespace: Some(Text::new(alloc, NAMESPACE)?),
-        prefix: Some(Text::new(alloc, "p")?),
-    };
-    assert!(rt; name.copy(alloc)? == name);
-    assert!(rt; OwnedName::local(alloc, "a")? != name);
-    assert!(rt; name.local_name.copy(alloc)? == name.local_name);
-    assert!(rt; name.local_name.is("a") && name.local_name.as_str() == "a");
-    let attribute = attribute(alloc, "x", "1")?;
-    assert!(rt; attribute.copy(alloc)? == attribute);
-    let namespace = Namespace {
-        default: Some(Text::new(alloc, NAMESPACE)?),
-    };
-    assert!(rt; namespace.copy(alloc)? == namespace);
-    let cdata = XmlEvent::CData(Text::new(alloc, "x")?);
-    assert!(rt; cdata.copy(alloc)? == cdata && cdata.kind() == EventKind::CData);
-    let list = bill(alloc)?;
-    assert!(rt; list.copy(alloc)? == list);
-    let Ok(events) = Events::from_list(alloc, list) else {
-        return Ok(assert!(rt; false, "a bill is refused"));
-    };
-    assert_eq!(rt; events.len(), 13);
-    assert!(rt; events.get(0) == Some(&XmlEvent::StartDocument) && events.get(13) == None);
-    let mut reader = EventReader::new(&events);
-    assert!(rt; reader.next() == Some(&XmlEvent::StartDocument));
-    assert_eq!(rt; reader.place(), 1);
-    assert!(rt; events.copy(alloc)?.into_list() == bill(alloc)?);
+        prefix: Some(Text::new(alloc, prefix)?),
+    })
+}
+
+#[test]
+fn copies_are_equal(rt: HostRuntime) -> Result<(), Fail> {
+    let alloc = rt.alloc();
+    assert!(rt; copies(alloc, Text::new(alloc, "text")?)?);
+    assert!(rt; copies(alloc, full_name(alloc, "p")?)?);
+    assert!(rt; copies(alloc, attribute(alloc, "x", "1")?)?);
+    assert!(rt; copies(alloc, root(alloc)?)?);
     Ok(())
 }
 
@@ -237,16 +261,16 @@ fn nested(alloc: Global, depth: usize) -> Result<List<XmlEvent>, AllocError> {
 #[test]
 fn depth_does_not_matter(rt: HostRuntime) -> Result<(), Fail> {
     let alloc = rt.alloc();
-    let list = nested(alloc, 100_000)?;
-    assert_eq!(rt; list.len(), 200_002);
-    assert_eq!(rt; place(alloc, list), None);
-    let mut source = MemoryEventSource::new(nested(alloc, 100_000)?, List::new(alloc));
-    match gather(alloc, &mut source, 200_002) {
-        Ok(events) => assert_eq!(rt; events.len(), 200_002),
-        Err(error) => assert_eq!(rt; error, GatherError::Budget { taken: 0 }),
-    }
-    let mut balance = Balance::new(alloc);
-    assert!(rt; balance.step(&XmlEvent::StartDocument)? && !balance.whole());
+    assert!(rt; place(alloc, nested(alloc, 100_000)?).is_none());
+    assert!(rt; gathers(alloc, nested(alloc, 100_000)?, 200_002, &[])?.is_none());
+    Ok(())
+}
+
+#[test]
+fn balance_hears(rt: HostRuntime) -> Result<(), Fail> {
+    let mut balance = Balance::new(rt.alloc());
+    assert!(rt; balance.step(&XmlEvent::StartDocument)?);
+    assert!(rt; !balance.whole());
     Ok(())
 }
 
@@ -286,50 +310,86 @@ impl Write for Faulty {
     }
 }
 
+fn takes<S: Source>(source: &mut S) -> Result<usize, Failed> {
+    let mut buf = [0u8; 2];
+    source.take(&mut buf)
+}
+
 #[test]
-fn adapters_count(rt: HostRuntime) -> Result<(), Fail> {
-    let mut buf = [0u8; 4];
+fn reader_is_counted(rt: HostRuntime) {
     let mut source = ReadSource::new(Faulty { calls: 0 });
     for (want, count) in [(Ok(1), 0), (Err(Failed), 1), (Ok(0), 1)] {
-        assert_eq!(rt; source.take(&mut buf), want);
-        assert_eq!(rt; source.count(), count);
+        assert!(rt; takes(&mut source) == want && source.count() == count);
     }
+}
+
+#[test]
+fn writer_is_counted(rt: HostRuntime) {
     let mut sink = WriteSink::new(Faulty { calls: 0 });
     for (want, count) in [(Ok(1), 0), (Err(Failed), 1), (Err(Failed), 2)] {
-        assert_eq!(rt; sink.put(b"ab"), want);
-        assert_eq!(rt; sink.count(), count);
+        assert!(rt; sink.put(b"ab") == want && sink.count() == count);
     }
-    assert_eq!(rt; sink.flush(), Err(Failed));
-    assert_eq!(rt; sink.count(), 3);
+    assert!(rt; sink.flush() == Err(Failed) && sink.count() == 3);
+}
+
+fn bytes(alloc: Global) -> Result<List<u8>, AllocError> {
+    Ok(List::from_vec(b"abc".to_vec(alloc)?))
+}
+
+#[test]
+fn takes_from_memory(rt: HostRuntime) -> Result<(), Fail> {
+    let mut sound = SoundSource::new(bytes(rt.alloc())?);
+    for want in [2, 1, 0] {
+        assert!(rt; takes(&mut sound) == Ok(want));
+    }
     Ok(())
 }
 
 #[test]
-fn bytes_in_memory(rt: HostRuntime) -> Result<(), Fail> {
-    let alloc = rt.alloc();
-    let mut buf = [0u8; 2];
-    let mut sound = SoundSource::new(List::from_vec(b"abc".to_vec(alloc)?));
-    for want in [2, 1, 0] {
-        assert_eq!(rt; sound.take(&mut buf), Ok(want));
+fn takes_step_by_step(rt: HostRuntime) -> Result<(), Fail> {
+    let fails = numbers(rt.alloc(), &[2])?;
+    let mut source = MemorySource::new(bytes(rt.alloc())?, 1, fails);
+    for (want, calls) in [
+        (Ok(1), 1),
+        (Err(Failed), 2),
+        (Ok(1), 3),
+        (Ok(1), 4),
+        (Ok(0), 5),
+    ] {
+        assert!(rt; takes(&mut source) == want && source.calls() == calls);
     }
-    let bytes = List::from_vec(b"abc".to_vec(alloc)?);
-    let mut source = MemorySource::new(bytes, 1, numbers(alloc, &[2])?);
-    for want in [Ok(1), Err(Failed), Ok(1), Ok(1), Ok(0)] {
-        assert_eq!(rt; source.take(&mut buf), want);
-    }
-    assert_eq!(rt; source.calls(), 5);
-    let mut sink = MemorySink::new(alloc, 3, 2, numbers(alloc, &[3])?)?;
-    assert_eq!(rt; sink.put(b"abc"), Ok(2));
-    assert_eq!(rt; sink.put(b"cde"), Ok(1));
-    assert_eq!(rt; sink.flush(), Err(Failed));
-    assert_eq!(rt; sink.flushed(), 0);
-    assert_eq!(rt; sink.flush(), Ok(()));
-    assert_eq!(rt; sink.put(b"d"), Err(Failed));
-    assert_eq!(rt; sink.written(), b"abc".as_slice());
-    assert_eq!(rt; sink.flushed(), 3);
-    assert_eq!(rt; sink.calls(), 5);
-    let mut null = NullSink::new();
-    assert_eq!(rt; null.put(b"abc"), Ok(3));
-    assert_eq!(rt; null.flush(), Ok(()));
     Ok(())
+}
+
+fn flushes<K: Sink>(sink: &mut K) -> Result<usize, Failed> {
+    sink.flush()?;
+    Ok(0)
+}
+
+#[test]
+fn puts_into_memory(rt: HostRuntime) -> Result<(), Fail> {
+    let fails = numbers(rt.alloc(), &[3])?;
+    let mut sink = MemorySink::new(rt.alloc(), 3, 2, fails)?;
+    for (piece, want, flushed) in [
+        (b"abc".as_slice(), Ok(2), 0),
+        (b"cde".as_slice(), Ok(1), 0),
+        (b"".as_slice(), Err(Failed), 0),
+        (b"".as_slice(), Ok(0), 3),
+        (b"d".as_slice(), Err(Failed), 3),
+    ] {
+        let answer = if piece.is_empty() {
+            flushes(&mut sink)
+        } else {
+            sink.put(piece)
+        };
+        assert!(rt; answer == want && sink.flushed() == flushed);
+    }
+    assert!(rt; sink.written() == b"abc".as_slice() && sink.calls() == 5);
+    Ok(())
+}
+
+#[test]
+fn null_takes_all(rt: HostRuntime) {
+    let mut null = NullSink::new();
+    assert!(rt; null.put(b"abc") == Ok(3) && null.flush() == Ok(()));
 }
