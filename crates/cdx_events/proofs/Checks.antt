@@ -1,4 +1,4 @@
--- A stack of stack names takes the events of nodes and no others.
+-- A stack of open names takes the events of nodes and no others.
 use Rattle.std.proofs.Common.{◌≡◌, List, [], ◌∷◌, ◌++◌, refl, sym, subst, append_assoc}
 use Rattle.cdx_events.specs.declared.name.OwnedName.{OwnedName}
 use Rattle.cdx_events.specs.declared.event.XmlEvent.{XmlEvent}
@@ -54,7 +54,7 @@ pub balanced_checks : (es : List XmlEvent) → IsBalanced es → checks_all es
 balanced_checks es b =
     subst checks_all (sym b.whole) (subst (λ es. checks (b.name ∷ []) es) (sym (append_assoc (events_of_all b.nodes) (EndElement b.name ∷ []) (EndDocument ∷ []))) (onto_all b.nodes b.name [] (EndElement b.name ∷ EndDocument ∷ []) (refl, refl)))
 
--- inside the root, what follows is checked against the stack names
+-- inside the root, what follows is checked against the open names
 pub inside_checks : (f : Frame) (fs : List Frame) (rest : List XmlEvent) → checks_all (StartDocument ∷ opened (f ∷ fs) ++ rest) → checks (names (f ∷ fs)) rest
 inside_checks f [] rest h = past_all f.before f.name [] rest h
 inside_checks f (g ∷ fs) rest h =

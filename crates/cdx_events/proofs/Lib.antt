@@ -5,3 +5,5 @@ pub mod Stack
 pub mod Broken
 pub mod RootLaws
 pub mod Taking
+pub mod Taken
+pub mod Put

@@ -7,3 +7,7 @@ pub mod Events
 pub mod Root
 pub mod Causes
 pub mod Memory
+pub mod Counts
+pub mod Told
+pub mod Gather
+pub mod Send

@@ -1,11 +1,14 @@
-ghost use Rattle.std.specs.Prelude.{◌≡◌};
+ghost use Rattle.std.specs.Prelude.{◌≡◌, IfOk};
 ghost use Rattle.cdx_events.specs.Event.{kind_of};
 
+use crate::copied::Copied;
 use crate::list::List;
 use crate::name::{Namespace, OwnedAttribute, OwnedName};
 use crate::text::Text;
+use std::alloc::{AllocError, Global};
 
-#[derive(Debug, Drop)]
+/// An event of an XML document.
+#[derive(Debug, Drop, PartialEq, Eq)]
 pub enum XmlEvent {
     StartDocument,
     EndDocument,
@@ -21,6 +24,7 @@ pub enum XmlEvent {
     CData(Text),
 }
 
+/// What an event is, without its name or its text.
 #[derive(Clone, Copy, Debug, PartialEq, Eq)]
 pub enum EventKind {
     StartDocument,
@@ -32,6 +36,7 @@ pub enum EventKind {
 }
 
 impl XmlEvent {
+    /// What the event is.
     pub fn kind(&self) -> EventKind
         ensures { result ≡ kind_of self.now }
     {
@@ -43,5 +48,35 @@ impl XmlEvent {
             XmlEvent::Characters(_) => EventKind::Characters,
             XmlEvent::CData(_) => EventKind::CData,
         }
+    }
+
+    /// A copy, equal to its original. Only want of memory refuses.
+    pub fn copy(&self, alloc: Global) -> Result<XmlEvent, AllocError>
+        ensures { IfOk result (λ e. e ≡ self.now) }
+    {
+        match self {
+            XmlEvent::StartDocument => Ok(XmlEvent::StartDocument),
+            XmlEvent::EndDocument => Ok(XmlEvent::EndDocument),
+            XmlEvent::StartElement {
+                name,
+                attributes,
+                namespace,
+            } => Ok(XmlEvent::StartElement {
+                name: name.copy(alloc)?,
+                attributes: attributes.copy(alloc)?,
+                namespace: namespace.copy(alloc)?,
+            }),
+            XmlEvent::EndElement { name } => Ok(XmlEvent::EndElement {
+                name: name.copy(alloc)?,
+            }),
+            XmlEvent::Characters(text) => Ok(XmlEvent::Characters(text.copy(alloc)?)),
+            XmlEvent::CData(text) => Ok(XmlEvent::CData(text.copy(alloc)?)),
+        }
+    }
+}
+
+impl Copied for XmlEvent {
+    fn copied(&self, alloc: Global) -> Result<XmlEvent, AllocError> {
+        self.copy(alloc)
     }
 }

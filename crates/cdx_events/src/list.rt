@@ -1,5 +1,6 @@
-ghost use Rattle.std.specs.Prelude.{◌≡◌, [], ◌∷◌, ◌++◌, IfOk, OnOk, OnErr, length, ◌<◌, ◌^◌, slice_get, option_copied};
+ghost use Rattle.std.specs.Prelude.{◌≡◌, [], ◌∷◌, ◌++◌, IfOk, OnOk, OnErr, length, ◌<◌, ◌^◌, slice_get, option_copied, is_some, nat_lt};
 
+use crate::copied::Copied;
 use std::alloc::{AllocError, Global};
 use std::marker::Model;
 
@@ -18,6 +19,7 @@ impl<T> Model for List<T> {
 }
 
 impl<T> List<T> {
+    /// The empty list. It takes no memory.
     pub fn new(alloc: Global) -> List<T>
         ensures { result ≡ [] }
     {
@@ -26,25 +28,29 @@ impl<T> List<T> {
         }
     }
 
-    /// The list of a vector's items.
+    /// The list of a vector's items. It takes no memory.
     pub fn from_vec(items: Vec<T>) -> List<T>
         ensures { result ≡ items.items }
     {
         List { items }
     }
 
+    /// How many items there are. It takes no memory.
     pub fn len(&self) -> usize
         ensures { result ≡ length self.now }
     {
         self.items.len()
     }
 
+    /// The item at a place, counted from 0, or `None` exactly from the length on. It takes no memory.
     pub fn get(&self, at: usize) -> Option<&T>
-        ensures { option_copied result ≡ slice_get self.now at }
+        ensures item { option_copied result ≡ slice_get self.now at }
+        ensures there { is_some result ≡ nat_lt at (length self.now) }
     {
         self.items.get(at)
     }
 
+    /// The items. It takes no memory.
     pub fn as_slice(&self) -> &[T]
         ensures { result.now ≡ self.now }
     {
@@ -52,7 +58,37 @@ impl<T> List<T> {
     }
 }
 
+impl<T> List<T> {
+    /// The vector of its items. It takes no memory.
+    pub fn into_vec(self) -> Vec<T>
+        ensures { result.items ≡ self }
+    {
+        self.items
+    }
+}
+
+impl<T: Copied> List<T> {
+    /// A copy, equal to its original. Only want of memory refuses.
+    pub fn copy(&self, alloc: Global) -> Result<List<T>, AllocError>
+        ensures { IfOk result (λ l. l ≡ self.now) }
+    {
+        let originals = self.as_slice();
+        let mut items = Vec::with_capacity(alloc, originals.len())?;
+        for item in originals {
+            items.push(item.copied(alloc)?)?;
+        }
+        Ok(List { items })
+    }
+}
+
+impl<T: Copied> Copied for List<T> {
+    fn copied(&self, alloc: Global) -> Result<List<T>, AllocError> {
+        self.copy(alloc)
+    }
+}
+
 impl<T: Drop> List<T> {
+    /// Appends an item. Where there is no memory, the list is as before and the item is dropped.
     pub fn push(&mut self, item: T) -> Result<(), AllocError>
         ensures ok { OnOk result (self.new ≡ self.old ++ item ∷ []) }
         ensures err { OnErr result (self.new ≡ self.old) }
@@ -60,4 +96,23 @@ impl<T: Drop> List<T> {
         self.items.push(item)?;
         Ok(())
     }
+}
+
+/// Two lists are equal where they are as long as each other and their items are equal one by one.
+impl<T: PartialEq> PartialEq for List<T> {
+    ghost use Rattle.std.specs.Cmp.Lexicographic.{pointwise, lists_per};
+
+    ghost eq = { pointwise T.eq };
+
+    ghost laws = { lists_per T.laws };
+
+    fn eq(&self, other: &List<T>) -> bool {
+        self.items.as_slice() == other.items.as_slice()
+    }
+}
+
+impl<T: Eq> Eq for List<T> {
+    ghost use Rattle.std.specs.Cmp.Lexicographic.{lists_equiv};
+
+    ghost laws = { lists_equiv T.Eq.laws };
 }

@@ -1,24 +1,28 @@
 ghost use Rattle.std.specs.Prelude.{◌≡◌, IfOk};
-ghost use Rattle.cdx_events.specs.Name.{local, same_part, same_name};
+ghost use Rattle.cdx_events.specs.Name.{local};
 
+use crate::copied::Copied;
 use crate::list::List;
 use crate::text::Text;
 use std::alloc::{AllocError, Global};
 
-#[derive(Debug, Drop)]
+/// A name. Two names are equal where all three parts are.
+#[derive(Debug, Drop, PartialEq, Eq)]
 pub struct OwnedName {
     pub local_name: Text,
     pub namespace: Option<Text>,
     pub prefix: Option<Text>,
 }
 
-#[derive(Debug, Drop)]
+/// An attribute of a start tag.
+#[derive(Debug, Drop, PartialEq, Eq)]
 pub struct OwnedAttribute {
     pub name: OwnedName,
     pub value: Text,
 }
 
-#[derive(Debug, Drop)]
+/// The default namespace in scope.
+#[derive(Debug, Drop, PartialEq, Eq)]
 pub struct Namespace {
     pub default: Option<Text>,
 }
@@ -32,18 +36,8 @@ fn copy_part(alloc: Global, part: &Option<Text>) -> Result<Option<Text>, AllocEr
     }
 }
 
-fn same_part(a: &Option<Text>, b: &Option<Text>) -> bool
-    ensures { result ≡ same_part a.now b.now }
-{
-    match (a, b) {
-        (None, None) => true,
-        (Some(a), Some(b)) => a.same(b),
-        _ => false,
-    }
-}
-
 impl OwnedName {
-    /// A name without namespace and prefix.
+    /// A name without namespace and prefix. Only want of memory refuses.
     pub fn local(alloc: Global, name: &str) -> Result<OwnedName, AllocError>
         ensures { IfOk result (λ n. n ≡ local name.now) }
     {
@@ -54,6 +48,7 @@ impl OwnedName {
         })
     }
 
+    /// A copy, equal to its original. Only want of memory refuses.
     pub fn copy(&self, alloc: Global) -> Result<OwnedName, AllocError>
         ensures { IfOk result (λ n. n ≡ self.now) }
     {
@@ -63,14 +58,45 @@ impl OwnedName {
             prefix: copy_part(alloc, &self.prefix)?,
         })
     }
+}
 
-    /// All three parts are equal.
-    #[tactic(auto, unfolding(crate::specs::Name::same_name))]
-    pub fn same(&self, other: &OwnedName) -> bool
-        ensures { result ≡ same_name self.now other.now }
+impl Copied for OwnedName {
+    fn copied(&self, alloc: Global) -> Result<OwnedName, AllocError> {
+        self.copy(alloc)
+    }
+}
+
+impl OwnedAttribute {
+    /// A copy, equal to its original. Only want of memory refuses.
+    pub fn copy(&self, alloc: Global) -> Result<OwnedAttribute, AllocError>
+        ensures { IfOk result (λ a. a ≡ self.now) }
     {
-        self.local_name.same(&other.local_name)
-            && same_part(&self.namespace, &other.namespace)
-            && same_part(&self.prefix, &other.prefix)
+        Ok(OwnedAttribute {
+            name: self.name.copy(alloc)?,
+            value: self.value.copy(alloc)?,
+        })
+    }
+}
+
+impl Copied for OwnedAttribute {
+    fn copied(&self, alloc: Global) -> Result<OwnedAttribute, AllocError> {
+        self.copy(alloc)
+    }
+}
+
+impl Namespace {
+    /// A copy, equal to its original. Only want of memory refuses.
+    pub fn copy(&self, alloc: Global) -> Result<Namespace, AllocError>
+        ensures { IfOk result (λ n. n ≡ self.now) }
+    {
+        Ok(Namespace {
+            default: copy_part(alloc, &self.default)?,
+        })
+    }
+}
+
+impl Copied for Namespace {
+    fn copied(&self, alloc: Global) -> Result<Namespace, AllocError> {
+        self.copy(alloc)
     }
 }

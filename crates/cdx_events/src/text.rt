@@ -1,5 +1,6 @@
 ghost use Rattle.std.specs.Prelude.{◌≡◌, IfOk, bytes_eq, string_bytes};
 
+use crate::copied::Copied;
 use std::alloc::{AllocError, Global};
 use std::marker::Model;
 
@@ -18,6 +19,7 @@ impl Model for Text {
 }
 
 impl Text {
+    /// This text. Only want of memory refuses.
     pub fn new(alloc: Global, text: &str) -> Result<Text, AllocError>
         ensures { IfOk result (λ t. t ≡ text.now) }
     {
@@ -32,12 +34,14 @@ impl Text {
         Text { string }
     }
 
+    /// The text, which takes no memory.
     pub fn as_str(&self) -> &str
         ensures { result.now ≡ self.now }
     {
         self.string.as_str()
     }
 
+    /// A copy, equal to its original. Only want of memory refuses.
     pub fn copy(&self, alloc: Global) -> Result<Text, AllocError>
         ensures { IfOk result (λ t. t ≡ self.now) }
     {
@@ -50,10 +54,32 @@ impl Text {
     {
         self.as_str() == text
     }
+}
 
-    pub fn same(&self, other: &Text) -> bool
-        ensures { result ≡ bytes_eq self.now other.now }
-    {
+impl Copied for Text {
+    fn copied(&self, alloc: Global) -> Result<Text, AllocError> {
+        self.copy(alloc)
+    }
+}
+
+/// Two texts are equal where their bytes are.
+impl PartialEq for Text {
+    ghost use Rattle.std.specs.Prelude.{bytes_eq};
+    ghost use Rattle.std.specs.Cmp.Rules.{comparing};
+    ghost use Rattle.std.proofs.Common.{rules};
+
+    ghost eq = { bytes_eq };
+
+    ghost laws = { Prim.search (comparing, rules) };
+
+    fn eq(&self, other: &Text) -> bool {
         self.as_str() == other.as_str()
     }
+}
+
+impl Eq for Text {
+    ghost use Rattle.std.specs.Cmp.Rules.{comparing};
+    ghost use Rattle.std.proofs.Common.{rules};
+
+    ghost laws = { Prim.search (comparing, rules) };
 }
