@@ -19,3 +19,7 @@ pub mod Texts
 pub mod Laws
 pub mod Locality
 pub mod Dropped
+pub mod EventValues
+pub mod Requests
+pub mod Replies
+pub mod Served

@@ -1,3 +1,7 @@
 //! The schema of bills: the table of records, the readings and spellings in JSON and XML, what a version keeps and
 //! what a trip through XML takes, roads of rewritings, and their laws.
 #![tactic(auto)]
+
+mod replies;
+
+pub use replies::{no_floats, reply_law, road_law, valid_law};

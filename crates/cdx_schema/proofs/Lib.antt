@@ -1,0 +1,6 @@
+mod OnlyMembers
+mod PlainBills
+mod PlainRoads
+mod NoFloats
+mod AnswerFloats
+mod RepliesOwed
