@@ -1,6 +1,6 @@
 mod OnlyMembers
-mod PlainBills
-mod PlainRoads
+pub mod PlainBills
+pub mod PlainRoads
 mod NoFloats
 mod AnswerFloats
 mod RepliesOwed
