@@ -1,3 +1,4 @@
 pub mod Versions
 pub mod Trees
 pub mod Entries
+pub mod Path

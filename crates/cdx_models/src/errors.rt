@@ -1,8 +1,10 @@
 //! What can go wrong with a bill: its faults, each with its place or path, and what a write may meet.
 
+ghost use Rattle.std.specs.Prelude.{◌≡◌, IfOk};
+
 use crate::bom::SpecVersion;
-use cdx_events::{EventKind, List, Text};
-use std::alloc::AllocError;
+use cdx_events::{EventKind, List, OwnedName, Text};
+use std::alloc::{AllocError, Global};
 
 /// What a bill lacks that a version asks for.
 #[derive(Clone, Copy, Debug, PartialEq, Eq)]
@@ -187,5 +189,23 @@ impl From<AllocError> for XmlWriteError {
 
     fn from(error: AllocError) -> XmlWriteError {
         XmlWriteError::Memory(error)
+    }
+}
+
+impl XmlReadError {
+    /// The fault of an element that lacks a required attribute or child, with the element's local name.
+    pub fn required_data_missing(
+        alloc: Global,
+        place: usize,
+        required_field: &str,
+        element: &OwnedName,
+    ) -> Result<XmlReadError, AllocError>
+        ensures { IfOk result (λ e. e ≡ XmlReadError.RequiredDataMissing place element.now.local_name required_field.now) }
+    {
+        Ok(XmlReadError::RequiredDataMissing {
+            place,
+            element: element.local_name.copy(alloc)?,
+            required_field: Text::new(alloc, required_field)?,
+        })
     }
 }

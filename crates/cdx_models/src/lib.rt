@@ -3,9 +3,13 @@
 
 pub mod bom;
 pub mod errors;
+mod path;
 
 pub use bom::{SpecVersion, UrnUuid};
 pub use errors::{
     BomError, JsonKind, JsonReadError, JsonWriteError, Lack, Path, ReadKind, Step, XmlReadError,
     XmlWriteError,
 };
+
+#[cfg(test)]
+mod tests;

@@ -13,7 +13,7 @@ use Rattle.cdx_events.specs.declared.event.XmlEvent.TheVariants.{Characters, CDa
 use Rattle.cdx_events.specs.Nodes.{Node, characters, cdata, element, Nodes, no_nodes, node, document}
 use Rattle.cdx_schema.specs.Nodes.{places}
 use Rattle.cdx_schema.specs.Depth.{top}
-use Rattle.cdx_schema.specs.Membership.{IsOf}
+use Rattle.cdx_schema.specs.Membership.{HasShape}
 use Rattle.cdx_schema.specs.Keeping.{keep, fits, is_shallow}
 use Rattle.cdx_schema.specs.XmlSpelling.{root}
 use Rattle.cdx_schema.specs.XmlReading.{xml_denotes, Plan, Child, find_child, plan_of_list, record_plan, tools_plan, data_plan, signature_plan, no_plan, Content, no_content, any_text, one_text_alone, content_from}
@@ -124,7 +124,7 @@ unfoldable mutual
 -- The spelling of what a version keeps, without its empty texts, denotes the same where no attached text, license id or license name is empty.
 -- Otherwise its first fault is at the end of the first of these that is empty.
 abbrev pub DropsTexts : Type 0
-DropsTexts = (b : Tree) (w : SpecVersion) → IsOf b a_bill → is_shallow b top ≡ true → fits w b a_bill ≡ true
+DropsTexts = (b : Tree) (w : SpecVersion) → HasShape b a_bill → is_shallow b top ≡ true → fits w b a_bill ≡ true
     → (document (lean (root (keep w b a_bill) w)) ≡ without_empty (document (root (keep w b a_bill) w)))
     × (has_empty (keep w b a_bill) ≡ false → xml_denotes (lean (root (keep w b a_bill) w)) w ≡ xml_denotes (root (keep w b a_bill) w) w)
     × (has_empty (keep w b a_bill) ≡ true → (f : XmlReadError) × (hole (lean (root (keep w b a_bill) w)) w 1 a_bill ≡ Some f) × (xml_denotes (lean (root (keep w b a_bill) w)) w ≡ Err f))

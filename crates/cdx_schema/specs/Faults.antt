@@ -1,7 +1,6 @@
 -- What is wrong with a document, and where: the declared errors.
 use Rattle.std.specs.Prelude.{ℕ, List, [], ◌∷◌, Result, Ok, Err, Option}
 use Rattle.cdx_events.specs.declared.event.EventKind.{EventKind}
-use Rattle.cdx_events.specs.declared.event.EventKind.TheVariants as kinds
 use Rattle.cdx_models.specs.declared.errors.XmlReadError.{XmlReadError}
 use Rattle.cdx_models.specs.declared.errors.XmlReadError.TheVariants.{UnexpectedElementReadError, RequiredDataMissing, InvalidParseError, InvalidNamespaceError, TooDeep}
 use Rattle.cdx_models.specs.declared.errors.Step.{Step}

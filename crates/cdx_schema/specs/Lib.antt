@@ -18,6 +18,7 @@ pub mod Roads
 pub mod Texts
 pub mod Laws
 pub mod Locality
+pub mod RowLaws
 pub mod Dropped
 pub mod EventValues
 pub mod Requests

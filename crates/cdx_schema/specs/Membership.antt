@@ -1,4 +1,4 @@
--- Which trees are of a kind, and which of them a version can hold.
+-- Which trees are of a kind.
 use Rattle.std.specs.Prelude.{◌≡◌, ℕ, ◌<◌, ◌^◌, List, [], ◌∷◌, Bool, true, false, ◌⊎◌}
 use Rattle.std.specs.Str.{IsUtf8}
 use Rattle.cdx_models.specs.Versions.{is_label}
@@ -11,11 +11,12 @@ use Rattle.cdx_schema.specs.Table.{rows}
 abbrev pub Never : Type 0
 Never = true ≡ false
 
-abbrev pub IsTextOf : Kind → List ℕ → Type 0
-IsTextOf a_text s = IsUtf8 s
-IsTextOf a_reference s = IsUtf8 s
-IsTextOf a_version s = is_label s ≡ true
-IsTextOf _ s = Never
+-- Q is what is asked of a text.
+abbrev pub IsTextOf : (List ℕ → Type 0) → Kind → List ℕ → Type 0
+IsTextOf Q a_text s = Q s
+IsTextOf Q a_reference s = Q s
+IsTextOf Q a_version s = is_label s ≡ true
+IsTextOf Q _ s = Never
 
 abbrev pub IsNumberOf : Kind → ℕ → Type 0
 IsNumberOf a_number n = n < 2 ^ 32
@@ -48,22 +49,41 @@ may_lack required = false
 may_lack required_first = true
 may_lack else_empty = false
 
+-- A tree of a kind, each text of which is as Q asks.
 abbrev mutual
-  pub IsOf : Tree → Kind → Type 0
-  IsOf absent k = Never
-  IsOf (text s) k = IsTextOf k s
-  IsOf (number n) k = IsNumberOf k n
-  IsOf (boolean b) k = IsBooleanOf k
-  IsOf (items ts) k = IsListOf k × AreOf ts (held_kind k)
-  IsOf (fields n ts) k = IsRecordOf k n ts × AreFields ts (rows n)
+  pub IsOfAll : (List ℕ → Type 0) → Tree → Kind → Type 0
+  IsOfAll Q absent k = Never
+  IsOfAll Q (text s) k = IsTextOf Q k s
+  IsOfAll Q (number n) k = IsNumberOf k n
+  IsOfAll Q (boolean b) k = IsBooleanOf k
+  IsOfAll Q (items ts) k = IsListOf k × AreOfAll Q ts (held_kind k)
+  IsOfAll Q (fields n ts) k = IsRecordOf k n ts × AreFieldsAll Q ts (rows n)
 
-  pub AreOf : Trees → Kind → Type 0
-  AreOf none k = Unit {0}
-  AreOf (more t ts) k = IsOf t k × AreOf ts k
+  pub AreOfAll : (List ℕ → Type 0) → Trees → Kind → Type 0
+  AreOfAll Q none k = Unit {0}
+  AreOfAll Q (more t ts) k = IsOfAll Q t k × AreOfAll Q ts k
 
   -- A field for each row: of the row's kind, or absent.
-  pub AreFields : Trees → List Row → Type 0
-  AreFields none [] = Unit {0}
-  AreFields none (r ∷ rs) = Never
-  AreFields (more t ts) [] = Never
-  AreFields (more t ts) (r ∷ rs) = (((t ≡ absent) × (may_lack r.need ≡ true)) ⊎ IsOf t r.kind) × AreFields ts rs
+  pub AreFieldsAll : (List ℕ → Type 0) → Trees → List Row → Type 0
+  AreFieldsAll Q none [] = Unit {0}
+  AreFieldsAll Q none (r ∷ rs) = Never
+  AreFieldsAll Q (more t ts) [] = Never
+  AreFieldsAll Q (more t ts) (r ∷ rs) = (((t ≡ absent) × (may_lack r.need ≡ true)) ⊎ IsOfAll Q t r.kind) × AreFieldsAll Q ts rs
+
+-- A tree of a kind. Texts are in UTF-8.
+abbrev pub IsOf : Tree → Kind → Type 0
+IsOf t k = IsOfAll IsUtf8 t k
+
+-- Nothing is asked of a text.
+abbrev pub AnyText : List ℕ → Type 0
+AnyText s = Unit {0}
+
+-- A tree with the shape of a kind, whatever its texts are.
+abbrev pub HasShape : Tree → Kind → Type 0
+HasShape t k = IsOfAll AnyText t k
+
+abbrev pub HaveShape : Trees → Kind → Type 0
+HaveShape ts k = AreOfAll AnyText ts k
+
+abbrev pub FieldsHaveShape : Trees → List Row → Type 0
+FieldsHaveShape ts rs = AreFieldsAll AnyText ts rs

@@ -16,7 +16,6 @@ use Rattle.cdx_schema.specs.Depth.{Depth, top, inside, is_too_deep}
 use Rattle.cdx_models.specs.Entries.{entry_of}
 use Rattle.cdx_schema.specs.Held.{held_kind}
 use Rattle.cdx_schema.specs.JsonReading.{is_required}
-use Rattle.cdx_events.specs.declared.name.OwnedName.{OwnedName}
 use Rattle.cdx_events.specs.declared.name.OwnedAttribute.{OwnedAttribute}
 use Rattle.cdx_events.specs.Nodes.{Node, characters, cdata, element, Nodes, no_nodes, node}
 use Rattle.cdx_schema.specs.Nodes.{places, places_of}

@@ -2,6 +2,8 @@
 //! what a trip through XML takes, roads of rewritings, and their laws.
 #![tactic(auto)]
 
+pub mod laws;
+
 mod replies;
 
 pub use replies::{no_floats, reply_law, road_law, valid_law};
