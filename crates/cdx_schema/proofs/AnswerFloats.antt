@@ -122,7 +122,7 @@ doc_clear : (f : Form) (w : SpecVersion) (b : Tree) → has_float (doc_value (wr
 doc_clear in_json w b = neither (has_float (jspell b w a_bill)) false (clear (jspell b w a_bill) (no_float b w a_bill)) refl
 doc_clear in_xml w b = neither _ false (events_clear (document (root b w))) refl
 
-bound : {A B F : Type 0} (r : Result A F) (f : A → Result B F) (y : B) → (r >>= f) ≡ Ok y → (x : A) × (r ≡ Ok x) × (f x ≡ Ok y)
+pub bound : {A B F : Type 0} (r : Result A F) (f : A → Result B F) (y : B) → (r >>= f) ≡ Ok y → (x : A) × (r ≡ Ok x) × (f x ≡ Ok y)
 bound (Ok x) f y h = (x, refl, h)
 bound (Err e) f y h = cc
 

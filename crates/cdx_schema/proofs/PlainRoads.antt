@@ -1,8 +1,6 @@
 -- The road of a request of the first form.
 use Rattle.std.proofs.Common.{◌≡◌, ℕ, zero, suc, ◌+◌, ◌<◌, ◌^◌, List, [], ◌∷◌, length, map, take, codes, Bool, true, false, not, ◌||◌, ◌&&◌, cond, eqb, Option, Some, None, option_map, is_some, Result, Ok, refl, sym, ap, subst, ◌∙◌, add-one, ◌⊎◌, inl, inr}
 use Rattle.std.specs.Option.{option_and_then}
-use Rattle.std.specs.List.{slice_get}
-use Rattle.std.proofs.lemmas.List.{take-map, length-map}
 use Rattle.std.proofs.lemmas.Option.{option_and_then_some, none-some, same_Some}
 use Rattle.std.proofs.lemmas.Bool.{lt-ltb}
 use Rattle.serde_json.specs.Data.{Data, Items, no_items, item}
@@ -18,8 +16,6 @@ use Rattle.cdx_schema.specs.JsonReading.{json_denotes}
 use Rattle.cdx_schema.specs.JsonSpelling.{jspell}
 use Rattle.cdx_schema.specs.Trips.{in_json, settled, Hop, trips, last_of, lowest_of}
 use Rattle.cdx_schema.specs.Roads.{Doc, json, xml, denotes, from_json, written, fits_all, hops_from, road}
-use Rattle.cdx_schema.specs.Laws.{after_all, DenotesAfter}
-use Rattle.cdx_schema.specs.Served.{IsInForm}
 use Rattle.cdx_schema.specs.Requests.{Request, member_count, text_at, has_text, is_text, recent_at, plain, plain_bill, if_plain, doc_of, json_hop, hop_of, hops_of, request_parts, request_of}
 use Rattle.cdx_schema.proofs.PlainBills.{IsSerial, no_serial, a_serial, plain_denotes}
 
@@ -59,7 +55,7 @@ or_true : (a b : Bool) → b ≡ true → (a || b) ≡ true
 or_true true b h = refl
 or_true false b h = h
 
-fit_all : (ws : List SpecVersion) (v : SpecVersion) (n : ℕ) (o : Option Data) (s : Tree) → IsSerial o s → fits_all (map json_hop ws) (plain v n s) ≡ true
+pub fit_all : (ws : List SpecVersion) (v : SpecVersion) (n : ℕ) (o : Option Data) (s : Tree) → IsSerial o s → fits_all (map json_hop ws) (plain v n s) ≡ true
 fit_all [] v n o s i = refl
 fit_all (w ∷ ws) v n o s i = rw (or_true (not (is_first w)) (has_versions (plain v n s) a_bill) (versions v n o s i)) (fit_all ws v n o s i)
 
@@ -71,45 +67,6 @@ docs_from (w ∷ ws) x v u n o s i h d = rw (d, kept_plain w w u n o s i, docs_f
 
 pub plain_road : (ws : List SpecVersion) (x : Doc) (v u : SpecVersion) (n : ℕ) (o : Option Data) (s : Tree) → IsSerial o s → n < 2 ^ 32 → denotes x v ≡ Ok (plain u n s) → road x v (map json_hop ws) ≡ Ok (map (doc_under n s) ws)
 plain_road ws x v u n o s i h d = rw (d, fit_all ws u n o s i) (docs_from ws x v u n o s i h d)
-
--- ---- what the hops leave
-
-no_trips : (ws : List SpecVersion) (m : ℕ) (b : Tree) → trips (map json_hop ws) m b ≡ b
-no_trips ws zero b = refl
-no_trips [] (suc m) b = refl
-no_trips (w ∷ ws) (suc m) b = no_trips ws (suc m) b
-
--- what is at a place of a list that was mapped
-mapped : {A B : Type 0} (f : A → B) (xs : List A) (k : ℕ) (y : B) → slice_get (map f xs) k ≡ Some y → (x : A) × (slice_get xs k ≡ Some x) × (f x ≡ y)
-mapped f [] k y h = absurd (none-some y h)
-mapped f (x ∷ xs) zero y h = (x, refl, same_Some (f x) y h)
-mapped f (x ∷ xs) (suc k) y h = mapped f xs k y h
-
-last_taken : (ws : List SpecVersion) (v w : SpecVersion) (k : ℕ) → slice_get ws k ≡ Some w → last_of v (take (suc k) (map json_hop ws)) ≡ w
-last_taken [] v w k q = absurd (none-some w q)
-last_taken (x ∷ ws) v w zero q = same_Some x w q
-last_taken (x ∷ ws) v w (suc k) q = last_taken ws x w k q
-
-after_is : (ws : List SpecVersion) (v w : SpecVersion) (n k : ℕ) (o : Option Data) (s : Tree) → IsSerial o s → slice_get ws k ≡ Some w → after_all (plain v n s) (take (suc k) (map json_hop ws)) ≡ plain w n s
-after_is [] v w n k o s i q = absurd (none-some w q)
-after_is (x ∷ ws) v w n k o s i q =
-    let hs : List Hop = take k (map json_hop ws) in
-    ap (λ (hs : List Hop). trips (json_hop x ∷ hs) 2 (kept (lowest_of x (take k (map json_hop ws))) (last_of x (take k (map json_hop ws))) (plain v n s) a_bill)) (take-map json_hop k ws)
-    ∙ (no_trips (x ∷ take k ws) 2 (kept (lowest_of x hs) (last_of x hs) (plain v n s) a_bill)
-    ∙ (kept_plain (lowest_of x hs) (last_of x hs) v n o s i
-    ∙ ap (λ (l : SpecVersion). plain l n s) (last_taken (x ∷ ws) x w k q)))
-
-pub each_after : (ws : List SpecVersion) (v : SpecVersion) (n : ℕ) (o : Option Data) (s : Tree) → IsSerial o s → n < 2 ^ 32 → (k : ℕ) (d : Doc) (h : Hop)
-    → slice_get (map (doc_under n s) ws) k ≡ Some d → slice_get (map json_hop ws) k ≡ Some h → IsInForm h.form d × DenotesAfter (plain v n s) (take (k + 1) (map json_hop ws)) d h.version
-each_after ws v n o s i lt k d h p q =
-    let a = mapped json_hop ws k h q in
-    let e = mapped (doc_under n s) ws k d p in
-    let same : e.0 ≡ a.0 = same_Some e.0 a.0 (sym e.1 ∙ a.1) in
-    let is : doc_under n s a.0 ≡ d = ap (doc_under n s) (sym same) ∙ e.2 in
-    subst (λ (h : Hop). IsInForm h.form d × DenotesAfter (plain v n s) (take (k + 1) (map json_hop ws)) d h.version) a.2
-    (subst (λ (d : Doc). IsInForm in_json d × DenotesAfter (plain v n s) (take (k + 1) (map json_hop ws)) d a.0) is
-    ((jspell (plain a.0 n s) a.0 a_bill, refl),
-      (plain a.0 n s, under_denotes a.0 n o s i lt, ap (λ (t : Tree). settled t a_bill) (sym (rw add-one (after_is ws v a.0 n k o s i a.1))))))
 
 -- ---- the parts of a request
 

@@ -37,7 +37,7 @@ refusal reason = only (codes "request") (string reason)
 abbrev pub refused : ℕ → List ℕ → Reply
 refused status reason = record { status = status; text = line_of (refusal reason) }
 
--- No road of a request of the first form is refused (`Served.RoadLaw`), and no refusal has an answer of its own yet.
+-- No road of a request of the first form is refused (`Served.FormLaw`), and no refusal has an answer of its own yet.
 abbrev pub reply_to_road : Result (List Doc) Refusal → Reply
 reply_to_road (Ok docs) = record { status = 0; text = line_of (documents_answer docs) }
 reply_to_road (Err r) = refused 2 (codes "not built")

@@ -6,4 +6,4 @@ pub mod laws;
 
 mod replies;
 
-pub use replies::{no_floats, reply_law, road_law, valid_law};
+pub use replies::{form_law, no_floats, reply_law, valid_law};

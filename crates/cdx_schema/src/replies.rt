@@ -1,10 +1,10 @@
 //! The laws of requests and replies. Each is the contract of a function that does nothing.
 
-ghost use Rattle.cdx_schema.specs.Served.{RoadLaw, NoFloats, ReplyLaw, ValidLaw};
+ghost use Rattle.cdx_schema.specs.Served.{FormLaw, NoFloats, ReplyLaw, ValidLaw};
 
-/// A request is served by the documents of its road, which is never refused.
-pub fn road_law()
-    ensures { RoadLaw }
+/// A request of the first form has a document that denotes a bill that fits every hop.
+pub fn form_law()
+    ensures { FormLaw }
 {}
 
 /// No answer of documents holds a float.
@@ -17,7 +17,7 @@ pub fn reply_law()
     ensures { ReplyLaw }
 {}
 
-/// A request that isn't too long is owed such a reply.
+/// A valid request that isn't too long is owed such a reply.
 pub fn valid_law()
     ensures { ValidLaw }
 {}

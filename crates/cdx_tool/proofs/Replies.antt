@@ -1,12 +1,14 @@
 -- Replies to requests, and how a run ends.
-use Rattle.std.proofs.Common.{◌≡◌, ℕ, ◌≤◌, ◌<◌, List, [], ◌++◌, length, take, codes, Bool, true, false, ltb, cond, Option, Some, None, option_map, ◌⊎◌, inl, inr, IfSome, refl, sym, ap, subst, ◌∙◌, arith}
-use Rattle.std.specs.Io.KnownBytes.{Appends, Keeps, Consumes}
+use Rattle.std.proofs.Common.{◌≡◌, ℕ, ◌≤◌, ◌<◌, List, [], ◌++◌, length, take, codes, Bool, true, false, ltb, cond, Option, Some, None, Result, Ok, Err, ◌⊎◌, inl, inr, IfSome, refl, sym, ap, subst, ◌∙◌, arith}
+use Rattle.std.specs.Io.KnownBytes.{Appends, Keeps, Consumes, IsAtEnd}
 use Rattle.std.proofs.lemmas.Option.{same_Some}
-use Rattle.std.proofs.lemmas.Bool.{lt-ltb}
+use Rattle.std.proofs.lemmas.Bool.{lt-ltb, ltb-true}
 use Rattle.std.proofs.lemmas.List.{length-append}
-use Rattle.cdx_schema.specs.Roads.{Doc}
-use Rattle.cdx_schema.specs.Replies.{Reply, line_of, documents_answer, refused, reply_to, limit}
-use Rattle.cdx_schema.specs.Served.{Serves, ReplyLaw}
+use Rattle.serde_json.specs.Data.{Data}
+use Rattle.cdx_schema.specs.Roads.{Doc, Refusal, road}
+use Rattle.cdx_schema.specs.Requests.{Request, request_of, request_in, json_of}
+use Rattle.cdx_schema.specs.Replies.{Reply, line_of, documents_answer, refused, reply_to, reply_to_value, reply_to_request, reply_to_road, limit}
+use Rattle.cdx_schema.specs.Served.{Serves, FormLaw, ReplyLaw, ValidLaw}
 use Rattle.cdx_tool.specs.Run.{Tells, Ends, reply_for}
 
 reply_is : (bytes : List ℕ) → limit < length bytes → refused 6 (codes "too long") ≡ reply_to bytes
@@ -36,10 +38,20 @@ words_owed o road r b e = let t = some_told o in (t.0, t.1, rw b e)
 no_words : ◌≡◌ {A = ℕ} 2 0 → ⊥
 no_words h = omega (arith, h)
 
+no_six : ◌≡◌ {A = ℕ} 6 0 → ⊥
+no_six h = omega (arith, h)
+
 -- a reply of status 0 that went out serves one request
-pub served : (o before now : Option (List ℕ)) (road : Bool) (r : Reply) (bytes : List ℕ) → ReplyLaw → Tells o bytes → r ≡ reply_for road bytes → r.status ≡ 0 → Appends before now r.text
-    → (bytes : List ℕ) × (docs : List Doc) × Tells o bytes × Serves bytes docs × Appends before now (line_of (documents_answer docs))
-served o before now false r bytes law told e zero_is put = absurd (no_words (ap (λ (x : Reply). x.status) (sym e) ∙ zero_is))
-served o before now true r bytes law told e zero_is put =
+pub served : (o left before now : Option (List ℕ)) (road : Bool) (r : Reply) (bytes : List ℕ) → ReplyLaw → Tells o bytes → r ≡ reply_for road bytes → (road ≡ true → (r.status ≡ 6) ⊎ IsAtEnd left) → r.status ≡ 0 → Appends before now r.text
+    → (bytes : List ℕ) × (docs : List Doc) × Tells o bytes × IsAtEnd left × Serves bytes docs × Appends before now (line_of (documents_answer docs))
+served o left before now false r bytes law told e end zero_is put = absurd (no_words (ap (λ (x : Reply). x.status) (sym e) ∙ zero_is))
+served o left before now true r bytes law told e end zero_is put =
     let l = law bytes (ap (λ (x : Reply). x.status) (sym e) ∙ zero_is) in
-    (bytes, l.0, told, l.1, subst (Appends before now) (ap (λ (x : Reply). x.text) e ∙ l.2) put)
+    (bytes, l.0, told, elim (end refl) [ inl six ↦ absurd (no_six (sym six ∙ zero_is)) | inr at_end ↦ at_end ], l.1, subst (Appends before now) (ap (λ (x : Reply). x.text) e ∙ l.2) put)
+
+-- a valid request is owed status 0
+pub valid_owed : (o : Option (List ℕ)) (told bytes : List ℕ) (words : Bool) (r : Reply) (request : Request) → FormLaw → ValidLaw → Tells o told → r ≡ reply_for words told → words ≡ true → o ≡ Some bytes
+    → length bytes ≤ limit → request_in bytes ≡ Some request → r.status ≡ 0
+valid_owed o told bytes words r request form law tells e is said le asks =
+    let same : told ≡ bytes = subst (λ (o : Option (List ℕ)). Tells o told) said tells in
+    ap (λ (x : Reply). x.status) (e ∙ (ap (λ (w : Bool). reply_for w told) is ∙ ap reply_to same)) ∙ law bytes request le asks (form bytes request asks)

@@ -110,6 +110,7 @@ pub fn run<S: Source, K: Sink>(alloc: Global, words: &[String], source: &mut S, 
     ensures end_put { is_road words.now ≡ true → result ≡ 4 → (bytes : List ℕ) × Tells (S.left source.old) bytes × ((limit < length bytes) ⊎ IsAtEnd (S.left source.new)) }
     ensures taken { (taken : List ℕ) × Consumes (S.left source.old) (S.left source.new) taken × (length taken ≤ limit + 1) }
 {
+    cdx_schema::form_law();
     cdx_schema::reply_law();
     cdx_schema::valid_law();
     match owed(alloc, words, source) {

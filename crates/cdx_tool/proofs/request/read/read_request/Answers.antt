@@ -9,4 +9,4 @@ pub returns-in_default-3 : goal.returns-in_default-3
 returns-in_default-3 c = no_hops (view c.args.value.now) (sym c.in_ok-hops.ensures ∙ ap (option_map _) c.in_default-3.is)
 
 pub returns : goal.returns
-returns c = read_is (view c.args.value.now) (view c.in-Some.doc.now) (tree_of c.in-Some-2.bill) (map json_hop c.in-Some-3.hops.items) (sym c.count_members.ensures ∙ c.if-count_members-ne3.false) (sym (c.is_none.ensures ∙ ap is_some c.recent_at.ensures) ∙ ap not c.if-is_none.false) (c.in-Some.ensures) (c.in_ok-bill.ensures) (c.in_ok-hops.ensures)
+returns c = read_is (view c.args.value.now) (view c.in-Some.doc.now) (tree_of c.in-Some-2.bill) (map json_hop c.in-Some-3.hops.items) (sym c.count_members.ensures ∙ c.if-count_members-ne3.false) (sym (ap is_some c.recent_at.ensures) ∙ (c.is_none.ensures ∙ ap not c.if-is_none.false)) (sym c.in-Some.ensures) (sym (rw c.in-Some-2.is at c.in_ok-bill.ensures)) (sym (rw c.in-Some-3.is at c.in_ok-hops.ensures))
