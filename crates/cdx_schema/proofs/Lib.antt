@@ -44,3 +44,8 @@ pub mod DroppedLaw
 pub mod DroppedFull
 pub mod DroppedEmpty
 mod DroppedRows
+pub mod OnlyMembers
+pub mod PlainBills
+pub mod PlainRoads
+pub mod AnswerFloats
+pub mod RepliesOwed

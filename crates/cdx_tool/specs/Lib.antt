@@ -1,0 +1,3 @@
+pub mod Bill
+pub mod Asked
+pub mod Run
