@@ -13,10 +13,10 @@ fn field(alloc: Global, text: &str) -> Result<Option<Text>, AllocError> {
     Ok(Some(Text::new(alloc, text)?))
 }
 
-fn is_text(field: &Option<Text>, text: &str) -> bool {
+fn is_absent(field: &Option<Text>) -> bool {
     match field {
-        Some(held) => held.is(text),
-        None => text == "-",
+        Some(_) => false,
+        None => true,
     }
 }
 
@@ -27,7 +27,7 @@ fn list<T: Drop>(alloc: Global, item: T) -> Result<List<T>, AllocError> {
 }
 
 // A list of one item, absent where its text is `-`.
-fn texts(alloc: Global, text: &str) -> Result<Option<List<Text>>, AllocError> {
+fn field_list(alloc: Global, text: &str) -> Result<Option<List<Text>>, AllocError> {
     match field(alloc, text)? {
         Some(item) => Ok(Some(list(alloc, item)?)),
         None => Ok(None),
@@ -58,114 +58,127 @@ fn all_differ<T: HasTree + PartialEq + Drop>(
     Ok(true)
 }
 
-fn attached(
-    alloc: Global,
-    content_type: &str,
-    encoding: &str,
-    content: &str,
-) -> Result<AttachedText, AllocError> {
+fn attached(alloc: Global, texts: [&str; 3]) -> Result<AttachedText, AllocError> {
     Ok(AttachedText {
-        content_type: field(alloc, content_type)?,
-        encoding: field(alloc, encoding)?,
-        content: Text::new(alloc, content)?,
+        content_type: field(alloc, texts[0])?,
+        encoding: field(alloc, texts[1])?,
+        content: Text::new(alloc, texts[2])?,
     })
 }
 
-fn hashes(alloc: Global, alg: &str, content: &str) -> Result<Hashes, AllocError> {
-    let alg = Text::new(alloc, alg)?;
-    let content = HashValue(Text::new(alloc, content)?);
-    Ok(Hashes(list(alloc, Hash { alg, content })?))
+fn hash(alloc: Global, texts: [&str; 2]) -> Result<Hash, AllocError> {
+    Ok(Hash {
+        alg: Text::new(alloc, texts[0])?,
+        content: HashValue(Text::new(alloc, texts[1])?),
+    })
 }
 
-fn properties(alloc: Global, name: &str, value: &str) -> Result<Properties, AllocError> {
-    let name = Text::new(alloc, name)?;
-    let value = Text::new(alloc, value)?;
-    Ok(Properties(list(alloc, Property { name, value })?))
+fn property(alloc: Global, texts: [&str; 2]) -> Result<Property, AllocError> {
+    Ok(Property {
+        name: Text::new(alloc, texts[0])?,
+        value: Text::new(alloc, texts[1])?,
+    })
 }
 
 #[test]
-fn texts_hashes_and_properties(rt: HostRuntime) -> Result<(), Fail> {
+fn attached_texts(rt: HostRuntime) -> Result<(), Fail> {
     let alloc = rt.alloc();
-    let attached = [
-        attached(alloc, "a", "b", "c")?,
-        attached(alloc, "x", "b", "c")?,
-        attached(alloc, "-", "b", "c")?,
-        attached(alloc, "a", "x", "c")?,
-        attached(alloc, "a", "b", "x")?,
-    ];
-    let hashes = [
-        Hashes(List::new(alloc)),
-        hashes(alloc, "a", "b")?,
-        hashes(alloc, "x", "b")?,
-        hashes(alloc, "a", "x")?,
-    ];
-    let properties = [
-        Properties(List::new(alloc)),
-        properties(alloc, "a", "b")?,
-        properties(alloc, "x", "b")?,
-        properties(alloc, "a", "x")?,
-    ];
-    let numbers = [
-        UrnUuid(Text::new(alloc, "a")?),
-        UrnUuid(Text::new(alloc, "b")?),
-    ];
-    assert!(rt; all_differ(alloc, &attached)?);
-    assert!(rt; all_differ(alloc, &hashes)?);
-    assert!(rt; all_differ(alloc, &properties)?);
-    assert!(rt; all_differ(alloc, &numbers)?);
+    let mut made = List::new(alloc);
+    for texts in [
+        ["a", "b", "c"],
+        ["x", "b", "c"],
+        ["-", "b", "c"],
+        ["a", "x", "c"],
+        ["a", "b", "x"],
+    ] {
+        made.push(attached(alloc, texts)?)?;
+    }
+    assert!(rt; all_differ(alloc, made.as_slice())?);
     Ok(())
 }
 
-fn contact(alloc: Global, fields: [&str; 4]) -> Result<OrganizationalContact, AllocError> {
+#[test]
+fn hashes_and_properties(rt: HostRuntime) -> Result<(), Fail> {
+    let alloc = rt.alloc();
+    let mut hashes = List::new(alloc);
+    let mut properties = List::new(alloc);
+    hashes.push(Hashes(List::new(alloc)))?;
+    properties.push(Properties(List::new(alloc)))?;
+    for texts in [["a", "b"], ["x", "b"], ["a", "x"]] {
+        hashes.push(Hashes(list(alloc, hash(alloc, texts)?)?))?;
+        properties.push(Properties(list(alloc, property(alloc, texts)?)?))?;
+    }
+    assert!(rt; all_differ(alloc, hashes.as_slice())?);
+    assert!(rt; all_differ(alloc, properties.as_slice())?);
+    Ok(())
+}
+
+#[test]
+fn serial_numbers(rt: HostRuntime) -> Result<(), Fail> {
+    let alloc = rt.alloc();
+    let mut made = List::new(alloc);
+    for text in ["a", "b"] {
+        made.push(UrnUuid(Text::new(alloc, text)?))?;
+    }
+    assert!(rt; all_differ(alloc, made.as_slice())?);
+    Ok(())
+}
+
+fn contact(alloc: Global, texts: [&str; 4]) -> Result<OrganizationalContact, AllocError> {
     Ok(OrganizationalContact {
-        bom_ref: field(alloc, fields[0])?,
-        name: field(alloc, fields[1])?,
-        email: field(alloc, fields[2])?,
-        phone: field(alloc, fields[3])?,
+        bom_ref: field(alloc, texts[0])?,
+        name: field(alloc, texts[1])?,
+        email: field(alloc, texts[2])?,
+        phone: field(alloc, texts[3])?,
     })
 }
 
-fn entity(
-    alloc: Global,
-    bom_ref: &str,
-    name: &str,
-    url: &str,
-) -> Result<OrganizationalEntity, AllocError> {
+// The last two texts are those of the one address, and the name of the one contact.
+fn entity(alloc: Global, texts: [&str; 4]) -> Result<OrganizationalEntity, AllocError> {
+    let contact = match texts[3] {
+        "-" => None,
+        name => Some(list(alloc, contact(alloc, ["-", name, "-", "-"])?)?),
+    };
     Ok(OrganizationalEntity {
-        bom_ref: field(alloc, bom_ref)?,
-        name: field(alloc, name)?,
-        url: texts(alloc, url)?,
-        contact: None,
+        bom_ref: field(alloc, texts[0])?,
+        name: field(alloc, texts[1])?,
+        url: field_list(alloc, texts[2])?,
+        contact,
     })
+}
+
+#[test]
+fn contacts(rt: HostRuntime) -> Result<(), Fail> {
+    let alloc = rt.alloc();
+    let mut made = List::new(alloc);
+    for texts in [
+        ["a", "b", "c", "d"],
+        ["x", "b", "c", "d"],
+        ["a", "x", "c", "d"],
+        ["a", "b", "x", "d"],
+        ["a", "b", "c", "-"],
+    ] {
+        made.push(contact(alloc, texts)?)?;
+    }
+    assert!(rt; all_differ(alloc, made.as_slice())?);
+    Ok(())
 }
 
 #[test]
 fn organizations(rt: HostRuntime) -> Result<(), Fail> {
     let alloc = rt.alloc();
-    let contacts = [
-        contact(alloc, ["a", "b", "c", "d"])?,
-        contact(alloc, ["x", "b", "c", "d"])?,
-        contact(alloc, ["a", "x", "c", "d"])?,
-        contact(alloc, ["a", "b", "x", "d"])?,
-        contact(alloc, ["a", "b", "c", "-"])?,
-    ];
-    assert!(rt; all_differ(alloc, &contacts)?);
-    let acme = OrganizationalEntity::new(alloc, "Acme")?;
-    assert!(rt; acme == entity(alloc, "-", "Acme", "-")?);
-    assert!(rt; is_text(&acme.name, "Acme"));
-    let with_contact = OrganizationalEntity {
-        bom_ref: None,
-        name: field(alloc, "Acme")?,
-        url: None,
-        contact: Some(list(alloc, contact(alloc, ["-", "-", "-", "-"])?)?),
-    };
-    let entities = [
-        acme,
-        with_contact,
-        entity(alloc, "a", "Acme", "-")?,
-        entity(alloc, "-", "Acme", "u")?,
-    ];
-    assert!(rt; all_differ(alloc, &entities)?);
+    let mut made = list(alloc, OrganizationalEntity::new(alloc, "Acme")?)?;
+    for texts in [
+        ["a", "Acme", "-", "-"],
+        ["-", "-", "-", "-"],
+        ["-", "Acme", "u", "-"],
+        ["-", "Acme", "-", "c"],
+    ] {
+        made.push(entity(alloc, texts)?)?;
+    }
+    assert!(rt; all_differ(alloc, made.as_slice())?);
+    let acme = entity(alloc, ["-", "Acme", "-", "-"])?;
+    assert!(rt; equals_only(&acme, 0, made.as_slice()));
     Ok(())
 }
 
@@ -198,60 +211,73 @@ fn addresses(rt: HostRuntime) -> Result<(), Fail> {
     Ok(())
 }
 
-fn reference(
-    alloc: Global,
-    kind: &str,
-    url: &str,
-    comment: &str,
-    hashes: Option<Hashes>,
-) -> Result<ExternalReference, AllocError> {
+// The last text is the algorithm of the one hash.
+fn reference(alloc: Global, texts: [&str; 4]) -> Result<ExternalReference, AllocError> {
     Ok(ExternalReference {
-        external_reference_type: Text::new(alloc, kind)?,
-        url: Uri::from_text(Text::new(alloc, url)?),
-        comment: field(alloc, comment)?,
-        hashes,
+        external_reference_type: Text::new(alloc, texts[0])?,
+        url: Uri::from_text(Text::new(alloc, texts[1])?),
+        comment: field(alloc, texts[2])?,
+        hashes: hashes(alloc, texts[3])?,
     })
 }
 
-fn tool(alloc: Global, fields: [&str; 3], hashes: Option<Hashes>) -> Result<Tool, AllocError> {
+fn hashes(alloc: Global, alg: &str) -> Result<Option<Hashes>, AllocError> {
+    match alg {
+        "-" => Ok(None),
+        _ => Ok(Some(Hashes(list(alloc, hash(alloc, [alg, "h"])?)?))),
+    }
+}
+
+fn references(alloc: Global, kind: &str) -> Result<Option<ExternalReferences>, AllocError> {
+    match kind {
+        "-" => Ok(None),
+        _ => Ok(Some(ExternalReferences(list(alloc, reference(alloc, [kind, "u", "-", "-"])?)?))),
+    }
+}
+
+#[test]
+fn external_references(rt: HostRuntime) -> Result<(), Fail> {
+    let alloc = rt.alloc();
+    let mut made = List::new(alloc);
+    for texts in [
+        ["a", "b", "c", "d"],
+        ["x", "b", "c", "d"],
+        ["a", "x", "c", "d"],
+        ["a", "b", "-", "d"],
+        ["a", "b", "c", "-"],
+    ] {
+        made.push(reference(alloc, texts)?)?;
+    }
+    assert!(rt; all_differ(alloc, made.as_slice())?);
+    Ok(())
+}
+
+fn tool(alloc: Global, texts: [&str; 5]) -> Result<Tool, AllocError> {
     Ok(Tool {
-        vendor: field(alloc, fields[0])?,
-        name: field(alloc, fields[1])?,
-        version: field(alloc, fields[2])?,
-        hashes,
-        external_references: None,
+        vendor: field(alloc, texts[0])?,
+        name: field(alloc, texts[1])?,
+        version: field(alloc, texts[2])?,
+        hashes: hashes(alloc, texts[3])?,
+        external_references: references(alloc, texts[4])?,
     })
 }
 
 #[test]
-fn references_and_tools(rt: HostRuntime) -> Result<(), Fail> {
+fn tools(rt: HostRuntime) -> Result<(), Fail> {
     let alloc = rt.alloc();
-    let references = [
-        reference(alloc, "a", "b", "c", None)?,
-        reference(alloc, "x", "b", "c", None)?,
-        reference(alloc, "a", "x", "c", None)?,
-        reference(alloc, "a", "b", "-", None)?,
-        reference(alloc, "a", "b", "c", Some(Hashes(List::new(alloc))))?,
-    ];
-    assert!(rt; all_differ(alloc, &references)?);
-    let default = Tool::default();
-    assert!(rt; default == tool(alloc, ["-", "-", "-"], None)?);
-    let with_references = Tool {
-        vendor: None,
-        name: None,
-        version: None,
-        hashes: None,
-        external_references: Some(ExternalReferences(List::new(alloc))),
-    };
-    let tools = [
-        default,
-        with_references,
-        tool(alloc, ["a", "-", "-"], None)?,
-        tool(alloc, ["-", "a", "-"], None)?,
-        tool(alloc, ["-", "-", "a"], None)?,
-        tool(alloc, ["-", "-", "-"], Some(hashes(alloc, "a", "b")?))?,
-    ];
-    assert!(rt; all_differ(alloc, &tools)?);
+    let mut made = list(alloc, Tool::default())?;
+    for texts in [
+        ["a", "-", "-", "-", "-"],
+        ["-", "a", "-", "-", "-"],
+        ["-", "-", "a", "-", "-"],
+        ["-", "-", "-", "a", "-"],
+        ["-", "-", "-", "-", "a"],
+    ] {
+        made.push(tool(alloc, texts)?)?;
+    }
+    assert!(rt; all_differ(alloc, made.as_slice())?);
+    let empty = tool(alloc, ["-", "-", "-", "-", "-"])?;
+    assert!(rt; equals_only(&empty, 0, made.as_slice()));
     Ok(())
 }
 
@@ -271,8 +297,9 @@ fn algorithms(rt: HostRuntime) -> Result<(), Fail> {
     ] {
         let known = Algorithm::new_unchecked(alloc, name)?;
         let unknown = Algorithm::Unknown(Text::new(alloc, name)?);
-        assert!(rt; !is_unknown(&known) && !is_unknown(&known.copy(alloc)?));
-        assert!(rt; is_unknown(&unknown) && is_unknown(&unknown.copy(alloc)?));
+        assert!(rt; !is_unknown(&known) && is_unknown(&unknown));
+        assert!(rt; !is_unknown(&known.copy(alloc)?));
+        assert!(rt; is_unknown(&unknown.copy(alloc)?));
         assert_eq!(rt; known.as_str(), name);
         assert!(rt; known == unknown);
     }
@@ -282,152 +309,153 @@ fn algorithms(rt: HostRuntime) -> Result<(), Fail> {
 }
 
 #[test]
-fn signatures(rt: HostRuntime) -> Result<(), Fail> {
+fn signers(rt: HostRuntime) -> Result<(), Fail> {
     let alloc = rt.alloc();
     let signer = Signer::new(alloc, "XY1", "v")?;
     assert!(rt; is_unknown(&signer.algorithm));
     assert_eq!(rt; signer.algorithm.as_str(), "XY1");
     assert_eq!(rt; signer.value.as_str(), "v");
-    let signers = [
-        Signer::new(alloc, "ES256", "a")?,
-        Signer::new(alloc, "ES384", "a")?,
-        Signer::new(alloc, "ES256", "x")?,
-    ];
-    assert!(rt; all_differ(alloc, &signers)?);
-    let single = Signature::single(alloc, "HS512", "1")?;
-    assert!(rt;
-        single
-            == Signature::Single(Signer {
-                algorithm: Algorithm::HS512,
-                value: Text::new(alloc, "1")?
-            })
-    );
-    let signatures = [
-        single,
-        Signature::chain(List::new(alloc)),
-        Signature::signers(List::new(alloc)),
-        Signature::chain(list(alloc, Signer::new(alloc, "ES256", "a")?)?),
-        Signature::signers(list(alloc, Signer::new(alloc, "ES256", "a")?)?),
-    ];
-    assert!(rt; all_differ(alloc, &signatures)?);
-    Ok(())
-}
-
-fn composition(
-    alloc: Global,
-    bom_ref: &str,
-    aggregate: &str,
-    signature: Option<Signature>,
-) -> Result<Composition, AllocError> {
-    Ok(Composition {
-        bom_ref: field(alloc, bom_ref)?,
-        aggregate: Text::new(alloc, aggregate)?,
-        assemblies: None,
-        dependencies: None,
-        vulnerabilities: None,
-        signature,
-    })
-}
-
-fn dependency(alloc: Global, of: &str, on: &str) -> Result<Dependency, AllocError> {
-    Ok(Dependency {
-        dependency_ref: Text::new(alloc, of)?,
-        depends_on: list(alloc, Text::new(alloc, on)?)?,
-    })
-}
-
-// A composition with one list of references, the first, the second or the third.
-fn composed(alloc: Global, at: usize) -> Result<Composition, AllocError> {
-    let mut made = composition(alloc, "a", "b", None)?;
-    let references = Some(list(alloc, BomReference::new(alloc, "r")?)?);
-    match at {
-        0 => made.assemblies = references,
-        1 => made.dependencies = references,
-        _ => made.vulnerabilities = references,
+    let mut made = list(alloc, signer)?;
+    for (algorithm, value) in [("ES256", "v"), ("ES384", "v"), ("ES256", "x")] {
+        made.push(Signer::new(alloc, algorithm, value)?)?;
     }
-    Ok(made)
+    assert!(rt; all_differ(alloc, made.as_slice())?);
+    Ok(())
 }
 
 #[test]
-fn dependencies_and_compositions(rt: HostRuntime) -> Result<(), Fail> {
+fn signatures(rt: HostRuntime) -> Result<(), Fail> {
     let alloc = rt.alloc();
-    assert_eq!(rt; BomReference::new(alloc, "r")?.0.as_str(), "r");
-    let dependencies = [
-        dependency(alloc, "a", "b")?,
-        dependency(alloc, "x", "b")?,
-        dependency(alloc, "a", "x")?,
-    ];
-    assert!(rt; all_differ(alloc, &dependencies)?);
-    let compositions = [
-        composition(alloc, "a", "b", None)?,
-        composition(alloc, "-", "b", None)?,
-        composition(alloc, "a", "x", None)?,
-        composition(alloc, "a", "b", Some(Signature::chain(List::new(alloc))))?,
-        composed(alloc, 0)?,
-        composed(alloc, 1)?,
-        composed(alloc, 2)?,
-    ];
-    assert!(rt; all_differ(alloc, &compositions)?);
-    let lists = [
-        Compositions(List::new(alloc)),
-        Compositions(list(alloc, composed(alloc, 0)?)?),
-    ];
-    assert!(rt; all_differ(alloc, &lists)?);
+    let mut made = list(alloc, Signature::single(alloc, "ES256", "1")?)?;
+    made.push(Signature::chain(List::new(alloc)))?;
+    made.push(Signature::signers(List::new(alloc)))?;
+    for (algorithm, value) in [("ES256", "1"), ("HS512", "1")] {
+        made.push(Signature::chain(list(alloc, Signer::new(alloc, algorithm, value)?)?))?;
+        made.push(Signature::signers(list(alloc, Signer::new(alloc, algorithm, value)?)?))?;
+    }
+    assert!(rt; all_differ(alloc, made.as_slice())?);
+    let single = Signature::Single(Signer::new(alloc, "ES256", "1")?);
+    assert!(rt; equals_only(&single, 0, made.as_slice()));
     Ok(())
 }
 
-fn license(
-    alloc: Global,
-    bom_ref: &str,
-    name: LicenseIdentifier,
-    url: &str,
-) -> Result<License, AllocError> {
-    Ok(License {
-        bom_ref: field(alloc, bom_ref)?,
-        license_identifier: name,
-        text: None,
-        url: field(alloc, url)?,
-        properties: None,
+#[test]
+fn dependencies(rt: HostRuntime) -> Result<(), Fail> {
+    let alloc = rt.alloc();
+    let mut made = list(alloc, Dependencies(List::new(alloc)))?;
+    for (of, on) in [("a", "b"), ("x", "b"), ("a", "x")] {
+        let dependency_ref = Text::new(alloc, of)?;
+        let depends_on = list(alloc, Text::new(alloc, on)?)?;
+        let one = Dependency {
+            dependency_ref,
+            depends_on,
+        };
+        made.push(Dependencies(list(alloc, one)?))?;
+    }
+    assert!(rt; all_differ(alloc, made.as_slice())?);
+    Ok(())
+}
+
+fn parts(alloc: Global, part: &str) -> Result<Option<List<BomReference>>, AllocError> {
+    match part {
+        "-" => Ok(None),
+        _ => Ok(Some(list(alloc, BomReference::new(alloc, part)?)?)),
+    }
+}
+
+fn signature(alloc: Global, value: &str) -> Result<Option<Signature>, AllocError> {
+    match value {
+        "-" => Ok(None),
+        _ => Ok(Some(Signature::single(alloc, "ES256", value)?)),
+    }
+}
+
+fn composition(alloc: Global, texts: [&str; 6]) -> Result<Composition, AllocError> {
+    Ok(Composition {
+        bom_ref: field(alloc, texts[0])?,
+        aggregate: Text::new(alloc, texts[1])?,
+        assemblies: parts(alloc, texts[2])?,
+        dependencies: parts(alloc, texts[3])?,
+        vulnerabilities: parts(alloc, texts[4])?,
+        signature: signature(alloc, texts[5])?,
     })
 }
 
-fn by_id(alloc: Global, id: &str) -> Result<LicenseIdentifier, AllocError> {
-    Ok(LicenseIdentifier::SpdxId(Text::new(alloc, id)?))
+#[test]
+fn compositions(rt: HostRuntime) -> Result<(), Fail> {
+    let alloc = rt.alloc();
+    assert_eq!(rt; BomReference::new(alloc, "r")?.0.as_str(), "r");
+    let mut made = list(alloc, Compositions(List::new(alloc)))?;
+    for texts in [
+        ["-", "b", "-", "-", "-", "-"],
+        ["-", "x", "-", "-", "-", "-"],
+        ["a", "b", "-", "-", "-", "-"],
+        ["-", "b", "c", "-", "-", "-"],
+        ["-", "b", "-", "c", "-", "-"],
+        ["-", "b", "-", "-", "c", "-"],
+        ["-", "b", "-", "-", "-", "c"],
+    ] {
+        made.push(Compositions(list(alloc, composition(alloc, texts)?)?))?;
+    }
+    assert!(rt; all_differ(alloc, made.as_slice())?);
+    Ok(())
+}
+
+// By its name, if there is one.
+fn identifier(alloc: Global, id: &str, name: &str) -> Result<LicenseIdentifier, AllocError> {
+    match name {
+        "-" => Ok(LicenseIdentifier::SpdxId(Text::new(alloc, id)?)),
+        _ => Ok(LicenseIdentifier::Name(Text::new(alloc, name)?)),
+    }
+}
+
+fn license(alloc: Global, texts: [&str; 6]) -> Result<License, AllocError> {
+    let text = match texts[3] {
+        "-" => None,
+        content => Some(attached(alloc, ["-", "-", content])?),
+    };
+    let properties = match texts[5] {
+        "-" => None,
+        name => Some(Properties(list(alloc, property(alloc, [name, "v"])?)?)),
+    };
+    Ok(License {
+        bom_ref: field(alloc, texts[0])?,
+        license_identifier: identifier(alloc, texts[1], texts[2])?,
+        text,
+        url: field(alloc, texts[4])?,
+        properties,
+    })
 }
 
 #[test]
 fn licenses(rt: HostRuntime) -> Result<(), Fail> {
     let alloc = rt.alloc();
+    let mut made = List::new(alloc);
+    for texts in [
+        ["-", "MIT", "-", "-", "-", "-"],
+        ["-", "ISC", "-", "-", "-", "-"],
+        ["-", "-", "MIT", "-", "-", "-"],
+        ["a", "MIT", "-", "-", "-", "-"],
+        ["-", "MIT", "-", "a", "-", "-"],
+        ["-", "MIT", "-", "-", "a", "-"],
+        ["-", "MIT", "-", "-", "-", "a"],
+    ] {
+        made.push(license(alloc, texts)?)?;
+    }
+    assert!(rt; all_differ(alloc, made.as_slice())?);
+    Ok(())
+}
+
+#[test]
+fn expressions(rt: HostRuntime) -> Result<(), Fail> {
+    let alloc = rt.alloc();
     let expression = Expression::new(alloc, "MIT")?;
-    assert!(rt; is_text(&expression.bom_ref, "-"));
+    assert!(rt; is_absent(&expression.bom_ref));
     assert_eq!(rt; expression.expression.as_str(), "MIT");
-    let mut with_text = license(alloc, "-", by_id(alloc, "MIT")?, "-")?;
-    with_text.text = Some(attached(alloc, "-", "-", "t")?);
-    let mut with_properties = license(alloc, "-", by_id(alloc, "MIT")?, "-")?;
-    with_properties.properties = Some(Properties(List::new(alloc)));
-    let licenses = [
-        license(alloc, "-", by_id(alloc, "MIT")?, "-")?,
-        license(
-            alloc,
-            "-",
-            LicenseIdentifier::Name(Text::new(alloc, "MIT")?),
-            "-",
-        )?,
-        license(alloc, "-", by_id(alloc, "ISC")?, "-")?,
-        license(alloc, "a", by_id(alloc, "MIT")?, "-")?,
-        license(alloc, "-", by_id(alloc, "MIT")?, "u")?,
-        with_text,
-        with_properties,
-    ];
-    assert!(rt; all_differ(alloc, &licenses)?);
-    let choices = [
-        Licenses(List::new(alloc)),
-        Licenses(list(
-            alloc,
-            LicenseChoice::License(license(alloc, "-", by_id(alloc, "MIT")?, "-")?),
-        )?),
-        Licenses(list(alloc, LicenseChoice::Expression(expression))?),
-    ];
-    assert!(rt; all_differ(alloc, &choices)?);
+    let mut made = list(alloc, Licenses(List::new(alloc)))?;
+    made.push(Licenses(list(alloc, LicenseChoice::Expression(expression))?))?;
+    let license = license(alloc, ["-", "MIT", "-", "-", "-", "-"])?;
+    made.push(Licenses(list(alloc, LicenseChoice::License(license))?))?;
+    assert!(rt; all_differ(alloc, made.as_slice())?);
     Ok(())
 }
