@@ -98,18 +98,26 @@ fn attached_texts(rt: HostRuntime) -> Result<(), Fail> {
 }
 
 #[test]
-fn hashes_and_properties(rt: HostRuntime) -> Result<(), Fail> {
+fn lists_of_hashes(rt: HostRuntime) -> Result<(), Fail> {
     let alloc = rt.alloc();
-    let mut hashes = List::new(alloc);
-    let mut properties = List::new(alloc);
-    hashes.push(Hashes(List::new(alloc)))?;
-    properties.push(Properties(List::new(alloc)))?;
+    let mut made = list(alloc, Hashes(List::new(alloc)))?;
     for texts in [["a", "b"], ["x", "b"], ["a", "x"]] {
-        hashes.push(Hashes(list(alloc, hash(alloc, texts)?)?))?;
-        properties.push(Properties(list(alloc, property(alloc, texts)?)?))?;
+        let hashes = list(alloc, hash(alloc, texts)?)?;
+        made.push(Hashes(hashes))?;
     }
-    assert!(rt; all_differ(alloc, hashes.as_slice())?);
-    assert!(rt; all_differ(alloc, properties.as_slice())?);
+    assert!(rt; all_differ(alloc, made.as_slice())?);
+    Ok(())
+}
+
+#[test]
+fn lists_of_properties(rt: HostRuntime) -> Result<(), Fail> {
+    let alloc = rt.alloc();
+    let mut made = list(alloc, Properties(List::new(alloc)))?;
+    for texts in [["a", "b"], ["x", "b"], ["a", "x"]] {
+        let properties = list(alloc, property(alloc, texts)?)?;
+        made.push(Properties(properties))?;
+    }
+    assert!(rt; all_differ(alloc, made.as_slice())?);
     Ok(())
 }
 
@@ -323,19 +331,34 @@ fn signers(rt: HostRuntime) -> Result<(), Fail> {
     Ok(())
 }
 
+// A signature of one signer with the given value, as a chain or side by side.
+fn of_one(alloc: Global, is_chain: bool, value: &str) -> Result<Signature, AllocError> {
+    let signers = list(alloc, Signer::new(alloc, "ES256", value)?)?;
+    if is_chain {
+        return Ok(Signature::chain(signers));
+    }
+    Ok(Signature::signers(signers))
+}
+
 #[test]
 fn signatures(rt: HostRuntime) -> Result<(), Fail> {
     let alloc = rt.alloc();
-    let mut made = list(alloc, Signature::single(alloc, "ES256", "1")?)?;
-    made.push(Signature::chain(List::new(alloc)))?;
-    made.push(Signature::signers(List::new(alloc)))?;
-    for (algorithm, value) in [("ES256", "1"), ("HS512", "1")] {
-        made.push(Signature::chain(list(alloc, Signer::new(alloc, algorithm, value)?)?))?;
-        made.push(Signature::signers(list(alloc, Signer::new(alloc, algorithm, value)?)?))?;
+    let mut made = list(alloc, Signature::single(alloc, "ES256", "v")?)?;
+    for (is_chain, value) in [(true, "v"), (false, "v"), (true, "x"), (false, "x")] {
+        made.push(of_one(alloc, is_chain, value)?)?;
     }
     assert!(rt; all_differ(alloc, made.as_slice())?);
-    let single = Signature::Single(Signer::new(alloc, "ES256", "1")?);
+    let single = Signature::Single(Signer::new(alloc, "ES256", "v")?);
     assert!(rt; equals_only(&single, 0, made.as_slice()));
+    Ok(())
+}
+
+#[test]
+fn empty_signatures(rt: HostRuntime) -> Result<(), Fail> {
+    let alloc = rt.alloc();
+    let mut made = list(alloc, Signature::chain(List::new(alloc)))?;
+    made.push(Signature::signers(List::new(alloc)))?;
+    assert!(rt; all_differ(alloc, made.as_slice())?);
     Ok(())
 }
 
@@ -452,10 +475,18 @@ fn expressions(rt: HostRuntime) -> Result<(), Fail> {
     let expression = Expression::new(alloc, "MIT")?;
     assert!(rt; is_absent(&expression.bom_ref));
     assert_eq!(rt; expression.expression.as_str(), "MIT");
-    let mut made = list(alloc, Licenses(List::new(alloc)))?;
-    made.push(Licenses(list(alloc, LicenseChoice::Expression(expression))?))?;
+    Ok(())
+}
+
+#[test]
+fn choices(rt: HostRuntime) -> Result<(), Fail> {
+    let alloc = rt.alloc();
+    let mut made = List::new(alloc);
+    made.push(LicenseChoice::Expression(Expression::new(alloc, "MIT")?))?;
     let license = license(alloc, ["-", "MIT", "-", "-", "-", "-"])?;
-    made.push(Licenses(list(alloc, LicenseChoice::License(license))?))?;
+    made.push(LicenseChoice::License(license))?;
     assert!(rt; all_differ(alloc, made.as_slice())?);
+    let lists = list(alloc, Licenses(made))?;
+    assert!(rt; all_differ(alloc, lists.as_slice())?);
     Ok(())
 }
