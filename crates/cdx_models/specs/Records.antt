@@ -1,5 +1,5 @@
 -- The trees of the leaf records, a field for each row of the schema and in its order.
-use Rattle.std.specs.Prelude.{◌≡◌, refl, false, List, [], ◌∷◌, Option}
+use Rattle.std.specs.Prelude.{◌≡◌, refl, false, [], ◌∷◌}
 use Rattle.cdx_models.specs.Trees.{hash, property, attached_text, contact, entity, reference, dependency, composition, license, expression, spdx_id, license_name, tool, signer, signers, chain, Tree, text, fields, trees, one, present, list_tree, is_absent}
 use Rattle.cdx_models.specs.Addresses.{uri_text}
 use Rattle.cdx_models.specs.Signatures.{algorithm_name}
