@@ -1,10 +1,9 @@
 -- No answer of documents holds a float.
-use Rattle.std.proofs.Common.{◌≡◌, ℕ, suc, List, [], ◌∷◌, map, codes, Bool, true, false, ◌||◌, cond, Option, Some, None, Result, Ok, Err, Ordering, Less, Equal, Greater, refl, sym, ap, subst, ◌∙◌}
+use Rattle.std.proofs.Common.{◌≡◌, ℕ, suc, List, [], ◌∷◌, map, codes, Bool, true, false, ◌||◌, cond, Option, Some, None, Result, Ok, Err, Ordering, Less, Equal, Greater, refl, sym, ap, subst}
 use Rattle.std.specs.Ordering.{nat_cmp, match_ordering}
 use Rattle.std.specs.Cmp.Lexicographic.{slice_cmp}
 use Rattle.std.proofs.lemmas.Option.{none-some}
-use Rattle.serde_json.specs.Data.{Num, unsigned, negative, float, Data, null, boolean, number, string, array, object, Items, no_items, item, Members, no_members, member, put}
-use Rattle.serde_json.specs.Find.{is_float}
+use Rattle.serde_json.specs.Data.{unsigned, negative, float, Data, null, boolean, number, string, array, object, Items, no_items, item, Members, no_members, member, put}
 use Rattle.serde_json.specs.View.{items_of}
 use Rattle.serde_json.specs.Written.{has_float, items_have_float, members_have_float}
 use Rattle.cdx_events.specs.Nodes.{document}
@@ -18,14 +17,14 @@ use Rattle.cdx_models.specs.Trees.{Tree}
 use Rattle.cdx_schema.specs.Faults.{to_member, to_item}
 use Rattle.cdx_schema.specs.Kinds.{a_bill}
 use Rattle.cdx_schema.specs.Results.{◌>>=◌}
-use Rattle.cdx_schema.specs.JsonReading.{first_float, float_of_items, float_of_members, float_in, or_else, behind}
+use Rattle.cdx_schema.specs.JsonReading.{first_float, float_of_items, float_of_members, or_else, behind}
 use Rattle.cdx_schema.specs.JsonSpelling.{jspell}
 use Rattle.cdx_schema.specs.XmlSpelling.{root}
 use Rattle.cdx_schema.specs.Keeping.{keep}
 use Rattle.cdx_schema.specs.Trips.{Form, in_json, in_xml, Hop}
-use Rattle.cdx_schema.specs.Roads.{Doc, Refusal, denotes, written, fits_all, hops_from, road}
+use Rattle.cdx_schema.specs.Roads.{Doc, denotes, written, fits_all, hops_from}
 use Rattle.cdx_schema.specs.EventValues.{with_text, named, attribute_value, with_attributes, event_value}
-use Rattle.cdx_schema.specs.Replies.{doc_value, documents_answer}
+use Rattle.cdx_schema.specs.Replies.{doc_value}
 use Rattle.cdx_schema.specs.Served.{NoFloats}
 use Rattle.cdx_schema.proofs.NoFloats.{no_float}
 

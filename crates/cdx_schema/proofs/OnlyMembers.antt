@@ -1,5 +1,5 @@
 -- Objects of which all members are known.
-use Rattle.std.proofs.Common.{arith, ◌≡◌, ℕ, zero, suc, List, [], ◌∷◌, length, Bool, true, false, not, ◌&&◌, Option, Some, None, Ordering, Less, Equal, Greater, is_eq, refl, sym, ap, subst, ◌∙◌, true≢false}
+use Rattle.std.proofs.Common.{arith, ◌≡◌, ℕ, suc, List, [], ◌∷◌, length, Bool, true, false, not, ◌&&◌, Option, Some, None, Ordering, Less, Equal, Greater, is_eq, refl, sym, ap, ◌∙◌, true≢false}
 use Rattle.std.specs.Ordering.{nat_cmp, match_ordering}
 use Rattle.std.specs.Cmp.Lexicographic.{slice_cmp}
 use Rattle.std.specs.Str.{bytes_eq}
@@ -11,7 +11,7 @@ use Rattle.serde_json.specs.Find.{get_member}
 use Rattle.serde_json.specs.Events.{members_len}
 use Rattle.cdx_models.specs.declared.errors.Step.{Step}
 use Rattle.cdx_schema.specs.Faults.{to_member}
-use Rattle.cdx_schema.specs.JsonReading.{first_float, float_of_members, or_else, behind, Found, nothing, found, as_found, seen, jread}
+use Rattle.cdx_schema.specs.JsonReading.{first_float, float_of_members, or_else, behind, Found, nothing, as_found, seen, jread}
 
 -- the members without the first of a name
 abbrev without : List ℕ → Members → Members

@@ -1,5 +1,5 @@
 -- A document of the first form denotes its bill.
-use Rattle.std.proofs.Common.{◌≡◌, ℕ, ◌+◌, ◌<◌, ◌^◌, List, [], ◌∷◌, length, Bool, true, false, ◌&&◌, codes, eqb, eqb-true, ltb, cond, Option, Some, None, Result, Ok, Err, ◌⊎◌, inl, inr, refl, sym, ap, subst, ◌∙◌}
+use Rattle.std.proofs.Common.{◌≡◌, ℕ, ◌+◌, ◌<◌, ◌^◌, List, [], ◌∷◌, length, Bool, true, false, ◌&&◌, codes, eqb, eqb-true, ltb, cond, Option, Some, None, Ok, ◌⊎◌, inl, inr, refl, sym, ap, subst, ◌∙◌}
 use Rattle.std.specs.Option.{option_and_then}
 use Rattle.std.specs.Str.{bytes_eq}
 use Rattle.std.proofs.lemmas.Option.{option_and_then_some, cond_some, none-some, same_Some}
@@ -13,12 +13,12 @@ use Rattle.cdx_models.specs.declared.bom.SpecVersion.{SpecVersion}
 use Rattle.cdx_models.specs.declared.bom.SpecVersion.TheVariants.{V1_3, V1_4, V1_5}
 use Rattle.cdx_models.specs.Versions.{version_of, label, is_label}
 use Rattle.cdx_models.specs.Trees.{Tree, absent, text}
-use Rattle.cdx_schema.specs.Kinds.{a_text, a_bill}
+use Rattle.cdx_schema.specs.Kinds.{a_text}
 use Rattle.cdx_schema.specs.Kinds.{Row}
 use Rattle.cdx_schema.specs.Table.{rows, at}
 use Rattle.cdx_schema.specs.Depth.{top}
-use Rattle.cdx_schema.specs.JsonReading.{Object, Found, nothing, found, jread, seen, bill_read, rows_read, found_read, first_float, float_of_members, json_denotes}
-use Rattle.cdx_schema.specs.Requests.{member_count, text_at, version_at, u32_at, if_u32, is_text, has_text, plain, serial_read, how_many, plain_parts, plain_bill}
+use Rattle.cdx_schema.specs.JsonReading.{Object, nothing, found, jread, seen, bill_read, rows_read, found_read, first_float, float_of_members, json_denotes}
+use Rattle.cdx_schema.specs.Requests.{member_count, version_at, u32_at, if_u32, is_text, has_text, plain, serial_read, how_many, plain_parts, plain_bill}
 use Rattle.cdx_schema.proofs.OnlyMembers.{Named, Has, Differ, is_other, no_float_among, no_other, found_of, seen_is}
 
 text_is : (s : List ℕ) (o : Option Data) → is_text s (option_and_then as_str o) ≡ true → o ≡ Some (string s)

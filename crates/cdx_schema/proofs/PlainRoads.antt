@@ -1,22 +1,21 @@
 -- The road of a request of the first form.
-use Rattle.std.proofs.Common.{◌≡◌, ℕ, zero, suc, ◌+◌, ◌<◌, ◌^◌, List, [], ◌∷◌, length, map, take, codes, Bool, true, false, not, ◌||◌, ◌&&◌, cond, eqb, Option, Some, None, option_map, is_some, Result, Ok, refl, sym, ap, subst, ◌∙◌, add-one, ◌⊎◌, inl, inr}
+use Rattle.std.proofs.Common.{◌≡◌, ℕ, ◌<◌, ◌^◌, List, [], ◌∷◌, map, codes, Bool, true, false, not, ◌||◌, ◌&&◌, cond, eqb, Option, Some, None, option_map, is_some, Ok, refl, sym, ap, subst, ◌∙◌}
 use Rattle.std.specs.Option.{option_and_then}
 use Rattle.std.proofs.lemmas.Option.{option_and_then_some, none-some, same_Some}
 use Rattle.std.proofs.lemmas.Bool.{lt-ltb}
 use Rattle.serde_json.specs.Data.{Data, Items, no_items, item}
-use Rattle.serde_json.specs.Find.{get, as_array, as_str}
+use Rattle.serde_json.specs.Find.{get, as_array}
 use Rattle.cdx_models.specs.declared.bom.SpecVersion.{SpecVersion}
 use Rattle.cdx_models.specs.declared.bom.SpecVersion.TheVariants.{V1_3, V1_4, V1_5}
 use Rattle.cdx_models.specs.Versions.{is_first}
 use Rattle.cdx_models.specs.Trees.{Tree}
 use Rattle.cdx_schema.specs.Kinds.{a_bill}
 use Rattle.cdx_schema.specs.Table.{rows}
-use Rattle.cdx_schema.specs.Keeping.{kept, keep, has_versions}
-use Rattle.cdx_schema.specs.JsonReading.{json_denotes}
+use Rattle.cdx_schema.specs.Keeping.{kept, has_versions}
 use Rattle.cdx_schema.specs.JsonSpelling.{jspell}
-use Rattle.cdx_schema.specs.Trips.{in_json, settled, Hop, trips, last_of, lowest_of}
-use Rattle.cdx_schema.specs.Roads.{Doc, json, xml, denotes, from_json, written, fits_all, hops_from, road}
-use Rattle.cdx_schema.specs.Requests.{Request, member_count, text_at, has_text, is_text, recent_at, plain, plain_bill, if_plain, doc_of, json_hop, hop_of, hops_of, request_parts, request_of}
+use Rattle.cdx_schema.specs.Trips.{Hop}
+use Rattle.cdx_schema.specs.Roads.{Doc, json, denotes, from_json, fits_all, hops_from, road}
+use Rattle.cdx_schema.specs.Requests.{Request, member_count, has_text, recent_at, plain, plain_bill, if_plain, doc_of, json_hop, hop_of, hops_of, request_parts, request_of}
 use Rattle.cdx_schema.proofs.PlainBills.{IsSerial, no_serial, a_serial, plain_denotes}
 
 -- ---- a plain bill

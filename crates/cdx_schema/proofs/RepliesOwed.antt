@@ -1,16 +1,15 @@
 -- The reply to bytes, and the request that they are.
-use Rattle.std.proofs.Common.{◌≡◌, ℕ, ◌≤◌, List, length, map, codes, Bool, true, false, cond, ltb, Option, Some, None, Result, Ok, Err, refl, sym, ap, subst, ◌∙◌}
+use Rattle.std.proofs.Common.{◌≡◌, ℕ, List, length, codes, Bool, true, false, cond, ltb, Option, Some, None, Result, Ok, Err, refl, sym, ap, subst, ◌∙◌}
 use Rattle.std.specs.Option.{option_and_then}
 use Rattle.std.proofs.lemmas.Option.{option_and_then_some, none-some}
 use Rattle.std.proofs.lemmas.Bool.{le-ltb}
 use Rattle.serde_json.specs.Data.{Data}
 use Rattle.serde_json.specs.Find.{get}
-use Rattle.cdx_models.specs.Trees.{Tree}
 use Rattle.cdx_schema.specs.Laws.{LeadsFrom}
 use Rattle.cdx_schema.specs.Trips.{Hop}
 use Rattle.cdx_schema.specs.Roads.{Doc, Refusal, from_json, denotes, fits_all, hops_from, road}
-use Rattle.cdx_schema.specs.Requests.{Request, plain, json_hop, json_of, request_of, request_in}
-use Rattle.cdx_schema.specs.Replies.{Reply, refused, line_of, documents_answer, reply_to, reply_to_value, reply_to_request, reply_to_road, limit}
+use Rattle.cdx_schema.specs.Requests.{Request, plain, json_of, request_of, request_in}
+use Rattle.cdx_schema.specs.Replies.{Reply, refused, line_of, documents_answer, reply_to_value, reply_to_request, reply_to_road, limit}
 use Rattle.cdx_schema.specs.Served.{IsValid, Serves, FormLaw, ReplyLaw, ValidLaw}
 use Rattle.cdx_schema.proofs.AnswerFloats.{bound, same_ok}
 use Rattle.cdx_schema.proofs.PlainBills.{parts, plain_denotes}

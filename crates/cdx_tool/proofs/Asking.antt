@@ -1,14 +1,14 @@
 -- A value read part by part is a request of the first form.
-use Rattle.std.proofs.Common.{◌≡◌, ℕ, List, Bool, true, false, codes, cond, eqb, Option, Some, None, is_some, option_map, refl, sym, ap, ◌∙◌}
+use Rattle.std.proofs.Common.{◌≡◌, List, Bool, true, false, codes, cond, eqb, Option, Some, None, is_some, option_map, refl}
 use Rattle.std.specs.Option.{option_and_then}
-use Rattle.std.proofs.lemmas.Option.{option_and_then_some, none-some, same_Some}
+use Rattle.std.proofs.lemmas.Option.{none-some}
 use Rattle.serde_json.specs.Data.{Data}
 use Rattle.serde_json.specs.Find.{get}
 use Rattle.cdx_models.specs.declared.bom.SpecVersion.{SpecVersion}
 use Rattle.cdx_models.specs.Trees.{Tree}
 use Rattle.cdx_schema.specs.Trips.{Hop}
 use Rattle.cdx_schema.specs.Roads.{Doc, json}
-use Rattle.cdx_schema.specs.Requests.{Request, member_count, recent_at, plain_bill, if_plain, doc_of, request_parts, request_of}
+use Rattle.cdx_schema.specs.Requests.{Request, member_count, recent_at, plain_bill, if_plain, doc_of, request_of}
 use Rattle.cdx_tool.specs.Asked.{inner_of, doc_in, hops_in, shown}
 
 abbrev docs_in : Data → Option Doc

@@ -1,5 +1,5 @@
 -- The documents of a request of the first form.
-use Rattle.std.proofs.Common.{◌≡◌, ℕ, ◌<◌, ◌^◌, List, [], ◌∷◌, map, false, codes, Option, Some, None, option_map, Result, Ok, refl, sym, ap, subst, ◌∙◌}
+use Rattle.std.proofs.Common.{◌≡◌, ℕ, ◌<◌, ◌^◌, List, [], ◌∷◌, map, false, Option, Some, None, option_map, Ok, refl, sym, ap, subst, ◌∙◌}
 use Rattle.std.proofs.lemmas.Option.{none-some, same_Some}
 use Rattle.serde_json.specs.Data.{Data, string}
 use Rattle.serde_json.specs.Written.{has_float}
@@ -8,8 +8,8 @@ use Rattle.cdx_models.specs.declared.bom.UrnUuid.{UrnUuid}
 use Rattle.cdx_models.specs.Trees.{Tree, number, fields, more}
 use Rattle.cdx_schema.specs.Trips.{Hop}
 use Rattle.cdx_schema.specs.Roads.{Doc, json, xml, from_json, denotes, road}
-use Rattle.cdx_schema.specs.Requests.{Request as Asked, plain, plain_bill, json_hop}
-use Rattle.cdx_schema.specs.Replies.{Reply, line_of, documents_answer, reply_to_request}
+use Rattle.cdx_schema.specs.Requests.{Request as Asked, plain_bill, json_hop}
+use Rattle.cdx_schema.specs.Replies.{line_of, documents_answer, reply_to_request}
 use Rattle.cdx_schema.specs.Served.{NoFloats}
 use Rattle.cdx_schema.proofs.PlainBills.{IsSerial, no_serial, a_serial, parts, plain_denotes}
 use Rattle.cdx_schema.proofs.PlainRoads.{doc_under, under_denotes, plain_road}

@@ -1,13 +1,11 @@
 -- Replies to requests, and how a run ends.
-use Rattle.std.proofs.Common.{◌≡◌, ℕ, ◌≤◌, ◌<◌, List, [], ◌++◌, length, take, codes, Bool, true, false, ltb, cond, Option, Some, None, Result, Ok, Err, ◌⊎◌, inl, inr, IfSome, refl, sym, ap, subst, ◌∙◌, arith}
+use Rattle.std.proofs.Common.{◌≡◌, ℕ, ◌≤◌, ◌<◌, List, [], length, codes, Bool, true, false, Option, Some, None, ◌⊎◌, inl, inr, refl, sym, ap, subst, ◌∙◌, arith}
 use Rattle.std.specs.Io.KnownBytes.{Appends, Keeps, Consumes, IsAtEnd}
-use Rattle.std.proofs.lemmas.Option.{same_Some}
-use Rattle.std.proofs.lemmas.Bool.{lt-ltb, ltb-true}
+use Rattle.std.proofs.lemmas.Bool.{lt-ltb}
 use Rattle.std.proofs.lemmas.List.{length-append}
-use Rattle.serde_json.specs.Data.{Data}
-use Rattle.cdx_schema.specs.Roads.{Doc, Refusal, road}
-use Rattle.cdx_schema.specs.Requests.{Request, request_of, request_in, json_of}
-use Rattle.cdx_schema.specs.Replies.{Reply, line_of, documents_answer, refused, reply_to, reply_to_value, reply_to_request, reply_to_road, limit}
+use Rattle.cdx_schema.specs.Roads.{Doc, road}
+use Rattle.cdx_schema.specs.Requests.{Request, request_in}
+use Rattle.cdx_schema.specs.Replies.{Reply, line_of, documents_answer, refused, reply_to, limit}
 use Rattle.cdx_schema.specs.Served.{Serves, FormLaw, ReplyLaw, ValidLaw}
 use Rattle.cdx_tool.specs.Run.{Tells, Ends, reply_for}
 

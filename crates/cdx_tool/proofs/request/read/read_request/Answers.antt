@@ -1,4 +1,4 @@
-use Rattle.std.proofs.Common.{◌≡◌, List, Some, None, is_some, not, map, option_map, refl, sym, ap, ◌∙◌}
+use Rattle.std.proofs.Common.{is_some, not, map, option_map, sym, ap, ◌∙◌}
 use Rattle.serde_json.specs.View.{view}
 use Rattle.cdx_schema.specs.Requests.{json_hop}
 use Rattle.cdx_tool.specs.Bill.{tree_of}
