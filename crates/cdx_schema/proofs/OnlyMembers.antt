@@ -37,6 +37,7 @@ clear q x (member l e ms) h f g = by (slice_cmp nat_cmp q l) h g (clear q x ms)
     both : (a b : Option (List Step)) → or_else a b ≡ None → (a ≡ None) × (b ≡ None)
     both None b h = (refl, h)
     both (Some a) b h = absurd (none-some a (sym h))
+
     by : (o : Ordering) → match_ordering o (get_member q ms) (Some e) (get_member q ms) ≡ Some x
         → float_of_members (match_ordering o (member l e (without q ms)) ms (member l e (without q ms))) ≡ None
         → (get_member q ms ≡ Some x → first_float x ≡ None → float_of_members (without q ms) ≡ None → float_of_members ms ≡ None)
@@ -60,10 +61,12 @@ stays q r (member l e ms) h = by (slice_cmp nat_cmp q l) (slice_cmp nat_cmp r l)
     next Less a b p = p
     next Equal a b p = refl
     next Greater a b p = p
+
     past : (o : Ordering) → slice_cmp nat_cmp q l ≡ Equal → slice_cmp nat_cmp r l ≡ o → get_member r ms ≡ match_ordering o (get_member r ms) (Some e) (get_member r ms)
     past Less p s = refl
     past Equal p s = absurd (differ q r h (same_name q l p ∙ sym (same_name r l s)))
     past Greater p s = refl
+
     by : (o s : Ordering) → slice_cmp nat_cmp q l ≡ o → slice_cmp nat_cmp r l ≡ s → get_member r (without q ms) ≡ get_member r ms
         → get_member r (match_ordering o (member l e (without q ms)) ms (member l e (without q ms))) ≡ match_ordering s (get_member r ms) (Some e) (get_member r ms)
     by Less s p t k = rw t (next s _ _ k)

@@ -3,7 +3,6 @@
 #![tactic(auto)]
 
 pub mod laws;
-
 mod replies;
 
 pub use replies::{form_law, no_floats, reply_law, valid_law};
