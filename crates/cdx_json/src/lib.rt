@@ -1,0 +1,6 @@
+//! The leaf records in JSON.
+#![tactic(auto)]
+
+pub mod depth;
+pub mod fault;
+pub mod traits;
