@@ -1,15 +1,16 @@
 -- The reading of a record, so that each row's reading is one word. It is `record_read`.
-use Rattle.std.specs.Prelude.{◌≡◌, ℕ, List, [], ◌∷◌, if◌then◌else◌, Result, Ok, Err}
+use Rattle.std.specs.Prelude.{◌≡◌, ℕ, List, [], ◌∷◌, if◌then◌else◌, Result, Ok, codes}
+use Rattle.serde_json.specs.Data.{Items, Members}
 use Rattle.cdx_models.specs.declared.bom.SpecVersion.{SpecVersion}
 use Rattle.cdx_models.specs.declared.bom.SpecVersion.TheVariants.{V1_3, V1_4, V1_5}
 use Rattle.cdx_models.specs.Versions.{knows}
-use Rattle.cdx_models.specs.Trees.{Name, Tree, absent, fields, Trees, none, more}
+use Rattle.cdx_models.specs.Trees.{Name, Tree, absent, items, fields, Trees, none, more}
 use Rattle.cdx_schema.specs.Kinds.{Lists, Kind, a_text, a_record, a_reference, a_license_identifier, Member, member, merged, Need, Row}
 use Rattle.cdx_schema.specs.Table.{rows, list}
 use Rattle.cdx_schema.specs.Depth.{Depth}
 use Rattle.cdx_schema.specs.Results.{◌>>=◌}
 use Rattle.cdx_schema.specs.Faults.{to_member, wrong_kind, JsonFault, under, here}
-use Rattle.cdx_schema.specs.JsonReading.{Object, Found, nothing, a_null, found, when_nothing, when_null, no_own, identifier_read}
+use Rattle.cdx_schema.specs.JsonReading.{Object, Found, nothing, a_null, found, when_nothing, when_null, no_own, identifier_read, signature_read, choice_read, is_lone_license, seen, items_read}
 
 -- JSON does not tell a reference from a text.
 abbrev pub plain : Kind → Kind
@@ -68,3 +69,15 @@ own_made o v d k = here wrong_kind
 
 abbrev pub by_rows : Name → Object → SpecVersion → Depth → Result Tree JsonFault
 by_rows n o v d = rows_made o (own_made o v d) (rows n) v d (named n)
+
+-- ---- the other objects and arrays
+
+unfoldable pub signature_of : Object → SpecVersion → Depth → Result Tree JsonFault
+signature_of o v d = signature_read (o (codes "signers")) o v d
+
+unfoldable pub choice_of : Members → SpecVersion → Depth → Result Tree JsonFault
+choice_of ms v d = choice_read (is_lone_license ms) (seen ms) v d
+
+-- the items of an array as a list
+abbrev pub list_read : Items → SpecVersion → Kind → Depth → Result Tree JsonFault
+list_read xs v k d = items_read xs v k d 0 >>= λ ts. Ok (items ts)

@@ -1,5 +1,7 @@
 -- What a reader and a writer answer.
-use Rattle.std.specs.Prelude.{◌≡◌, List, [], ◌∷◌, Result, Ok, Err, Bool, true, false}
+use Rattle.std.specs.Prelude.{◌≡◌, List, [], ◌∷◌, Option, Some, None, Result, Ok, Err, if◌then◌else◌, Bool, true, false}
+use Rattle.serde_json.specs.Data.{Data}
+use Rattle.serde_json.specs.Data as json
 use Rattle.cdx_models.specs.declared.errors.Step.{Step}
 use Rattle.cdx_models.specs.declared.errors.JsonKind.{JsonKind}
 use Rattle.cdx_models.specs.declared.errors.JsonReadError.{JsonReadError}
@@ -57,3 +59,16 @@ abbrev pub is_found : Found → Bool
 is_found nothing = false
 is_found a_null = false
 is_found (found read) = true
+
+abbrev pub is_null : Data → Bool
+is_null json.null = true
+is_null (json.boolean b) = false
+is_null (json.number n) = false
+is_null (json.string s) = false
+is_null (json.array xs) = false
+is_null (json.object ms) = false
+
+-- a member that is there and not null
+abbrev pub non_null : Option Data → Option Data
+non_null None = None
+non_null (Some x) = if is_null x then None else Some x

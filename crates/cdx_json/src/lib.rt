@@ -3,4 +3,6 @@
 
 pub mod depth;
 pub mod fault;
+pub mod reading;
 pub mod traits;
+pub mod writing;

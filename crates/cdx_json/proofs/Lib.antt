@@ -1,0 +1,6 @@
+pub mod ByRowsLaws
+pub mod Rows
+pub mod Values
+pub mod Loops
+pub mod KeptRowsLaws
+pub mod Spelled
