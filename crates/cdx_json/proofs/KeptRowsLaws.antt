@@ -1,5 +1,5 @@
 -- What is kept and written by rows is what the schema keeps and writes.
-use Rattle.std.proofs.Common.{◌≡◌, Bool, true, false, ◌&&◌, not, if◌then◌else◌, List, [], ◌∷◌, refl, sym, ap, ◌∙◌}
+use Rattle.std.proofs.Common.{◌≡◌, Bool, true, false, Result, Ok, Err, IfOk, ◌&&◌, not, if◌then◌else◌, List, [], ◌∷◌, refl, sym, ap, ◌∙◌}
 use Rattle.serde_json.specs.Data.{Data, put, Members, no_members, object}
 use Rattle.cdx_models.specs.declared.bom.SpecVersion.{SpecVersion}
 use Rattle.cdx_models.specs.declared.bom.SpecVersion.TheVariants.{V1_3, V1_4, V1_5}
@@ -106,3 +106,7 @@ record_object n w ts h = ap object (rows_put_are ts w (rows n) no_members) ∙ r
 
 pub record_put : (n : Name) (w : SpecVersion) (t : Tree) → IsPlain n t → object (rows_put (parts t) w (rows n) no_members) ≡ jspell (keep w t (a_record n)) w (a_record n)
 record_put n w t p = record_object n w (parts t) p.1 ∙ ap (λ u. jspell u w (a_record n)) (record_kept w w n (parts t) ∙ ap (λ u. kept w w u (a_record n)) (sym p.0))
+
+pub record_is_kept : {A E : Type 0} (see : A → Tree) (r : Result A E) (w l : SpecVersion) (n : Name) (t : Tree) → IsPlain n t → IfOk r (λ x. see x ≡ fields n (rows_held w l (parts t) (rows n))) → IfOk r (λ x. see x ≡ kept w l t (a_record n))
+record_is_kept see (Ok x) w l n t p h = h ∙ record_held w l n t p.0
+record_is_kept see (Err m) w l n t p h = tt

@@ -1,5 +1,5 @@
 -- What the writers build is the spelling of what is kept.
-use Rattle.std.proofs.Common.{◌≡◌, Bool, true, false, ℕ, ◌≤◌, if◌then◌else◌, Option, Some, None, Result, Ok, Err, OnOk, List, [], ◌∷◌, length, map, take, Vec, Global, BTreeMap, String, refl, sym, ap, ◌∙◌, arith}
+use Rattle.std.proofs.Common.{◌≡◌, Bool, true, false, ℕ, ◌≤◌, IfOk, if◌then◌else◌, Option, Some, None, Result, Ok, Err, OnOk, List, [], ◌∷◌, length, map, take, Vec, Global, BTreeMap, String, refl, sym, ap, ◌∙◌, arith}
 use Rattle.std.proofs.lemmas.List.{take_all}
 use Rattle.serde_json.specs.Data.{Data, put, Items, no_items, item, array, Members, no_members, object}
 use Rattle.serde_json.specs.View.{view, items_of, members_view}
@@ -160,3 +160,7 @@ late_kept_else s w b t is e = ap (λ c. if c then t else absent) (sym e ∙ is)
 pub absent_kept : {A : Type 0} (f : A → Tree) (k : Kind) (w l : SpecVersion) → present f None ≡ kept w l (present f None) k
 unfolding kept
 absent_kept f k w l = refl
+
+pub late_kept_ok : {A E : Type 0} (see : A → Tree) (r : Result A E) (s w : SpecVersion) (b : Bool) (t : Tree) → b ≡ knows s w → b ≡ true → IfOk r (λ x. see x ≡ t) → IfOk r (λ x. see x ≡ late_kept s w t)
+late_kept_ok see (Ok x) s w b t is e h = late_kept_then s w b t (see x) is e h
+late_kept_ok see (Err m) s w b t is e h = tt
