@@ -105,7 +105,7 @@ put_when : (name : List ℕ) (k : Kind) (t : Tree) (w : SpecVersion) (ms : Membe
 unfolding put_kept
 put_when name k t w ms e = ap (λ b. if b then ms else put name (jspell (keep w t k) w k) ms) e
 
-on_ok : {A E P Q : Type 0} (r : Result A E) → (P → Q) → OnOk r P → OnOk r Q
+pub on_ok : {A E P Q : Type 0} (r : Result A E) → (P → Q) → OnOk r P → OnOk r Q
 on_ok (Ok x) f h = f h
 on_ok (Err e) f h = tt
 

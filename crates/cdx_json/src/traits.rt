@@ -40,7 +40,7 @@ pub trait FromJson: Kinded {
 
     /// What the value denotes in a version outside all components and services, or its first fault. The fault's path
     /// is counted from the value. Only where memory runs out the answer is `Memory` instead.
-    fn from_json(
+    final fn from_json(
         alloc: Global,
         value: &Value,
         version: SpecVersion,
@@ -63,7 +63,7 @@ pub trait Kept: Kinded {
         ensures { IfOk result (λ r. Self.tree r ≡ kept version label (Self.tree self.now) Self.kind) };
 
     /// What a version keeps of it: the fields that the version doesn't know are gone. Only want of memory is refused.
-    fn kept(&self, alloc: Global, version: SpecVersion) -> Result<Self, AllocError>
+    final fn kept(&self, alloc: Global, version: SpecVersion) -> Result<Self, AllocError>
         ensures { IfOk result (λ r. Self.tree r ≡ keep version (Self.tree self.now) Self.kind) }
     {
         self.kept_as(alloc, version, version)
@@ -81,7 +81,7 @@ pub trait ToJson: Kept {
             (λ v. view v ≡ jspell (keep version (Self.tree self.now) Self.kind) version Self.kind) };
 
     /// The spelling of what the version keeps. Only want of memory is refused, as `Memory`.
-    fn to_json(&self, alloc: Global, version: SpecVersion) -> Result<Value, JsonWriteError>
+    final fn to_json(&self, alloc: Global, version: SpecVersion) -> Result<Value, JsonWriteError>
         ensures { Makes result
             (λ v. view v ≡ jspell (keep version (Self.tree self.now) Self.kind) version Self.kind) }
     {
@@ -94,7 +94,7 @@ pub trait ToJson: Kept {
 
 /// A record that is read, kept and written row by row. `read_record`, `keep_record` and `write_record` make of it the
 /// readings, keepings and spellings of the schema.
-pub trait Record: Kept {
+pub trait Record: HasTree {
     ghost name: { Name };
 
     /// The record whose members these are, or the first fault.
