@@ -164,3 +164,7 @@ absent_kept f k w l = refl
 pub late_kept_ok : {A E : Type 0} (see : A → Tree) (r : Result A E) (s w : SpecVersion) (b : Bool) (t : Tree) → b ≡ knows s w → b ≡ true → IfOk r (λ x. see x ≡ t) → IfOk r (λ x. see x ≡ late_kept s w t)
 late_kept_ok see (Ok x) s w b t is e h = late_kept_then s w b t (see x) is e h
 late_kept_ok see (Err m) s w b t is e h = tt
+
+pub if_ok : {A E : Type 0} {P Q : A → Type 0} (r : Result A E) → ((x : A) → P x → Q x) → IfOk r P → IfOk r Q
+if_ok (Ok x) f h = f x h
+if_ok (Err e) f h = tt
