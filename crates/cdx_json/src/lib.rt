@@ -2,6 +2,7 @@
 #![tactic(auto)]
 
 pub mod attached_text;
+pub mod bom;
 pub mod composition;
 pub mod dependency;
 pub mod depth;
@@ -30,3 +31,6 @@ pub use writing::{
     list_to_value, put_list, put_optional_list, put_optional_list_since, put_required,
     put_required_list, put_row, put_row_since, write_record,
 };
+
+#[cfg(test)]
+mod tests;
