@@ -1,4 +1,9 @@
 pub mod Versions
 pub mod Trees
+pub mod Same
+pub mod SameLaws
+pub mod Addresses
+pub mod Signatures
+pub mod Records
 pub mod Entries
 pub mod Path

@@ -1,9 +1,14 @@
 //! The version and the serial number of a bill.
 
-ghost use Rattle.std.specs.Prelude.{◌≡◌};
+ghost use Rattle.std.specs.Prelude.{◌≡◌, refl};
 ghost use Rattle.cdx_models.specs.Versions.{label, version_of, lowest, knows};
+ghost use Rattle.cdx_models.specs.Records.{urn_tree};
+ghost use Rattle.cdx_models.specs.Same.{same};
+ghost use Rattle.cdx_models.specs.SameLaws.{same_laws};
 
+use crate::tree::HasTree;
 use cdx_events::Text;
+use std::alloc::{AllocError, Global};
 
 /// A version of the format.
 #[derive(Clone, Copy, Debug, PartialEq, Eq)]
@@ -63,3 +68,27 @@ impl SpecVersion {
 /// A bill's serial number: a text, `urn:uuid:` and a UUID by CycloneDX, which isn't checked.
 #[derive(Debug, Drop)]
 pub struct UrnUuid(pub Text);
+
+impl HasTree for UrnUuid {
+    ghost tree = { urn_tree };
+
+    ghost there = { λ x. refl };
+
+    fn copy(&self, alloc: Global) -> Result<UrnUuid, AllocError> {
+        Ok(UrnUuid(self.0.copy(alloc)?))
+    }
+
+    fn same(&self, other: &UrnUuid) -> bool {
+        self.0.same(&other.0)
+    }
+}
+
+impl PartialEq for UrnUuid {
+    ghost eq = { λ a b. same (urn_tree a) (urn_tree b) };
+
+    ghost laws = { same_laws urn_tree };
+
+    fn eq(&self, other: &UrnUuid) -> bool {
+        self.same(other)
+    }
+}

@@ -1,0 +1,50 @@
+//! Texts that stand in a bill whole.
+
+ghost use Rattle.std.specs.Prelude.{refl};
+ghost use Rattle.cdx_models.specs.Records.{attached_text_tree};
+ghost use Rattle.cdx_models.specs.Same.{same};
+ghost use Rattle.cdx_models.specs.SameLaws.{same_laws};
+
+use crate::tree::{HasTree, copy_row, same_row};
+use cdx_events::Text;
+use std::alloc::{AllocError, Global};
+
+/// A text of a license, a diff or a SWID tag, as it stands in its source.
+#[derive(Debug, Drop)]
+pub struct AttachedText {
+    /// Its MIME type.
+    pub content_type: Option<Text>,
+    /// How `content` is encoded, as `base64`.
+    pub encoding: Option<Text>,
+    pub content: Text,
+}
+
+impl HasTree for AttachedText {
+    ghost tree = { attached_text_tree };
+
+    ghost there = { λ x. refl };
+
+    fn copy(&self, alloc: Global) -> Result<AttachedText, AllocError> {
+        Ok(AttachedText {
+            content_type: copy_row(alloc, &self.content_type)?,
+            encoding: copy_row(alloc, &self.encoding)?,
+            content: self.content.copy(alloc)?,
+        })
+    }
+
+    fn same(&self, other: &AttachedText) -> bool {
+        same_row(&self.content_type, &other.content_type)
+            && same_row(&self.encoding, &other.encoding)
+            && self.content.same(&other.content)
+    }
+}
+
+impl PartialEq for AttachedText {
+    ghost eq = { λ a b. same (attached_text_tree a) (attached_text_tree b) };
+
+    ghost laws = { same_laws attached_text_tree };
+
+    fn eq(&self, other: &AttachedText) -> bool {
+        self.same(other)
+    }
+}

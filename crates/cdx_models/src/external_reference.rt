@@ -1,0 +1,148 @@
+//! References to what stands outside the bill.
+
+ghost use Rattle.std.specs.Prelude.{◌≡◌, refl};
+ghost use Rattle.cdx_models.specs.Records.{uri_tree, reference_tree, references_tree};
+ghost use Rattle.cdx_models.specs.Addresses.{begins_as_bom_link, uri_of, uri_text};
+ghost use Rattle.cdx_models.specs.Same.{same};
+ghost use Rattle.cdx_models.specs.SameLaws.{same_laws};
+
+use crate::hash::Hashes;
+use crate::tree::{HasTree, copy_row, same_row};
+use cdx_events::{List, Text};
+use std::alloc::{AllocError, Global};
+
+/// The address of an external reference, kept as its text.
+#[derive(Debug, Drop)]
+pub enum Uri {
+    /// Any other address.
+    Url(Text),
+    /// A link to a bill or to a part of one, which begins with `urn:cdx:`.
+    BomLink(Text),
+}
+
+impl Uri {
+    /// The link to a bill exactly where the text begins with `urn:cdx:`, and else the plain address. It takes no memory.
+    pub fn from_text(text: Text) -> Uri
+        ensures { result ≡ uri_of text }
+    {
+        if is_bom_link(text.as_str()) {
+            Uri::BomLink(text)
+        } else {
+            Uri::Url(text)
+        }
+    }
+
+    /// The address's text. It takes no memory.
+    pub fn as_str(&self) -> &str
+        ensures { result.now ≡ uri_text self.now }
+    {
+        match self {
+            Uri::Url(text) => text.as_str(),
+            Uri::BomLink(text) => text.as_str(),
+        }
+    }
+}
+
+fn is_bom_link(text: &str) -> bool
+    ensures { result ≡ begins_as_bom_link text.now }
+{
+    text.starts_with("urn:cdx:")
+}
+
+impl HasTree for Uri {
+    ghost tree = { uri_tree };
+
+    ghost there = { λ x. refl };
+
+    fn copy(&self, alloc: Global) -> Result<Uri, AllocError> {
+        match self {
+            Uri::Url(text) => Ok(Uri::Url(text.copy(alloc)?)),
+            Uri::BomLink(text) => Ok(Uri::BomLink(text.copy(alloc)?)),
+        }
+    }
+
+    fn same(&self, other: &Uri) -> bool {
+        self.as_str() == other.as_str()
+    }
+}
+
+impl PartialEq for Uri {
+    ghost eq = { λ a b. same (uri_tree a) (uri_tree b) };
+
+    ghost laws = { same_laws uri_tree };
+
+    fn eq(&self, other: &Uri) -> bool {
+        self.same(other)
+    }
+}
+
+/// A resource outside the bill, as a website or a repository.
+#[derive(Debug, Drop)]
+pub struct ExternalReference {
+    /// What the resource is, as `website`.
+    pub external_reference_type: Text,
+    pub url: Uri,
+    pub comment: Option<Text>,
+    /// Hashes of the resource's content.
+    pub hashes: Option<Hashes>,
+}
+
+impl HasTree for ExternalReference {
+    ghost tree = { reference_tree };
+
+    ghost there = { λ x. refl };
+
+    fn copy(&self, alloc: Global) -> Result<ExternalReference, AllocError> {
+        Ok(ExternalReference {
+            external_reference_type: self.external_reference_type.copy(alloc)?,
+            url: self.url.copy(alloc)?,
+            comment: copy_row(alloc, &self.comment)?,
+            hashes: copy_row(alloc, &self.hashes)?,
+        })
+    }
+
+    fn same(&self, other: &ExternalReference) -> bool {
+        self.external_reference_type
+            .same(&other.external_reference_type)
+            && self.url.same(&other.url)
+            && same_row(&self.comment, &other.comment)
+            && same_row(&self.hashes, &other.hashes)
+    }
+}
+
+impl PartialEq for ExternalReference {
+    ghost eq = { λ a b. same (reference_tree a) (reference_tree b) };
+
+    ghost laws = { same_laws reference_tree };
+
+    fn eq(&self, other: &ExternalReference) -> bool {
+        self.same(other)
+    }
+}
+
+#[derive(Debug, Drop)]
+pub struct ExternalReferences(pub List<ExternalReference>);
+
+impl HasTree for ExternalReferences {
+    ghost tree = { references_tree };
+
+    ghost there = { λ x. refl };
+
+    fn copy(&self, alloc: Global) -> Result<ExternalReferences, AllocError> {
+        Ok(ExternalReferences(self.0.copy(alloc)?))
+    }
+
+    fn same(&self, other: &ExternalReferences) -> bool {
+        self.0.same(&other.0)
+    }
+}
+
+impl PartialEq for ExternalReferences {
+    ghost eq = { λ a b. same (references_tree a) (references_tree b) };
+
+    ghost laws = { same_laws references_tree };
+
+    fn eq(&self, other: &ExternalReferences) -> bool {
+        self.same(other)
+    }
+}

@@ -1,0 +1,100 @@
+//! Hashes of files.
+
+ghost use Rattle.std.specs.Prelude.{refl};
+ghost use Rattle.cdx_models.specs.Records.{hash_value_tree, hash_tree, hashes_tree};
+ghost use Rattle.cdx_models.specs.Same.{same};
+ghost use Rattle.cdx_models.specs.SameLaws.{same_laws};
+
+use crate::tree::HasTree;
+use cdx_events::{List, Text};
+use std::alloc::{AllocError, Global};
+
+/// The value of a hash, in hexadecimal digits by CycloneDX, which isn't checked.
+#[derive(Debug, Drop)]
+pub struct HashValue(pub Text);
+
+impl HasTree for HashValue {
+    ghost tree = { hash_value_tree };
+
+    ghost there = { λ x. refl };
+
+    fn copy(&self, alloc: Global) -> Result<HashValue, AllocError> {
+        Ok(HashValue(self.0.copy(alloc)?))
+    }
+
+    fn same(&self, other: &HashValue) -> bool {
+        self.0.same(&other.0)
+    }
+}
+
+impl PartialEq for HashValue {
+    ghost eq = { λ a b. same (hash_value_tree a) (hash_value_tree b) };
+
+    ghost laws = { same_laws hash_value_tree };
+
+    fn eq(&self, other: &HashValue) -> bool {
+        self.same(other)
+    }
+}
+
+/// A hash of a file.
+#[derive(Debug, Drop)]
+pub struct Hash {
+    /// The algorithm, as `SHA-256`.
+    pub alg: Text,
+    pub content: HashValue,
+}
+
+impl HasTree for Hash {
+    ghost tree = { hash_tree };
+
+    ghost there = { λ x. refl };
+
+    fn copy(&self, alloc: Global) -> Result<Hash, AllocError> {
+        Ok(Hash {
+            alg: self.alg.copy(alloc)?,
+            content: self.content.copy(alloc)?,
+        })
+    }
+
+    fn same(&self, other: &Hash) -> bool {
+        self.alg.same(&other.alg) && self.content.same(&other.content)
+    }
+}
+
+impl PartialEq for Hash {
+    ghost eq = { λ a b. same (hash_tree a) (hash_tree b) };
+
+    ghost laws = { same_laws hash_tree };
+
+    fn eq(&self, other: &Hash) -> bool {
+        self.same(other)
+    }
+}
+
+#[derive(Debug, Drop)]
+pub struct Hashes(pub List<Hash>);
+
+impl HasTree for Hashes {
+    ghost tree = { hashes_tree };
+
+    ghost there = { λ x. refl };
+
+    fn copy(&self, alloc: Global) -> Result<Hashes, AllocError> {
+        Ok(Hashes(self.0.copy(alloc)?))
+    }
+
+    fn same(&self, other: &Hashes) -> bool {
+        self.0.same(&other.0)
+    }
+}
+
+impl PartialEq for Hashes {
+    ghost eq = { λ a b. same (hashes_tree a) (hashes_tree b) };
+
+    ghost laws = { same_laws hashes_tree };
+
+    fn eq(&self, other: &Hashes) -> bool {
+        self.same(other)
+    }
+}

@@ -1,0 +1,72 @@
+//! Properties: names with values.
+
+ghost use Rattle.std.specs.Prelude.{refl};
+ghost use Rattle.cdx_models.specs.Records.{property_tree, properties_tree};
+ghost use Rattle.cdx_models.specs.Same.{same};
+ghost use Rattle.cdx_models.specs.SameLaws.{same_laws};
+
+use crate::tree::HasTree;
+use cdx_events::{List, Text};
+use std::alloc::{AllocError, Global};
+
+/// A name with a value, for what the format has no field for.
+#[derive(Debug, Drop)]
+pub struct Property {
+    /// It may be there more than once in a list.
+    pub name: Text,
+    pub value: Text,
+}
+
+impl HasTree for Property {
+    ghost tree = { property_tree };
+
+    ghost there = { λ x. refl };
+
+    fn copy(&self, alloc: Global) -> Result<Property, AllocError> {
+        Ok(Property {
+            name: self.name.copy(alloc)?,
+            value: self.value.copy(alloc)?,
+        })
+    }
+
+    fn same(&self, other: &Property) -> bool {
+        self.name.same(&other.name) && self.value.same(&other.value)
+    }
+}
+
+impl PartialEq for Property {
+    ghost eq = { λ a b. same (property_tree a) (property_tree b) };
+
+    ghost laws = { same_laws property_tree };
+
+    fn eq(&self, other: &Property) -> bool {
+        self.same(other)
+    }
+}
+
+#[derive(Debug, Drop)]
+pub struct Properties(pub List<Property>);
+
+impl HasTree for Properties {
+    ghost tree = { properties_tree };
+
+    ghost there = { λ x. refl };
+
+    fn copy(&self, alloc: Global) -> Result<Properties, AllocError> {
+        Ok(Properties(self.0.copy(alloc)?))
+    }
+
+    fn same(&self, other: &Properties) -> bool {
+        self.0.same(&other.0)
+    }
+}
+
+impl PartialEq for Properties {
+    ghost eq = { λ a b. same (properties_tree a) (properties_tree b) };
+
+    ghost laws = { same_laws properties_tree };
+
+    fn eq(&self, other: &Properties) -> bool {
+        self.same(other)
+    }
+}

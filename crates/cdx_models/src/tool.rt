@@ -1,0 +1,72 @@
+//! Tools that made a bill.
+
+ghost use Rattle.std.specs.Prelude.{◌≡◌, refl, None};
+ghost use Rattle.cdx_models.specs.Records.{tool_tree};
+ghost use Rattle.cdx_models.specs.Same.{same};
+ghost use Rattle.cdx_models.specs.SameLaws.{same_laws};
+
+use crate::external_reference::ExternalReferences;
+use crate::hash::Hashes;
+use crate::tree::{HasTree, copy_row, same_row};
+use cdx_events::Text;
+use std::alloc::{AllocError, Global};
+
+/// A tool that took part in making the bill.
+#[derive(Debug, Drop)]
+pub struct Tool {
+    pub vendor: Option<Text>,
+    pub name: Option<Text>,
+    pub version: Option<Text>,
+    pub hashes: Option<Hashes>,
+    /// Known from 1.4 on.
+    pub external_references: Option<ExternalReferences>,
+}
+
+impl Default for Tool {
+    ghost is_default = { λ tool. tool ≡ record { vendor = None; name = None; version = None; hashes = None; external_references = None } };
+
+    /// The tool without any field.
+    fn default() -> Tool {
+        Tool {
+            vendor: None,
+            name: None,
+            version: None,
+            hashes: None,
+            external_references: None,
+        }
+    }
+}
+
+impl HasTree for Tool {
+    ghost tree = { tool_tree };
+
+    ghost there = { λ x. refl };
+
+    fn copy(&self, alloc: Global) -> Result<Tool, AllocError> {
+        Ok(Tool {
+            vendor: copy_row(alloc, &self.vendor)?,
+            name: copy_row(alloc, &self.name)?,
+            version: copy_row(alloc, &self.version)?,
+            hashes: copy_row(alloc, &self.hashes)?,
+            external_references: copy_row(alloc, &self.external_references)?,
+        })
+    }
+
+    fn same(&self, other: &Tool) -> bool {
+        same_row(&self.vendor, &other.vendor)
+            && same_row(&self.name, &other.name)
+            && same_row(&self.version, &other.version)
+            && same_row(&self.hashes, &other.hashes)
+            && same_row(&self.external_references, &other.external_references)
+    }
+}
+
+impl PartialEq for Tool {
+    ghost eq = { λ a b. same (tool_tree a) (tool_tree b) };
+
+    ghost laws = { same_laws tool_tree };
+
+    fn eq(&self, other: &Tool) -> bool {
+        self.same(other)
+    }
+}
