@@ -1,6 +1,6 @@
 //! References to what stands outside the bill.
 
-ghost use Rattle.std.specs.Prelude.{◌≡◌, refl};
+ghost use Rattle.std.specs.Prelude.{◌≡◌, refl, IfOk};
 ghost use Rattle.cdx_models.specs.Records.{uri_tree, reference_tree, references_tree};
 ghost use Rattle.cdx_models.specs.Addresses.{begins_as_bom_link, uri_of, uri_text};
 ghost use Rattle.cdx_models.specs.Same.{same};
@@ -54,7 +54,10 @@ impl HasTree for Uri {
 
     ghost there = { λ x. refl };
 
-    fn copy(&self, alloc: Global) -> Result<Uri, AllocError> {
+    fn copy(&self, alloc: Global) -> Result<Uri, AllocError>
+        ensures equal { IfOk result (λ r. uri_tree r ≡ uri_tree self.now) }
+        ensures variant { IfOk result (λ r. r ≡ self.now) }
+    {
         match self {
             Uri::Url(text) => Ok(Uri::Url(text.copy(alloc)?)),
             Uri::BomLink(text) => Ok(Uri::BomLink(text.copy(alloc)?)),

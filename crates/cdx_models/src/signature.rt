@@ -84,7 +84,10 @@ impl HasTree for Algorithm {
 
     ghost there = { λ x. refl };
 
-    fn copy(&self, alloc: Global) -> Result<Algorithm, AllocError> {
+    fn copy(&self, alloc: Global) -> Result<Algorithm, AllocError>
+        ensures equal { IfOk result (λ r. algorithm_tree r ≡ algorithm_tree self.now) }
+        ensures variant { IfOk result (λ r. r ≡ self.now) }
+    {
         match self {
             Algorithm::RS256 => Ok(Algorithm::RS256),
             Algorithm::RS384 => Ok(Algorithm::RS384),

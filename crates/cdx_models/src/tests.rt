@@ -1,3 +1,5 @@
+mod records;
+
 use super::*;
 use cdx_events::{List, OwnedName, Text};
 use std::test::Fail;
