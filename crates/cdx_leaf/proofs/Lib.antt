@@ -12,3 +12,4 @@ pub mod Digits
 pub mod Algorithms
 pub mod Identifiers
 pub mod Signatures
+pub mod Roots

@@ -1,5 +1,6 @@
 pub mod Fault
 pub mod Reading
+pub mod Roots
 pub mod Each
 pub mod Attribute
 pub mod Begun

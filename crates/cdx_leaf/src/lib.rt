@@ -10,6 +10,7 @@ mod lists;
 mod namespace;
 mod reading;
 mod record;
+mod root;
 mod rule;
 mod tags;
 mod take;
@@ -28,6 +29,7 @@ pub use from_xml::{FromXml, FromXmlDocument};
 pub use lists::{read_lax_validation_list_tag, read_list_tag};
 pub use namespace::{expected_namespace_or_error, namespace_of};
 pub use record::{Record, TextRecord, read_text_record, read_whole};
+pub use root::{Root, read_root, root_of};
 pub use rule::Rule;
 pub use tags::{
     closing_tag_or_error, inner_text_or_error, inner_text_or_none, read_boolean_tag,
