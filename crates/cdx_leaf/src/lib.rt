@@ -38,3 +38,6 @@ pub use tags::{
 pub use take::{take_into, take_list, take_more, take_one};
 pub use taken::Taken;
 pub use xml_type::{FromXmlType, attribute_value};
+
+#[cfg(test)]
+mod tests;
