@@ -1,3 +1,10 @@
+//! What is read child by child: one loop for records and lists alike, over the trait `Children`.
+//!
+//! What is read may hold in its state what its children need, as a depth: `depth` tells contracts of it. A reader that
+//! leads back to itself can't be such a target, though: the checker gives a cycle of calls through a bound no proof. A
+//! crate of records that stand in themselves writes the loop of `read_children` once for its own enum of targets, and
+//! cites the lemmas that prove it here.
+
 ghost use Rattle.cdx_events.specs.Nodes.{Nodes};
 ghost use Rattle.cdx_events.specs.declared.event.XmlEvent.{XmlEvent};
 ghost use Rattle.std.specs.Prelude.{List};
@@ -27,16 +34,20 @@ pub trait Children: Drop {
     /// What was read so far, a tree for each field.
     ghost slots: { Self → Trees };
 
+    /// Which children it has, and what becomes of the rest: each field takes the last child, one child and no second one,
+    /// or all of them.
     ghost plan: { Self → Plan };
 
     /// The depth at which children are read, of the one around the element.
     ghost depth: { Self → Depth → Depth };
 
-    /// What becomes of what the plan has no child for.
+    /// What becomes of what the plan has no child for: a lax record skips elements and refuses texts, a strict one refuses
+    /// both, and a passing one lets both pass.
     fn rule(&self) -> Rule
         ensures { (plan self.now).rule ≡ as_rule result };
 
-    /// Reads the element where the plan has a child of its name. Else it reads nothing.
+    /// Reads the element where `v` knows a child of its name. Else, and where it is a second one of which one may stand, it
+    /// reads nothing and says so. A refusal is the first fault of the child.
     fn read_child(
         &mut self,
         alloc: Global,
@@ -51,7 +62,7 @@ pub trait Children: Drop {
         ensures depth { depth self.new ≡ depth self.old };
 }
 
-/// Reads the children up to the element's end.
+// Reads the children up to the element's end.
 fn read_children<R: Children>(
     alloc: Global,
     reader: &mut EventReader<'_>,
@@ -93,7 +104,8 @@ fn read_children<R: Children>(
     }
 }
 
-/// Reads what was begun with the element's attributes to the element's end.
+/// What was begun by the element's attributes, read to the element's end; or else the fault that it was begun with, or the
+/// first one of the content.
 pub fn read_record<R: Children>(
     alloc: Global,
     reader: &mut EventReader<'_>,

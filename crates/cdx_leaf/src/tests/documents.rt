@@ -10,8 +10,8 @@ pub enum Piece<'a> {
     Open(&'a str),
     /// A start tag with one attribute.
     With(&'a str, &'a str, &'a str),
-    /// A start tag with two attributes.
-    WithTwo(&'a str, [&'a str; 2], [&'a str; 2]),
+    /// A start tag with two attributes, each a name and a value.
+    WithTwo(&'a str, &'a str, &'a str, &'a str, &'a str),
     Words(&'a str),
     Close(&'a str),
 }
@@ -48,9 +48,9 @@ fn event(alloc: Global, piece: Piece<'_>) -> Result<XmlEvent, AllocError> {
             push_attribute(alloc, &mut attributes, one, value)?;
             start(alloc, name, attributes)
         }
-        Piece::WithTwo(name, one, two) => {
-            push_attribute(alloc, &mut attributes, one[0], one[1])?;
-            push_attribute(alloc, &mut attributes, two[0], two[1])?;
+        Piece::WithTwo(name, one, value, two, other) => {
+            push_attribute(alloc, &mut attributes, one, value)?;
+            push_attribute(alloc, &mut attributes, two, other)?;
             start(alloc, name, attributes)
         }
         Piece::Words(text) => Ok(XmlEvent::Characters(Text::new(alloc, text)?)),

@@ -19,7 +19,7 @@ fn hashes_and_dependencies(rt: HostRuntime) -> Result<(), Fail> {
     let alloc = rt.alloc();
     let one = [
         Open("hashes"),
-        WithTwo("hash", ["alg", "algorithm"], ["alg", "other"]),
+        WithTwo("hash", "alg", "algorithm", "alg", "other"),
         Words("hash value"),
         Close("hash"),
         Close("hashes"),
@@ -199,7 +199,7 @@ fn licenses(rt: HostRuntime) -> Result<(), Fail> {
 
     // In an attached text the last attribute of a name counts.
     let attached = [
-        WithTwo("text", ["encoding", "a"], ["encoding", "base64"]),
+        WithTwo("text", "encoding", "a", "encoding", "base64"),
         Words("t"),
         Close("text"),
     ];
