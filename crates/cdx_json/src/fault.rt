@@ -7,7 +7,7 @@ ghost use Rattle.cdx_json.specs.Gives.{IsFaultAt, IsWithin};
 
 use cdx_events::{List, Text};
 use cdx_models::{JsonKind, JsonReadError, Path, Step};
-use std::alloc::Global;
+use std::alloc::{AllocError, Global};
 
 /// The fault of the value itself.
 pub fn here(alloc: Global, kind: JsonKind) -> JsonReadError
