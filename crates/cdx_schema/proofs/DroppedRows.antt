@@ -8,10 +8,10 @@ use Rattle.cdx_schema.proofs.Literals.{◌⊳◌, at, el, tag, txt, leaf, bom, r
 use Rattle.cdx_events.specs.declared.event.EventKind.TheVariants as kinds
 use Rattle.cdx_events.specs.Nodes.{Node, no_nodes}
 
--- row 18
-abbrev row_18 : Node
-row_18 = bom V1_5 (at "version" "1" ∷ []) (tag "components" (el "component" (at "type" "library" ∷ []) (leaf "name" "a" ⊳ el "swid" (at "tagId" "t" ∷ at "name" "n" ∷ []) (tag "text" (txt "" ⊳ no_nodes) ⊳ no_nodes) ⊳ no_nodes) ⊳ no_nodes) ⊳ no_nodes)
+-- a swid whose attached text is one empty text event
+abbrev empty_attached_text : Node
+empty_attached_text = bom V1_5 (at "version" "1" ∷ []) (tag "components" (el "component" (at "type" "library" ∷ []) (leaf "name" "a" ⊳ el "swid" (at "tagId" "t" ∷ at "name" "n" ∷ []) (tag "text" (txt "" ⊳ no_nodes) ⊳ no_nodes) ⊳ no_nodes) ⊳ no_nodes) ⊳ no_nodes)
 
-no_text_at_9 : hole (lean row_18) V1_5 1 a_bill ≡ Some (unexpected 9 (codes "text") kinds.EndElement)
+no_text_at_9 : hole (lean empty_attached_text) V1_5 1 a_bill ≡ Some (unexpected 9 (codes "text") kinds.EndElement)
 unfolding reading_on_literals hole
 no_text_at_9 = refl
