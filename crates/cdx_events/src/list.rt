@@ -96,6 +96,15 @@ impl<T: Drop> List<T> {
         self.items.push(item)?;
         Ok(())
     }
+
+    /// Puts an item in front of the others. After a refusal the list is as it was.
+    pub fn insert_first(&mut self, item: T) -> Result<(), AllocError>
+        ensures ok { OnOk result (self.new ≡ item ∷ self.old) }
+        ensures err { OnErr result (self.new ≡ self.old) }
+    {
+        self.items.insert(0, item)?;
+        Ok(())
+    }
 }
 
 /// Two lists are equal where they are as long as each other and their items are equal one by one.
