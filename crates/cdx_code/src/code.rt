@@ -142,8 +142,7 @@ impl HasTree for Diff {
     }
 
     fn same(&self, other: &Diff) -> bool {
-        same_row(&self.text, &other.text)
-            && same_row(&self.url, &other.url)
+        same_row(&self.text, &other.text) && same_row(&self.url, &other.url)
     }
 }
 
@@ -177,8 +176,7 @@ impl HasTree for Source {
     }
 
     fn same(&self, other: &Source) -> bool {
-        same_row(&self.name, &other.name)
-            && same_row(&self.url, &other.url)
+        same_row(&self.name, &other.name) && same_row(&self.url, &other.url)
     }
 }
 

@@ -141,8 +141,7 @@ impl HasTree for ComponentEvidence {
     }
 
     fn same(&self, other: &ComponentEvidence) -> bool {
-        same_row(&self.licenses, &other.licenses)
-            && same_row(&self.copyright, &other.copyright)
+        same_row(&self.licenses, &other.licenses) && same_row(&self.copyright, &other.copyright)
     }
 }
 

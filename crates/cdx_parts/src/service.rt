@@ -49,8 +49,7 @@ impl HasTree for DataClassification {
     }
 
     fn same(&self, other: &DataClassification) -> bool {
-        self.flow.same(&other.flow)
-            && self.classification.same(&other.classification)
+        self.flow.same(&other.flow) && self.classification.same(&other.classification)
     }
 }
 
