@@ -1,6 +1,9 @@
-//! Commits, patches and issues: their trees, and how they are read, kept and written.
+//! Commits, patches and issues, and their trees.
 #![tactic(auto)]
 
 pub mod code;
 
 pub use code::{Commit, Commits, Diff, IdentifiableAction, Issue, Patch, Patches, Source};
+
+#[cfg(test)]
+mod tests;

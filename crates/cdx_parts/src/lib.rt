@@ -1,4 +1,4 @@
-//! The leaf records of components and services: their trees, and how they are read, kept and written.
+//! The leaf records of components and services, and their trees.
 #![tactic(auto)]
 
 pub mod component;
@@ -6,3 +6,6 @@ pub mod service;
 
 pub use component::{ComponentEvidence, Copyright, CopyrightTexts, Cpe, MimeType, Swid};
 pub use service::{Data, DataClassification, ServiceData};
+
+#[cfg(test)]
+mod tests;
