@@ -1,0 +1,9 @@
+pub mod ByRowsLaws
+pub mod Rows
+pub mod Values
+pub mod Loops
+pub mod KeptRowsLaws
+pub mod Spelled
+pub mod Texts
+pub mod Signed
+pub mod Licensed

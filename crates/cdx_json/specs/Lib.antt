@@ -1,0 +1,5 @@
+pub mod Gives
+pub mod Depths
+pub mod ByRows
+pub mod KeptRows
+pub mod Stays

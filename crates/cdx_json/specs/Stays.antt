@@ -1,0 +1,83 @@
+-- What is there stays there, and which records are read and written in the usual way.
+use Rattle.std.specs.Prelude.{◌≡◌, refl, false, ℕ, List, Bool}
+use Rattle.serde_json.specs.Data.{no_members}
+use Rattle.cdx_models.specs.declared.bom.SpecVersion.{SpecVersion}
+use Rattle.cdx_models.specs.declared.bom.SpecVersion.TheVariants.{V1_3, V1_4, V1_5}
+use Rattle.cdx_models.specs.Trees.{Name, Tree, text, number, boolean, items, fields, Trees, is_absent}
+use Rattle.cdx_models.specs.Records.{signature_tree, choice_tree, identifier_tree}
+use Rattle.cdx_models.specs.declared.signature.Signature.{Signature}
+use Rattle.cdx_models.specs.declared.signature.Signature.TheVariants as variant
+use Rattle.cdx_models.specs.declared.license.LicenseChoice.{LicenseChoice}
+use Rattle.cdx_models.specs.declared.license.LicenseChoice.TheVariants as choice
+use Rattle.cdx_models.specs.declared.license.LicenseIdentifier.{LicenseIdentifier}
+use Rattle.cdx_models.specs.declared.license.LicenseIdentifier.TheVariants as identifier
+use Rattle.cdx_schema.specs.Kinds.{Lists, Kind, a_text, a_number, a_boolean, a_reference, a_list, a_record, a_signature, a_license_choice, a_license_identifier}
+use Rattle.cdx_schema.specs.Depth.{Depth, name_too_deep, inside}
+use Rattle.cdx_schema.specs.JsonSpelling.{heading}
+use Rattle.cdx_schema.specs.Keeping.{kept, before_1_5}
+use Rattle.cdx_json.specs.KeptRows.{parts}
+
+-- A record of the name, that has no heading.
+abbrev pub IsPlain : Name → Tree → Type 0
+IsPlain n t = (t ≡ fields n (parts t)) × (heading n ≡ no_members)
+
+-- A record of the name counts for no depth.
+abbrev pub IsFlat : Name → Depth → Type 0
+IsFlat n d = (name_too_deep n d ≡ false) × (inside n d ≡ d)
+
+pub text_stays : (w l : SpecVersion) (s : List ℕ) → is_absent (kept w l (text s) a_text) ≡ false
+unfolding kept
+text_stays w l s = refl
+
+pub reference_stays : (w l : SpecVersion) (s : List ℕ) → is_absent (kept w l (text s) a_reference) ≡ false
+unfolding kept
+reference_stays w l s = refl
+
+pub boolean_stays : (w l : SpecVersion) (b : Bool) → is_absent (kept w l (boolean b) a_boolean) ≡ false
+unfolding kept
+boolean_stays w l b = refl
+
+pub number_stays : (w l : SpecVersion) (n : ℕ) → is_absent (kept w l (number n) a_number) ≡ false
+unfolding kept
+number_stays w l n = refl
+
+pub list_stays : (w l : SpecVersion) (i : Lists) (ts : Trees) → is_absent (kept w l (items ts) (a_list i)) ≡ false
+unfolding kept
+list_stays w l i ts = refl
+
+pub record_stays : (w l : SpecVersion) (n : Name) (ts : Trees) → is_absent (kept w l (fields n ts) (a_record n)) ≡ false
+unfolding kept
+record_stays V1_3 l n ts = refl
+record_stays V1_4 l n ts = refl
+record_stays V1_5 l n ts = refl
+
+signature_fields_stay : (w l : SpecVersion) (n : Name) (ts : Trees) → is_absent (kept w l (fields n ts) a_signature) ≡ false
+unfolding kept
+signature_fields_stay V1_3 l n ts = refl
+signature_fields_stay V1_4 l n ts = refl
+signature_fields_stay V1_5 l n ts = refl
+
+pub signature_stays : (w l : SpecVersion) (x : Signature) → is_absent (kept w l (signature_tree x) a_signature) ≡ false
+signature_stays w l (variant.Signers xs) = signature_fields_stay w l _ _
+signature_stays w l (variant.Chain xs) = signature_fields_stay w l _ _
+signature_stays w l (variant.Single x) = signature_fields_stay w l _ _
+
+choice_fields_stay : (w l : SpecVersion) (n : Name) (ts : Trees) → is_absent (kept w l (fields n ts) a_license_choice) ≡ false
+unfolding kept
+choice_fields_stay V1_3 l n ts = refl
+choice_fields_stay V1_4 l n ts = refl
+choice_fields_stay V1_5 l n ts = refl
+
+pub choice_stays : (w l : SpecVersion) (x : LicenseChoice) → is_absent (kept w l (choice_tree x) a_license_choice) ≡ false
+choice_stays w l (choice.License x) = choice_fields_stay w l _ _
+choice_stays w l (choice.Expression x) = choice_fields_stay w l _ _
+
+identifier_fields_stay : (w l : SpecVersion) (n : Name) (ts : Trees) → is_absent (kept w l (fields n ts) a_license_identifier) ≡ false
+unfolding kept
+identifier_fields_stay V1_3 l n ts = refl
+identifier_fields_stay V1_4 l n ts = refl
+identifier_fields_stay V1_5 l n ts = refl
+
+pub identifier_stays : (w l : SpecVersion) (x : LicenseIdentifier) → is_absent (kept w l (identifier_tree x) a_license_identifier) ≡ false
+identifier_stays w l (identifier.SpdxId s) = identifier_fields_stay w l _ _
+identifier_stays w l (identifier.Name s) = identifier_fields_stay w l _ _

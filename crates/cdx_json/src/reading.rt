@@ -1,0 +1,321 @@
+//! Reading texts, booleans, numbers, lists, records and the members of records.
+
+ghost use Rattle.std.specs.Prelude.{◌≡◌, option_map};
+ghost use Rattle.serde_json.specs.Find.{get_member};
+ghost use Rattle.serde_json.specs.View.{view, items_view, members_view};
+ghost use Rattle.cdx_models.specs.Trees.{present, list_tree};
+ghost use Rattle.cdx_schema.specs.Kinds.{Lists, a_list, a_record, optional, required, else_empty, required_first};
+ghost use Rattle.cdx_schema.specs.JsonReading.{jread, seen};
+ghost use Rattle.cdx_json.specs.Depths.{depth_of};
+ghost use Rattle.cdx_json.specs.ByRows.{IsListOf, member_of, late_read, list_read};
+ghost use Rattle.cdx_json.specs.Gives.{Gives, stands, is_found, non_null};
+
+use crate::depth::Depth;
+use crate::fault::{at_item, at_member, here, missing};
+use crate::traits::{FromJson, Kinded, Record};
+use cdx_events::{List, Text};
+use cdx_models::{JsonKind, JsonReadError, SpecVersion};
+use serde_json::{Map, Value};
+use std::alloc::Global;
+
+/// The member of that name.
+pub fn member<'v>(map: &'v Map<String, Value>, name: &str) -> Option<&'v Value>
+    ensures { option_map (λ v. view v.now) result ≡ get_member name.now (members_view map.now.entries) }
+{
+    map.get(name)
+}
+
+/// The member of that name, where it is not null.
+pub fn member_not_null<'v>(map: &'v Map<String, Value>, name: &str) -> Option<&'v Value>
+    ensures { option_map (λ v. view v.now) result
+        ≡ non_null (get_member name.now (members_view map.now.entries)) }
+{
+    match member(map, name) {
+        None => None,
+        Some(value) => { if value.is_null() { None } else { Some(value) } }
+    }
+}
+
+/// Whether there is a member of that name, maybe a null.
+pub fn has_member(map: &Map<String, Value>, name: &str) -> bool
+    ensures { result ≡ stands (seen (members_view map.now.entries) name.now) }
+{
+    member(map, name).is_some()
+}
+
+/// Whether there is a member of that name that is not null.
+pub fn has_value(map: &Map<String, Value>, name: &str) -> bool
+    ensures { result ≡ is_found (seen (members_view map.now.entries) name.now) }
+{
+    member_not_null(map, name).is_some()
+}
+
+impl Kinded for Text {
+    ghost use Rattle.cdx_schema.specs.Kinds.{a_text};
+
+    ghost kind = { a_text };
+}
+
+impl FromJson for Text {
+    fn from_json_at(
+        alloc: Global,
+        value: &Value,
+        version: SpecVersion,
+        depth: Depth,
+    ) -> Result<Text, JsonReadError> {
+        match value.as_str() {
+            None => Err(here(alloc, JsonKind::WrongKind)),
+            Some(held) => Ok(Text::new(alloc, held)?),
+        }
+    }
+}
+
+impl Kinded for bool {
+    ghost use Rattle.cdx_schema.specs.Kinds.{a_boolean};
+
+    ghost kind = { a_boolean };
+}
+
+impl FromJson for bool {
+    fn from_json_at(
+        alloc: Global,
+        value: &Value,
+        version: SpecVersion,
+        depth: Depth,
+    ) -> Result<bool, JsonReadError> {
+        match value.as_bool() {
+            None => Err(here(alloc, JsonKind::WrongKind)),
+            Some(held) => Ok(held),
+        }
+    }
+}
+
+impl Kinded for u32 {
+    ghost use Rattle.cdx_schema.specs.Kinds.{a_number};
+
+    ghost kind = { a_number };
+}
+
+impl FromJson for u32 {
+    fn from_json_at(
+        alloc: Global,
+        value: &Value,
+        version: SpecVersion,
+        depth: Depth,
+    ) -> Result<u32, JsonReadError> {
+        match value.as_u64() {
+            Some(held) => {
+                if held < 4294967296 {
+                    Ok(held as u32)
+                } else {
+                    Err(here(alloc, JsonKind::OutOfRange))
+                }
+            }
+            None => {
+                if value.is_i64() {
+                    Err(here(alloc, JsonKind::OutOfRange))
+                } else {
+                    Err(here(alloc, JsonKind::WrongKind))
+                }
+            }
+        }
+    }
+}
+
+/// The items of an array, each read as the kind of `T`, or the first fault. Its path begins with the item's number.
+pub fn list_from_items<T: FromJson + Drop>(
+    alloc: Global,
+    items: &Vec<Value>,
+    version: SpecVersion,
+    depth: Depth,
+) -> Result<List<T>, JsonReadError>
+    ensures { Gives (list_tree T.tree) result
+        (list_read (items_view items.now.items) version T.kind (depth_of depth)) }
+{
+    let mut held = List::new(alloc);
+    for (i, item) in items.iter().enumerate() {
+        match T::from_json_at(alloc, item, version, depth) {
+            Ok(one) => held.push(one)?,
+            Err(e) => return Err(at_item(i, e)),
+        }
+    }
+    Ok(held)
+}
+
+/// An array as any of the schema's lists whose items are of the kind of `T`.
+pub fn list_from_value<T: FromJson + Drop>(
+    alloc: Global,
+    value: &Value,
+    version: SpecVersion,
+    depth: Depth,
+) -> Result<List<T>, JsonReadError>
+    ensures { (l : Lists) → IsListOf T.kind l → Gives (list_tree T.tree) result
+        (jread (view value.now) version (a_list l) (depth_of depth)) }
+{
+    match value.as_array() {
+        None => Err(here(alloc, JsonKind::WrongKind)),
+        Some(items) => list_from_items(alloc, items, version, depth),
+    }
+}
+
+/// A record, as the schema reads it.
+pub fn read_record<T: Record>(
+    alloc: Global,
+    value: &Value,
+    version: SpecVersion,
+    depth: Depth,
+) -> Result<T, JsonReadError>
+    ensures { Gives T.tree result (jread (view value.now) version (a_record T.name) (depth_of depth)) }
+{
+    match value.as_object() {
+        None => Err(here(alloc, JsonKind::WrongKind)),
+        Some(map) => T::from_members(alloc, map, version, depth),
+    }
+}
+
+/// A member that has to be there and may not be null.
+pub fn required_row<T: FromJson + Drop>(
+    alloc: Global,
+    map: &Map<String, Value>,
+    name: &str,
+    version: SpecVersion,
+    depth: Depth,
+) -> Result<T, JsonReadError>
+    ensures { Gives T.tree result
+        (member_of (seen (members_view map.now.entries)) name.now required T.kind version (depth_of depth)) }
+{
+    match member_not_null(map, name) {
+        None => match member(map, name) {
+            None => Err(missing(alloc, name)),
+            Some(_) => Err(at_member(alloc, name, here(alloc, JsonKind::WrongKind))),
+        },
+        Some(value) => match T::from_json_at(alloc, value, version, depth) {
+            Ok(held) => Ok(held),
+            Err(e) => Err(at_member(alloc, name, e)),
+        },
+    }
+}
+
+/// A member that may be left out or null.
+pub fn optional_row<T: FromJson + Drop>(
+    alloc: Global,
+    map: &Map<String, Value>,
+    name: &str,
+    version: SpecVersion,
+    depth: Depth,
+) -> Result<Option<T>, JsonReadError>
+    ensures { Gives (present T.tree) result
+        (member_of (seen (members_view map.now.entries)) name.now optional T.kind version (depth_of depth)) }
+{
+    match member_not_null(map, name) {
+        None => Ok(None),
+        Some(value) => match T::from_json_at(alloc, value, version, depth) {
+            Ok(held) => Ok(Some(held)),
+            Err(e) => Err(at_member(alloc, name, e)),
+        },
+    }
+}
+
+/// A member that may be left out or null, and that versions before `since` pass over.
+#[tactic(auto, unfolding(crate::specs::ByRows::late_read))]
+pub fn optional_row_since<T: FromJson + Drop>(
+    alloc: Global,
+    map: &Map<String, Value>,
+    name: &str,
+    since: SpecVersion,
+    version: SpecVersion,
+    depth: Depth,
+) -> Result<Option<T>, JsonReadError>
+    ensures { Gives (present T.tree) result
+        (late_read since version (member_of (seen (members_view map.now.entries)) name.now optional T.kind version (depth_of depth))) }
+{
+    if since.is_known_to(version) {
+        optional_row(alloc, map, name, version, depth)
+    } else {
+        Ok(None)
+    }
+}
+
+/// A member that only 1.3 requires.
+#[tactic(auto, using(crate::proofs::Rows::first_rules))]
+pub fn first_row<T: FromJson + Drop>(
+    alloc: Global,
+    map: &Map<String, Value>,
+    name: &str,
+    version: SpecVersion,
+    depth: Depth,
+) -> Result<Option<T>, JsonReadError>
+    ensures { Gives (present T.tree) result
+        (member_of (seen (members_view map.now.entries)) name.now required_first T.kind version (depth_of depth)) }
+{
+    match version {
+        SpecVersion::V1_3 => match required_row(alloc, map, name, version, depth) {
+            Ok(held) => Ok(Some(held)),
+            Err(e) => Err(e),
+        },
+        SpecVersion::V1_4 => optional_row(alloc, map, name, version, depth),
+        SpecVersion::V1_5 => optional_row(alloc, map, name, version, depth),
+    }
+}
+
+/// A list that is empty where it is left out, and that may not be null.
+pub fn list_row<T: FromJson + Drop>(
+    alloc: Global,
+    map: &Map<String, Value>,
+    name: &str,
+    version: SpecVersion,
+    depth: Depth,
+) -> Result<List<T>, JsonReadError>
+    ensures { (l : Lists) → IsListOf T.kind l → Gives (list_tree T.tree) result
+        (member_of (seen (members_view map.now.entries)) name.now else_empty (a_list l) version (depth_of depth)) }
+{
+    match member_not_null(map, name) {
+        None => match member(map, name) {
+            None => Ok(List::new(alloc)),
+            Some(_) => Err(at_member(alloc, name, here(alloc, JsonKind::WrongKind))),
+        },
+        Some(value) => match list_from_value(alloc, value, version, depth) {
+            Ok(held) => Ok(held),
+            Err(e) => Err(at_member(alloc, name, e)),
+        },
+    }
+}
+
+/// A list that may be left out or null.
+pub fn optional_list_row<T: FromJson + Drop>(
+    alloc: Global,
+    map: &Map<String, Value>,
+    name: &str,
+    version: SpecVersion,
+    depth: Depth,
+) -> Result<Option<List<T>>, JsonReadError>
+    ensures { (l : Lists) → IsListOf T.kind l → Gives (present (list_tree T.tree)) result
+        (member_of (seen (members_view map.now.entries)) name.now optional (a_list l) version (depth_of depth)) }
+{
+    match member_not_null(map, name) {
+        None => Ok(None),
+        Some(value) => match list_from_value(alloc, value, version, depth) {
+            Ok(held) => Ok(Some(held)),
+            Err(e) => Err(at_member(alloc, name, e)),
+        },
+    }
+}
+
+/// A list that may be left out or null, and that versions before `since` pass over.
+pub fn optional_list_row_since<T: FromJson + Drop>(
+    alloc: Global,
+    map: &Map<String, Value>,
+    name: &str,
+    since: SpecVersion,
+    version: SpecVersion,
+    depth: Depth,
+) -> Result<Option<List<T>>, JsonReadError>
+    ensures { (l : Lists) → IsListOf T.kind l → Gives (present (list_tree T.tree)) result
+        (late_read since version (member_of (seen (members_view map.now.entries)) name.now optional (a_list l) version (depth_of depth))) }
+{
+    if since.is_known_to(version) {
+        optional_list_row(alloc, map, name, version, depth)
+    } else {
+        Ok(None)
+    }
+}

@@ -1,0 +1,332 @@
+//! Keeping and writing texts, booleans, numbers, lists, records and the members of records.
+
+ghost use Rattle.std.specs.Prelude.{◌≡◌, IfOk, OnOk};
+ghost use Rattle.serde_json.specs.View.{view, members_view};
+ghost use Rattle.cdx_models.specs.Trees.{present, list_tree};
+ghost use Rattle.cdx_schema.specs.Kinds.{Lists, a_list, a_record};
+ghost use Rattle.cdx_schema.specs.Keeping.{kept, keep};
+ghost use Rattle.cdx_schema.specs.JsonSpelling.{jspell};
+ghost use Rattle.cdx_json.specs.ByRows.{IsListOf};
+ghost use Rattle.cdx_json.specs.KeptRows.{put_kept, put_filled, late_put, late_kept};
+
+use crate::traits::{Kept, Kinded, Record, ToJson};
+use cdx_events::{List, Text};
+use cdx_models::{HasTree, SpecVersion};
+use serde_json::{Map, Value};
+use std::alloc::{AllocError, Global};
+
+impl Kept for Text {
+    ghost use Rattle.cdx_json.specs.Stays.{text_stays};
+
+    ghost stays = { text_stays };
+
+    #[tactic(auto, unfolding(cdx_schema::specs::Keeping::kept))]
+    fn kept_as(
+        &self,
+        alloc: Global,
+        version: SpecVersion,
+        label: SpecVersion,
+    ) -> Result<Text, AllocError> {
+        self.copy(alloc)
+    }
+}
+
+impl ToJson for Text {
+    #[tactic(auto, unfolding(cdx_schema::specs::JsonSpelling::jspell, cdx_schema::specs::Keeping::kept))]
+    fn to_value(&self, alloc: Global, version: SpecVersion) -> Result<Value, AllocError> {
+        Value::try_from_str(alloc, self.as_str())
+    }
+}
+
+impl Kept for bool {
+    ghost use Rattle.cdx_json.specs.Stays.{boolean_stays};
+
+    ghost stays = { boolean_stays };
+
+    #[tactic(auto, unfolding(cdx_schema::specs::Keeping::kept))]
+    fn kept_as(
+        &self,
+        alloc: Global,
+        version: SpecVersion,
+        label: SpecVersion,
+    ) -> Result<bool, AllocError> {
+        Ok(*self)
+    }
+}
+
+impl ToJson for bool {
+    #[tactic(auto, unfolding(cdx_schema::specs::JsonSpelling::jspell, cdx_schema::specs::Keeping::kept))]
+    fn to_value(&self, alloc: Global, version: SpecVersion) -> Result<Value, AllocError> {
+        Ok(Value::from(*self))
+    }
+}
+
+impl Kept for u32 {
+    ghost use Rattle.cdx_json.specs.Stays.{number_stays};
+
+    ghost stays = { number_stays };
+
+    #[tactic(auto, unfolding(cdx_schema::specs::Keeping::kept))]
+    fn kept_as(
+        &self,
+        alloc: Global,
+        version: SpecVersion,
+        label: SpecVersion,
+    ) -> Result<u32, AllocError> {
+        Ok(*self)
+    }
+}
+
+impl ToJson for u32 {
+    #[tactic(auto, unfolding(cdx_schema::specs::JsonSpelling::jspell, cdx_schema::specs::Keeping::kept))]
+    fn to_value(&self, alloc: Global, version: SpecVersion) -> Result<Value, AllocError> {
+        Ok(Value::from(*self))
+    }
+}
+
+/// What a version keeps of a list, as any of the schema's lists whose items are of the kind of `T`.
+pub fn keep_list<T: Kept + Drop>(
+    alloc: Global,
+    held: &List<T>,
+    version: SpecVersion,
+    label: SpecVersion,
+) -> Result<List<T>, AllocError>
+    ensures { (l : Lists) → IsListOf T.kind l → IfOk result
+        (λ r. list_tree T.tree r ≡ kept version label (list_tree T.tree held.now) (a_list l)) }
+{
+    let mut copies = List::new(alloc);
+    for item in held.as_slice() {
+        copies.push(item.kept_as(alloc, version, label)?)?;
+    }
+    Ok(copies)
+}
+
+/// A list as an array, as any of the schema's lists whose items are of the kind of `T`.
+pub fn list_to_value<T: ToJson + Drop>(
+    alloc: Global,
+    held: &List<T>,
+    version: SpecVersion,
+) -> Result<Value, AllocError>
+    ensures { (l : Lists) → IsListOf T.kind l → IfOk result
+        (λ v. view v ≡ jspell (keep version (list_tree T.tree held.now) (a_list l)) version (a_list l)) }
+{
+    let mut values = Vec::new(alloc);
+    for item in held.as_slice() {
+        values.push(item.to_value(alloc, version)?)?;
+    }
+    Ok(Value::Array(values))
+}
+
+/// What a version keeps of a record.
+pub fn keep_record<T: Record>(
+    held: &T,
+    alloc: Global,
+    version: SpecVersion,
+    label: SpecVersion,
+) -> Result<T, AllocError>
+    ensures { IfOk result (λ r. T.tree r ≡ kept version label (T.tree held.now) (a_record T.name)) }
+{
+    held.kept_rows(alloc, version, label)
+}
+
+/// A record as an object.
+pub fn write_record<T: Record>(
+    held: &T,
+    alloc: Global,
+    version: SpecVersion,
+) -> Result<Value, AllocError>
+    ensures { IfOk result
+        (λ v. view v ≡ jspell (keep version (T.tree held.now) (a_record T.name)) version (a_record T.name)) }
+{
+    let mut map = Map::new(alloc);
+    held.put_members(alloc, &mut map, version)?;
+    Ok(Value::Object(map))
+}
+
+/// Sets a member that is always there.
+pub fn put_required<T: ToJson>(
+    alloc: Global,
+    map: &mut Map<String, Value>,
+    name: &str,
+    held: &T,
+    version: SpecVersion,
+) -> Result<(), AllocError>
+    ensures { OnOk result (members_view map.new.entries
+        ≡ put_kept name.now T.kind (T.tree held.now) version (members_view map.old.entries)) }
+{
+    serde_json::put(map, alloc, name, held.to_value(alloc, version)?)
+}
+
+/// Sets a member, where it is there.
+pub fn put_row<T: ToJson>(
+    alloc: Global,
+    map: &mut Map<String, Value>,
+    name: &str,
+    held: &Option<T>,
+    version: SpecVersion,
+) -> Result<(), AllocError>
+    ensures { OnOk result (members_view map.new.entries
+        ≡ put_kept name.now T.kind (present T.tree held.now) version (members_view map.old.entries)) }
+{
+    match held {
+        None => Ok(()),
+        Some(held) => put_required(alloc, map, name, held, version),
+    }
+}
+
+/// Sets a member, where it is there and the version is not before `since`.
+pub fn put_row_since<T: ToJson>(
+    alloc: Global,
+    map: &mut Map<String, Value>,
+    name: &str,
+    held: &Option<T>,
+    since: SpecVersion,
+    version: SpecVersion,
+) -> Result<(), AllocError>
+    ensures { OnOk result (members_view map.new.entries
+        ≡ late_put since version (members_view map.old.entries)
+        (put_kept name.now T.kind (present T.tree held.now) version (members_view map.old.entries))) }
+{
+    if since.is_known_to(version) {
+        put_row(alloc, map, name, held, version)
+    } else {
+        Ok(())
+    }
+}
+
+/// Sets a list that is written even where it is empty.
+pub fn put_required_list<T: ToJson + Drop>(
+    alloc: Global,
+    map: &mut Map<String, Value>,
+    name: &str,
+    held: &List<T>,
+    version: SpecVersion,
+) -> Result<(), AllocError>
+    ensures { (l : Lists) → IsListOf T.kind l → OnOk result (members_view map.new.entries
+        ≡ put_kept name.now (a_list l) (list_tree T.tree held.now) version (members_view map.old.entries)) }
+{
+    serde_json::put(map, alloc, name, list_to_value(alloc, held, version)?)
+}
+
+/// Sets a list that is not written where it is empty.
+pub fn put_list<T: ToJson + Drop>(
+    alloc: Global,
+    map: &mut Map<String, Value>,
+    name: &str,
+    held: &List<T>,
+    version: SpecVersion,
+) -> Result<(), AllocError>
+    ensures { (l : Lists) → IsListOf T.kind l → OnOk result (members_view map.new.entries
+        ≡ put_filled name.now (a_list l) (list_tree T.tree held.now) version (members_view map.old.entries)) }
+{
+    if held.len() == 0 {
+        return Ok(());
+    }
+    serde_json::put(map, alloc, name, list_to_value(alloc, held, version)?)
+}
+
+/// Sets a list, where it is there.
+pub fn put_optional_list<T: ToJson + Drop>(
+    alloc: Global,
+    map: &mut Map<String, Value>,
+    name: &str,
+    held: &Option<List<T>>,
+    version: SpecVersion,
+) -> Result<(), AllocError>
+    ensures { (l : Lists) → IsListOf T.kind l → OnOk result (members_view map.new.entries
+        ≡ put_kept name.now (a_list l) (present (list_tree T.tree) held.now) version (members_view map.old.entries)) }
+{
+    match held {
+        None => Ok(()),
+        Some(held) => put_required_list(alloc, map, name, held, version),
+    }
+}
+
+/// Sets a list, where it is there and the version is not before `since`.
+pub fn put_optional_list_since<T: ToJson + Drop>(
+    alloc: Global,
+    map: &mut Map<String, Value>,
+    name: &str,
+    held: &Option<List<T>>,
+    since: SpecVersion,
+    version: SpecVersion,
+) -> Result<(), AllocError>
+    ensures { (l : Lists) → IsListOf T.kind l → OnOk result (members_view map.new.entries
+        ≡ late_put since version (members_view map.old.entries)
+        (put_kept name.now (a_list l) (present (list_tree T.tree) held.now) version (members_view map.old.entries))) }
+{
+    if since.is_known_to(version) {
+        put_optional_list(alloc, map, name, held, version)
+    } else {
+        Ok(())
+    }
+}
+
+/// What a version keeps of a field that may be absent.
+#[tactic(auto, unfolding(cdx_schema::specs::Keeping::kept))]
+pub fn keep_row<T: Kept>(
+    alloc: Global,
+    held: &Option<T>,
+    version: SpecVersion,
+    label: SpecVersion,
+) -> Result<Option<T>, AllocError>
+    ensures { IfOk result (λ r. present T.tree r ≡ kept version label (present T.tree held.now) T.kind) }
+{
+    match held {
+        None => Ok(None),
+        Some(held) => Ok(Some(held.kept_as(alloc, version, label)?)),
+    }
+}
+
+/// What a version keeps of a field that may be absent: nothing where the version is before `since`.
+#[tactic(auto, unfolding(crate::specs::KeptRows::late_kept))]
+pub fn keep_row_since<T: Kept>(
+    alloc: Global,
+    held: &Option<T>,
+    since: SpecVersion,
+    version: SpecVersion,
+    label: SpecVersion,
+) -> Result<Option<T>, AllocError>
+    ensures { IfOk result (λ r. present T.tree r
+        ≡ late_kept since version (kept version label (present T.tree held.now) T.kind)) }
+{
+    if since.is_known_to(version) {
+        keep_row(alloc, held, version, label)
+    } else {
+        Ok(None)
+    }
+}
+
+/// What a version keeps of a list that may be absent.
+pub fn keep_optional_list<T: Kept + Drop>(
+    alloc: Global,
+    held: &Option<List<T>>,
+    version: SpecVersion,
+    label: SpecVersion,
+) -> Result<Option<List<T>>, AllocError>
+    ensures { (l : Lists) → IsListOf T.kind l → IfOk result
+        (λ r. present (list_tree T.tree) r ≡ kept version label (present (list_tree T.tree) held.now) (a_list l)) }
+{
+    match held {
+        None => Ok(None),
+        Some(held) => Ok(Some(keep_list(alloc, held, version, label)?)),
+    }
+}
+
+/// What a version keeps of a list that may be absent: nothing where the version is before `since`.
+pub fn keep_optional_list_since<T: Kept + Drop>(
+    alloc: Global,
+    held: &Option<List<T>>,
+    since: SpecVersion,
+    version: SpecVersion,
+    label: SpecVersion,
+) -> Result<Option<List<T>>, AllocError>
+    ensures { (l : Lists) → IsListOf T.kind l → IfOk result (λ r. present (list_tree T.tree) r
+        ≡ late_kept since version (kept version label (present (list_tree T.tree) held.now) (a_list l))) }
+{
+    if since.is_known_to(version) {
+        keep_optional_list(alloc, held, version, label)
+    } else {
+        Ok(None)
+    }
+}

@@ -1,0 +1,15 @@
+pub mod Steps
+pub mod Simple
+pub mod Skip
+pub mod Loop
+pub mod Records
+pub mod ChildSteps
+pub mod Whole
+pub mod Parts
+pub mod Contents
+pub mod Attributes
+pub mod Digits
+pub mod Algorithms
+pub mod Identifiers
+pub mod Signatures
+pub mod Roots

@@ -1,0 +1,29 @@
+use Rattle.std.proofs.Common.{Ok, Err, sym, ap, ◌∙◌}
+use Rattle.cdx_events.specs.declared.event.EventKind.TheVariants as kinds
+use Rattle.cdx_schema.specs.Faults.{unexpected}
+use Rattle.cdx_leaf.proofs.Simple.{simple_text, simple_cdata, closing_with}
+use Rattle.cdx_leaf.proofs.tags.read_exact_tag.Goals as goal
+
+pub closing_tag_or_error-requires : goal.closing_tag_or_error-requires
+closing_tag_or_error-requires c =
+    let r = c.requires in
+    let s = simple_text (Err (unexpected c.args.reader.now.place c.args.element.now.local_name kinds.EndElement)) c.args.reader.now c.next.new.self c.in-Some-Characters.field-0.now c.args.element.now c.in-Some-Characters.text r.nodes r.rest c.in-Some-Characters.field-0-is c.in-Some-Characters.ensures.takes r.at in
+    record { nodes = s.0; rest = r.rest; at = s.1 }
+
+pub closing_tag_or_error-requires-in-Some-CData : goal.closing_tag_or_error-requires-in-Some-CData
+closing_tag_or_error-requires-in-Some-CData c =
+    let r = c.requires in
+    let s = simple_cdata (Err (unexpected c.args.reader.now.place c.args.element.now.local_name kinds.EndElement)) c.args.reader.now c.next.new.self c.in-Some-CData.field-0.now c.args.element.now c.in-Some-CData.text r.nodes r.rest c.in-Some-CData.field-0-is c.in-Some-CData.ensures.takes r.at in
+    record { nodes = s.0; rest = r.rest; at = s.1 }
+
+pub returns-in_ok-copy-in-Some-Characters : goal.returns-in_ok-copy-in-Some-Characters
+returns-in_ok-copy-in-Some-Characters c = λ nodes rest at.
+    let s = simple_text (Err (unexpected c.args.reader.now.place c.args.element.now.local_name kinds.EndElement)) c.args.reader.now c.next.new.self c.in-Some-Characters.field-0.now c.args.element.now c.in-Some-Characters.text nodes rest c.in-Some-Characters.field-0-is c.in-Some-Characters.ensures.takes at in
+    let closed = c.in_ok-closing_tag_or_error-in-Some-Characters.ensures s.0 rest s.1 in
+    (s.2 ∙ closing_with c.args.element.now.local_name _ c.in-Some-Characters.text c.next.new.self.place s.0 closed.0 ∙ ap (λ t. Ok t) (sym c.in_ok-copy-in-Some-Characters.ensures), closed.1 ∙ s.3)
+
+pub returns-in_ok-copy-in-Some-CData : goal.returns-in_ok-copy-in-Some-CData
+returns-in_ok-copy-in-Some-CData c = λ nodes rest at.
+    let s = simple_cdata (Err (unexpected c.args.reader.now.place c.args.element.now.local_name kinds.EndElement)) c.args.reader.now c.next.new.self c.in-Some-CData.field-0.now c.args.element.now c.in-Some-CData.text nodes rest c.in-Some-CData.field-0-is c.in-Some-CData.ensures.takes at in
+    let closed = c.in_ok-closing_tag_or_error-in-Some-CData.ensures s.0 rest s.1 in
+    (s.2 ∙ closing_with c.args.element.now.local_name _ c.in-Some-CData.text c.next.new.self.place s.0 closed.0 ∙ ap (λ t. Ok t) (sym c.in_ok-copy-in-Some-CData.ensures), closed.1 ∙ s.3)

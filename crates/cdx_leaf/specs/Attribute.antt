@@ -1,0 +1,28 @@
+use Rattle.std.specs.Prelude.{◌≡◌, ℕ, List, [], ◌∷◌, Option, Some, None, Result, Ok, Err}
+use Rattle.std.specs.Prelude.{if◌then◌else◌}
+use Rattle.cdx_models.specs.declared.bom.SpecVersion.{SpecVersion}
+use Rattle.cdx_models.specs.Versions.{knows}
+use Rattle.cdx_schema.specs.Kinds.{Kind, Row, Member, Need, optional, a_text, attribute}
+use Rattle.cdx_models.specs.declared.bom.SpecVersion.TheVariants.{V1_3}
+use Rattle.cdx_models.specs.declared.errors.XmlReadError.{XmlReadError}
+use Rattle.cdx_leaf.specs.Fault.{Fails}
+
+-- there is a value, or the fault is what is denoted
+abbrev pub or_fault : {T : Type 0} → Option T → XmlReadError → Result T XmlReadError
+or_fault None fault = Err fault
+or_fault (Some t) fault = Ok t
+
+-- What was returned, seen by view, is what is denoted, with a reader at this place.
+abbrev pub Gives : {X T : Type 0} → (X → T) → ℕ → Result T XmlReadError → Result X XmlReadError → Type 0
+Gives view place denoted (Ok x) = denoted ≡ Ok (view x)
+Gives view place denoted (Err e) = Fails e place denoted
+
+-- something that is there from `since` on
+abbrev pub known : {A : Type 0} → SpecVersion → SpecVersion → Option A → Option A
+known since v o = if knows since v then o else None
+
+abbrev pub text_row : List ℕ → Member → SpecVersion → Need → Row
+text_row name j since need = record { kind = a_text; xml = attribute name; json = j; since = since; need = need }
+
+abbrev pub value_of : Kind → List ℕ → Member → Row
+value_of k name j = record { kind = k; xml = attribute name; json = j; since = V1_3; need = optional }

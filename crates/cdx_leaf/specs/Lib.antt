@@ -1,0 +1,16 @@
+pub mod Fault
+pub mod Reading
+pub mod Roots
+pub mod Each
+pub mod Attribute
+pub mod Begun
+pub mod Rules
+pub mod Children
+pub mod Trees
+pub mod Listing
+pub mod Content
+pub mod Numbers
+pub mod Tags
+pub mod Plain
+pub mod Parts
+pub mod Whole

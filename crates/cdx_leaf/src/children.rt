@@ -1,0 +1,122 @@
+//! What is read child by child: one loop for records and lists alike, over the trait `Children`.
+//!
+//! What is read may hold in its state what its children need, as a depth: `depth` tells contracts of it. A reader that
+//! leads back to itself can't be such a target, though: the checker gives a cycle of calls through a bound no proof. A
+//! crate of records that stand in themselves writes the loop of `read_children` once for its own enum of targets, and
+//! cites the lemmas that prove it here.
+
+ghost use Rattle.cdx_events.specs.Nodes.{Nodes};
+ghost use Rattle.cdx_events.specs.declared.event.XmlEvent.{XmlEvent};
+ghost use Rattle.std.specs.Prelude.{List};
+ghost use Rattle.cdx_schema.specs.Depth.{Depth};
+ghost use Rattle.cdx_leaf.specs.Reading.{IsAt, IsIn, At, after, Reads};
+ghost use Rattle.cdx_leaf.specs.Each.{each, plan_step};
+ghost use Rattle.cdx_leaf.specs.Begun.{ReadsBegun};
+
+use crate::error::refuse;
+use crate::rule::Rule;
+use crate::tags::read_lax_validation_tag;
+use crate::taken::Taken;
+use cdx_events::{EventReader, List, OwnedAttribute, OwnedName, XmlEvent};
+use cdx_models::{SpecVersion, XmlReadError};
+use std::alloc::Global;
+
+/// What is read child by child, by a plan.
+pub trait Children: Drop {
+    ghost use Rattle.std.specs.Prelude.{◌≡◌};
+    ghost use Rattle.cdx_models.specs.Trees.{Trees};
+    ghost use Rattle.cdx_schema.specs.Depth.{Depth};
+    ghost use Rattle.cdx_schema.specs.XmlReading.{Plan};
+    ghost use Rattle.cdx_leaf.specs.Reading.{IsIn};
+    ghost use Rattle.cdx_leaf.specs.Children.{TakesChild};
+    ghost use Rattle.cdx_leaf.specs.Rules.{as_rule};
+
+    /// What was read so far, a tree for each field.
+    ghost slots: { Self → Trees };
+
+    /// Which children it has, and what becomes of the rest: each field takes the last child, one child and no second one,
+    /// or all of them.
+    ghost plan: { Self → Plan };
+
+    /// The depth at which children are read, of the one around the element.
+    ghost depth: { Self → Depth → Depth };
+
+    /// What becomes of what the plan has no child for: a lax record skips elements and refuses texts, a strict one refuses
+    /// both, and a passing one lets both pass.
+    fn rule(&self) -> Rule
+        ensures { (plan self.now).rule ≡ as_rule result };
+
+    /// Reads the element where `v` knows a child of its name. Else, and where it is a second one of which one may stand, it
+    /// reads nothing and says so. A refusal is the first fault of the child.
+    fn read_child(
+        &mut self,
+        alloc: Global,
+        reader: &mut EventReader<'_>,
+        v: SpecVersion,
+        element: &OwnedName,
+        attributes: &List<OwnedAttribute>,
+    ) -> Result<Taken, XmlReadError>
+        requires { IsIn reader.old element.now }
+        ensures takes { TakesChild (slots self.old) (slots self.new) reader.old reader.new v (plan self.old) (depth self.old) element.now attributes.now result }
+        ensures plan { plan self.new ≡ plan self.old }
+        ensures depth { depth self.new ≡ depth self.old };
+}
+
+// Reads the children up to the element's end.
+fn read_children<R: Children>(
+    alloc: Global,
+    reader: &mut EventReader<'_>,
+    v: SpecVersion,
+    element: &OwnedName,
+    target: &mut R,
+) -> Result<(), XmlReadError>
+    requires { IsAt reader.old element.now }
+    ensures { (d : Depth) (nodes : Nodes) (rest : List XmlEvent) → At reader.old element.now nodes rest
+        → Reads (λ _. R.slots target.new) reader.old reader.new (after reader.old nodes rest) (each (plan_step (R.plan target.old) v (R.depth target.old d) element.now.local_name) nodes reader.old.place (R.slots target.old)) result }
+{
+    'nodes: loop {
+        let place = reader.place();
+        let Some(event) = reader.next() else {
+            unreachable!()
+        };
+        match event {
+            XmlEvent::EndElement { .. } => return Ok(()),
+            XmlEvent::StartElement {
+                name,
+                attributes,
+                ..
+            } => match target.read_child(alloc, reader, v, name, attributes)? {
+                Taken::Read => {}
+                Taken::Unknown => {
+                    if !target.rule().skips() {
+                        return refuse(alloc, place, element, event);
+                    }
+                    read_lax_validation_tag(reader, name);
+                }
+                Taken::Second => return refuse(alloc, place, element, event),
+            },
+            _ => {
+                if !target.rule().passes() {
+                    return refuse(alloc, place, element, event);
+                }
+            }
+        }
+    }
+}
+
+/// What was begun by the element's attributes, read to the element's end; or else the fault that it was begun with, or the
+/// first one of the content.
+pub fn read_record<R: Children>(
+    alloc: Global,
+    reader: &mut EventReader<'_>,
+    v: SpecVersion,
+    element: &OwnedName,
+    begun: Result<R, XmlReadError>,
+) -> Result<R, XmlReadError>
+    requires { IsIn reader.old element.now }
+    ensures { ReadsBegun R.slots R.plan R.depth reader.old reader.new v element.now begun result }
+{
+    let mut record = begun?;
+    read_children(alloc, reader, v, element, &mut record)?;
+    Ok(record)
+}

@@ -1,0 +1,55 @@
+//! Texts with their content type and their encoding.
+
+ghost use Rattle.std.specs.Prelude.{◌+◌};
+ghost use Rattle.cdx_models.specs.Trees.{attached_text};
+ghost use Rattle.cdx_schema.specs.Table.{rows};
+ghost use Rattle.cdx_schema.specs.XmlReading.{attributes_read, in_force};
+ghost use Rattle.cdx_leaf.specs.Attribute.{Gives};
+ghost use Rattle.cdx_leaf.specs.Parts.{attached_start};
+
+use crate::attribute::last_attribute;
+use crate::content::read_exact_content;
+use crate::from_xml::FromXml;
+use cdx_events::{EventReader, List, OwnedAttribute, OwnedName, Text};
+use cdx_models::{AttachedText, SpecVersion, XmlReadError};
+use std::alloc::Global;
+
+// Here the last attribute of a local name counts.
+fn begin(
+    alloc: Global,
+    place: usize,
+    v: SpecVersion,
+    element: &OwnedName,
+    attributes: &List<OwnedAttribute>,
+) -> Result<(Option<Text>, Option<Text>), XmlReadError>
+    ensures { Gives attached_start (place + 1) (attributes_read (rows attached_text) (in_force attached_text attributes.now) v element.now.local_name place) result }
+{
+    let content_type = last_attribute(alloc, attributes, "content-type")?;
+    let encoding = last_attribute(alloc, attributes, "encoding")?;
+    Ok((content_type, encoding))
+}
+
+impl FromXml for AttachedText {
+    ghost use Rattle.cdx_models.specs.Trees.{attached_text};
+    ghost use Rattle.cdx_schema.specs.Kinds.{a_record};
+
+    ghost kind = { a_record attached_text };
+
+    ghost depth = { λ d. d };
+
+    fn read_xml_element(
+        alloc: Global,
+        reader: &mut EventReader<'_>,
+        v: SpecVersion,
+        element: &OwnedName,
+        attributes: &List<OwnedAttribute>,
+    ) -> Result<AttachedText, XmlReadError> {
+        let begun = begin(alloc, reader.place() - 1, v, element, attributes);
+        let (start, content) = read_exact_content(alloc, reader, element, begun)?;
+        Ok(AttachedText {
+            content_type: start.0,
+            encoding: start.1,
+            content,
+        })
+    }
+}

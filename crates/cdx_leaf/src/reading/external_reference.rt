@@ -1,0 +1,132 @@
+//! References to what stands outside the bill.
+
+use crate::attribute::{attribute_or_error, child_or_error};
+use crate::children::Children;
+use crate::from_xml::FromXml;
+use crate::lists::read_list_tag;
+use crate::reading::parts::ReferencePart;
+use crate::record::{Record, read_whole};
+use crate::rule::Rule;
+use crate::take::take_one;
+use crate::taken::Taken;
+use cdx_events::{EventReader, List, OwnedAttribute, OwnedName};
+use cdx_models::{ExternalReference, ExternalReferences, SpecVersion, Uri, XmlReadError};
+use std::alloc::Global;
+
+impl Children for ReferencePart {
+    ghost use Rattle.cdx_models.specs.Trees.{reference};
+    ghost use Rattle.cdx_schema.specs.XmlReading.{record_plan};
+    ghost use Rattle.cdx_leaf.specs.Parts.{reference_part};
+
+    ghost slots = { reference_part };
+
+    ghost plan = { λ r. record_plan reference };
+
+    ghost depth = { λ r d. d };
+
+    fn rule(&self) -> Rule {
+        Rule::Strict
+    }
+
+    fn read_child(
+        &mut self,
+        alloc: Global,
+        reader: &mut EventReader<'_>,
+        v: SpecVersion,
+        element: &OwnedName,
+        attributes: &List<OwnedAttribute>,
+    ) -> Result<Taken, XmlReadError> {
+        match element.local_name.as_str() {
+            "url" => take_one(alloc, reader, v, element, attributes, &mut self.url),
+            "comment" => take_one(alloc, reader, v, element, attributes, &mut self.comment),
+            "hashes" => take_one(alloc, reader, v, element, attributes, &mut self.hashes),
+            _ => Ok(Taken::Unknown),
+        }
+    }
+}
+
+impl Record for ExternalReference {
+    ghost use Rattle.std.specs.Prelude.{refl};
+    ghost use Rattle.cdx_models.specs.Trees.{reference};
+    ghost use Rattle.cdx_leaf.specs.Plain.{reference_plain};
+
+    type Part = ReferencePart;
+
+    ghost name = { reference };
+
+    ghost plain = { reference_plain };
+
+    ghost is_record = { λ x. refl };
+
+    ghost by_rows = { λ part. refl };
+
+    ghost same_depth = { λ part. refl };
+
+    fn begin(
+        alloc: Global,
+        place: usize,
+        _v: SpecVersion,
+        element: &OwnedName,
+        attributes: &List<OwnedAttribute>,
+    ) -> Result<ReferencePart, XmlReadError> {
+        Ok(ReferencePart {
+            external_reference_type: attribute_or_error(alloc, place, element, attributes, "type")?,
+            url: None,
+            comment: None,
+            hashes: None,
+        })
+    }
+
+    fn finish(
+        alloc: Global,
+        place: usize,
+        _v: SpecVersion,
+        element: &OwnedName,
+        part: ReferencePart,
+    ) -> Result<ExternalReference, XmlReadError> {
+        let url = child_or_error(alloc, place, element, part.url, "url")?;
+        Ok(ExternalReference {
+            external_reference_type: part.external_reference_type,
+            url: Uri::from_text(url),
+            comment: part.comment,
+            hashes: part.hashes,
+        })
+    }
+}
+
+impl FromXml for ExternalReference {
+    ghost use Rattle.cdx_models.specs.Trees.{reference};
+    ghost use Rattle.cdx_schema.specs.Kinds.{a_record};
+
+    ghost kind = { a_record reference };
+
+    ghost depth = { λ d. d };
+
+    fn read_xml_element(
+        alloc: Global,
+        reader: &mut EventReader<'_>,
+        v: SpecVersion,
+        element: &OwnedName,
+        attributes: &List<OwnedAttribute>,
+    ) -> Result<ExternalReference, XmlReadError> {
+        read_whole(alloc, reader, v, element, attributes)
+    }
+}
+
+impl FromXml for ExternalReferences {
+    ghost use Rattle.cdx_schema.specs.Kinds.{a_list, external_references};
+
+    ghost kind = { a_list external_references };
+
+    ghost depth = { λ d. d };
+
+    fn read_xml_element(
+        alloc: Global,
+        reader: &mut EventReader<'_>,
+        v: SpecVersion,
+        element: &OwnedName,
+        _attributes: &List<OwnedAttribute>,
+    ) -> Result<ExternalReferences, XmlReadError> {
+        Ok(ExternalReferences(read_list_tag(alloc, reader, v, element, "reference")?))
+    }
+}

@@ -1,0 +1,200 @@
+//! Organizations and their contacts.
+
+use crate::attribute::attribute_or_none;
+use crate::children::Children;
+use crate::from_xml::FromXml;
+use crate::record::{Record, read_whole};
+use crate::rule::Rule;
+use crate::take::{take_more, take_one};
+use crate::taken::Taken;
+use cdx_events::{EventReader, List, OwnedAttribute, OwnedName};
+use cdx_models::{OrganizationalContact, OrganizationalEntity, SpecVersion, XmlReadError};
+use std::alloc::Global;
+
+impl Children for OrganizationalContact {
+    ghost use Rattle.cdx_models.specs.Trees.{contact};
+    ghost use Rattle.cdx_schema.specs.XmlReading.{record_plan};
+    ghost use Rattle.cdx_leaf.specs.Parts.{contact_slots};
+
+    ghost slots = { contact_slots };
+
+    ghost plan = { λ r. record_plan contact };
+
+    ghost depth = { λ r d. d };
+
+    fn rule(&self) -> Rule {
+        Rule::Lax
+    }
+
+    fn read_child(
+        &mut self,
+        alloc: Global,
+        reader: &mut EventReader<'_>,
+        v: SpecVersion,
+        element: &OwnedName,
+        attributes: &List<OwnedAttribute>,
+    ) -> Result<Taken, XmlReadError> {
+        match element.local_name.as_str() {
+            "name" => take_one(alloc, reader, v, element, attributes, &mut self.name),
+            "email" => take_one(alloc, reader, v, element, attributes, &mut self.email),
+            "phone" => take_one(alloc, reader, v, element, attributes, &mut self.phone),
+            _ => Ok(Taken::Unknown),
+        }
+    }
+}
+
+impl Record for OrganizationalContact {
+    ghost use Rattle.std.specs.Prelude.{refl};
+    ghost use Rattle.cdx_models.specs.Trees.{contact};
+    ghost use Rattle.cdx_leaf.specs.Plain.{contact_plain};
+
+    type Part = OrganizationalContact;
+
+    ghost name = { contact };
+
+    ghost plain = { contact_plain };
+
+    ghost is_record = { λ x. refl };
+
+    ghost by_rows = { λ part. refl };
+
+    ghost same_depth = { λ part. refl };
+
+    fn begin(
+        alloc: Global,
+        _place: usize,
+        _v: SpecVersion,
+        _element: &OwnedName,
+        attributes: &List<OwnedAttribute>,
+    ) -> Result<OrganizationalContact, XmlReadError> {
+        Ok(OrganizationalContact {
+            bom_ref: attribute_or_none(alloc, attributes, "bom-ref")?,
+            name: None,
+            email: None,
+            phone: None,
+        })
+    }
+
+    fn finish(
+        _alloc: Global,
+        _place: usize,
+        _v: SpecVersion,
+        _element: &OwnedName,
+        part: OrganizationalContact,
+    ) -> Result<OrganizationalContact, XmlReadError> {
+        Ok(part)
+    }
+}
+
+impl FromXml for OrganizationalContact {
+    ghost use Rattle.cdx_models.specs.Trees.{contact};
+    ghost use Rattle.cdx_schema.specs.Kinds.{a_record};
+
+    ghost kind = { a_record contact };
+
+    ghost depth = { λ d. d };
+
+    fn read_xml_element(
+        alloc: Global,
+        reader: &mut EventReader<'_>,
+        v: SpecVersion,
+        element: &OwnedName,
+        attributes: &List<OwnedAttribute>,
+    ) -> Result<OrganizationalContact, XmlReadError> {
+        read_whole(alloc, reader, v, element, attributes)
+    }
+}
+
+impl Children for OrganizationalEntity {
+    ghost use Rattle.cdx_models.specs.Trees.{entity};
+    ghost use Rattle.cdx_schema.specs.XmlReading.{record_plan};
+    ghost use Rattle.cdx_leaf.specs.Parts.{entity_slots};
+
+    ghost slots = { entity_slots };
+
+    ghost plan = { λ r. record_plan entity };
+
+    ghost depth = { λ r d. d };
+
+    fn rule(&self) -> Rule {
+        Rule::Lax
+    }
+
+    fn read_child(
+        &mut self,
+        alloc: Global,
+        reader: &mut EventReader<'_>,
+        v: SpecVersion,
+        element: &OwnedName,
+        attributes: &List<OwnedAttribute>,
+    ) -> Result<Taken, XmlReadError> {
+        match element.local_name.as_str() {
+            "name" => take_one(alloc, reader, v, element, attributes, &mut self.name),
+            "url" => take_more(alloc, reader, v, element, attributes, &mut self.url),
+            "contact" => take_more(alloc, reader, v, element, attributes, &mut self.contact),
+            _ => Ok(Taken::Unknown),
+        }
+    }
+}
+
+impl Record for OrganizationalEntity {
+    ghost use Rattle.std.specs.Prelude.{refl};
+    ghost use Rattle.cdx_models.specs.Trees.{entity};
+    ghost use Rattle.cdx_leaf.specs.Plain.{entity_plain};
+
+    type Part = OrganizationalEntity;
+
+    ghost name = { entity };
+
+    ghost plain = { entity_plain };
+
+    ghost is_record = { λ x. refl };
+
+    ghost by_rows = { λ part. refl };
+
+    ghost same_depth = { λ part. refl };
+
+    fn begin(
+        alloc: Global,
+        _place: usize,
+        _v: SpecVersion,
+        _element: &OwnedName,
+        attributes: &List<OwnedAttribute>,
+    ) -> Result<OrganizationalEntity, XmlReadError> {
+        Ok(OrganizationalEntity {
+            bom_ref: attribute_or_none(alloc, attributes, "bom-ref")?,
+            name: None,
+            url: None,
+            contact: None,
+        })
+    }
+
+    fn finish(
+        _alloc: Global,
+        _place: usize,
+        _v: SpecVersion,
+        _element: &OwnedName,
+        part: OrganizationalEntity,
+    ) -> Result<OrganizationalEntity, XmlReadError> {
+        Ok(part)
+    }
+}
+
+impl FromXml for OrganizationalEntity {
+    ghost use Rattle.cdx_models.specs.Trees.{entity};
+    ghost use Rattle.cdx_schema.specs.Kinds.{a_record};
+
+    ghost kind = { a_record entity };
+
+    ghost depth = { λ d. d };
+
+    fn read_xml_element(
+        alloc: Global,
+        reader: &mut EventReader<'_>,
+        v: SpecVersion,
+        element: &OwnedName,
+        attributes: &List<OwnedAttribute>,
+    ) -> Result<OrganizationalEntity, XmlReadError> {
+        read_whole(alloc, reader, v, element, attributes)
+    }
+}

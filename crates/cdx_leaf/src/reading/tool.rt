@@ -1,0 +1,120 @@
+//! Tools that made a bill.
+
+use crate::children::Children;
+use crate::from_xml::FromXml;
+use crate::record::{Record, read_whole};
+use crate::rule::Rule;
+use crate::take::take_one;
+use crate::taken::Taken;
+use cdx_events::{EventReader, List, OwnedAttribute, OwnedName};
+use cdx_models::{SpecVersion, Tool, XmlReadError};
+use std::alloc::Global;
+
+impl Children for Tool {
+    ghost use Rattle.cdx_models.specs.Trees.{tool};
+    ghost use Rattle.cdx_schema.specs.XmlReading.{record_plan};
+    ghost use Rattle.cdx_leaf.specs.Parts.{tool_slots};
+
+    ghost slots = { tool_slots };
+
+    ghost plan = { λ r. record_plan tool };
+
+    ghost depth = { λ r d. d };
+
+    fn rule(&self) -> Rule {
+        Rule::Lax
+    }
+
+    fn read_child(
+        &mut self,
+        alloc: Global,
+        reader: &mut EventReader<'_>,
+        v: SpecVersion,
+        element: &OwnedName,
+        attributes: &List<OwnedAttribute>,
+    ) -> Result<Taken, XmlReadError> {
+        match element.local_name.as_str() {
+            "vendor" => take_one(alloc, reader, v, element, attributes, &mut self.vendor),
+            "name" => take_one(alloc, reader, v, element, attributes, &mut self.name),
+            "version" => take_one(alloc, reader, v, element, attributes, &mut self.version),
+            "hashes" => take_one(alloc, reader, v, element, attributes, &mut self.hashes),
+            "externalReferences" => {
+                if !SpecVersion::V1_4.is_known_to(v) {
+                    return Ok(Taken::Unknown);
+                }
+                take_one(
+                    alloc,
+                    reader,
+                    v,
+                    element,
+                    attributes,
+                    &mut self.external_references,
+                )
+            }
+            _ => Ok(Taken::Unknown),
+        }
+    }
+}
+
+impl Record for Tool {
+    ghost use Rattle.std.specs.Prelude.{refl};
+    ghost use Rattle.cdx_models.specs.Trees.{tool};
+    ghost use Rattle.cdx_leaf.specs.Plain.{tool_plain};
+
+    type Part = Tool;
+
+    ghost name = { tool };
+
+    ghost plain = { tool_plain };
+
+    ghost is_record = { λ x. refl };
+
+    ghost by_rows = { λ part. refl };
+
+    ghost same_depth = { λ part. refl };
+
+    fn begin(
+        _alloc: Global,
+        _place: usize,
+        _v: SpecVersion,
+        _element: &OwnedName,
+        _attributes: &List<OwnedAttribute>,
+    ) -> Result<Tool, XmlReadError> {
+        Ok(Tool {
+            vendor: None,
+            name: None,
+            version: None,
+            hashes: None,
+            external_references: None,
+        })
+    }
+
+    fn finish(
+        _alloc: Global,
+        _place: usize,
+        _v: SpecVersion,
+        _element: &OwnedName,
+        part: Tool,
+    ) -> Result<Tool, XmlReadError> {
+        Ok(part)
+    }
+}
+
+impl FromXml for Tool {
+    ghost use Rattle.cdx_models.specs.Trees.{tool};
+    ghost use Rattle.cdx_schema.specs.Kinds.{a_record};
+
+    ghost kind = { a_record tool };
+
+    ghost depth = { λ d. d };
+
+    fn read_xml_element(
+        alloc: Global,
+        reader: &mut EventReader<'_>,
+        v: SpecVersion,
+        element: &OwnedName,
+        attributes: &List<OwnedAttribute>,
+    ) -> Result<Tool, XmlReadError> {
+        read_whole(alloc, reader, v, element, attributes)
+    }
+}
