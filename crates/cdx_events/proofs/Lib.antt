@@ -7,3 +7,4 @@ pub mod RootLaws
 pub mod Taking
 pub mod Taken
 pub mod Put
+pub mod Telling

@@ -47,7 +47,7 @@ pub record Fails (budget : ℕ) (taken : List XmlEvent) (before now : ℕ) : Typ
 
 -- what is answered for these events, which were taken of those that were left
 abbrev pub Answers : ℕ → Option (List XmlEvent) → List XmlEvent → ℕ → ℕ → Result Events GatherError → Type 0
-Answers budget left taken before now (Ok events) = (events ≡ taken) × IsBalanced taken × Stops budget left taken before now × (IsSpent budget taken → ⊥)
+Answers budget left taken before now (Ok events) = (events.list ≡ taken) × IsBalanced taken × Stops budget left taken before now × (IsSpent budget taken → ⊥)
 Answers budget left taken before now (Err (Fault count)) = (count ≡ length taken) × Fails budget taken before now
 Answers budget left taken before now (Err (Unbalanced place)) = IsBroken taken place × Stops budget left taken before now × (IsSpent budget taken → ⊥)
 Answers budget left taken before now (Err (Budget count)) = (count ≡ length taken) × IsSpent budget taken × Stops budget left taken before now

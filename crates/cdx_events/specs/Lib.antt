@@ -1,6 +1,7 @@
 pub mod Name
 pub mod Event
 pub mod Nodes
+pub mod Utf8
 pub mod Balance
 pub mod Cursor
 pub mod Events

@@ -17,6 +17,7 @@ mod reader;
 mod sending;
 mod stream;
 mod text;
+mod utf8;
 mod writer;
 
 pub use balance::Balance;

@@ -15,7 +15,7 @@ pub struct SendError {
 /// Puts the events in order, until one fails. An error comes only where the count of the sink rose, and `Ok` only
 /// where it didn't grow. It takes no memory.
 pub fn send<K: EventSink>(events: Events, sink: &mut K) -> Result<(), SendError>
-    ensures { Sends events (K.written sink.old) (K.written sink.new) (K.faults sink.old) (K.faults sink.new) result }
+    ensures { Sends events.list (K.written sink.old) (K.written sink.new) (K.faults sink.old) (K.faults sink.new) result }
 {
     let mut waiting = VecDeque::from(events.into_list().into_vec());
     let mut put = 0;

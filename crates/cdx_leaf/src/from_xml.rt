@@ -45,5 +45,5 @@ pub trait FromXmlDocument: HasTree + Drop {
         events: &Events,
         v: SpecVersion,
     ) -> Result<Self, XmlReadError>
-        ensures { ReadsDocument Self.tree events.now v kind result };
+        ensures { ReadsDocument Self.tree events.now.list v kind result };
 }

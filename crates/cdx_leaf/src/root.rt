@@ -19,7 +19,7 @@ pub struct Root<'a> {
 
 /// The root of the document that the events are.
 pub fn root_of<'a>(events: &'a Events) -> Root<'a>
-    ensures root { IsRootOf events.now result.reader result.name.now result.attributes.now result.namespace.now }
+    ensures root { IsRootOf events.now.list result.reader result.name.now result.attributes.now result.namespace.now }
     ensures inside { IsIn result.reader result.name.now }
     ensures at { IsAt result.reader result.name.now }
 {
@@ -49,7 +49,7 @@ pub fn read_root<X: FromXml>(
     events: &Events,
     v: SpecVersion,
 ) -> Result<X, XmlReadError>
-    ensures { ReadsRoot X.tree events.now v X.kind X.depth result }
+    ensures { ReadsRoot X.tree events.now.list v X.kind X.depth result }
 {
     let Root {
         mut reader,

@@ -37,6 +37,7 @@ pub mod Written
 pub mod Unwritten
 pub mod RoadSettle
 pub mod ViewTexts
+pub mod EventTexts
 pub mod FaultPlaces
 pub mod Local
 pub mod DroppedRead

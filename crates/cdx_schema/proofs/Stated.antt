@@ -19,6 +19,7 @@ use Rattle.cdx_schema.specs.Kinds.{a_bill}
 use Rattle.cdx_schema.specs.Depth.{top}
 use Rattle.cdx_schema.proofs.Shape.{shape, any_texts, any_node}
 use Rattle.cdx_schema.proofs.ViewTexts.{view_texts}
+use Rattle.cdx_schema.proofs.EventTexts.{root_texts}
 use Rattle.cdx_schema.specs.Keeping.{keep}
 use Rattle.cdx_schema.specs.Locality.{IsLocal}
 use Rattle.cdx_schema.proofs.Local.{local_faults}
@@ -83,7 +84,7 @@ pub json_denotes_bills : JsonDenotesBills
 json_denotes_bills x v b h = json_bill IsUtf8 (view x) v b (view_texts x) h
 
 pub xml_denotes_bills : XmlDenotesBills
-xml_denotes_bills x v b u h = xml_bill IsUtf8 IsUtf8-nil x v b u h
+xml_denotes_bills events x v b e h = xml_bill IsUtf8 IsUtf8-nil x v b (root_texts events x e) h
 
 pub leads : RoadsLead
 leads b x v hops h f = let p : HasBillShape b × IsShallow b = denotes_shapes x v b h in roads_lead b x v hops h p.0 p.1 f

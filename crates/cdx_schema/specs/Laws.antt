@@ -16,11 +16,10 @@ use Rattle.cdx_schema.specs.JsonSpelling.{jspell}
 use Rattle.cdx_schema.specs.XmlReading.{xml_denotes}
 use Rattle.cdx_schema.specs.XmlSpelling.{root}
 use Rattle.cdx_schema.specs.Roads.{Doc, json, xml, version_missing, denotes, fits_all, road}
-use Rattle.cdx_schema.specs.Texts.{NodeTexts}
-use Rattle.std.specs.Str.{IsUtf8}
 use Rattle.serde_json.specs.View.{view}
 use Rattle.serde_json.specs.declared.value.Value.{Value}
-use Rattle.cdx_events.specs.Nodes.{Node}
+use Rattle.cdx_events.specs.Nodes.{Node, document}
+use Rattle.cdx_events.specs.declared.events.Events.{Events}
 
 -- A bill. Its texts are in UTF-8.
 abbrev pub IsBill : Tree → Type 0
@@ -93,9 +92,9 @@ DenotesShapes = (x : Doc) (v : SpecVersion) (b : Tree) → denotes x v ≡ Ok b 
 abbrev pub JsonDenotesBills : Type 0
 JsonDenotesBills = (x : Value) (v : SpecVersion) (b : Tree) → json_denotes (view x) v ≡ Ok b → IsBill b × IsShallow b
 
--- What an element whose texts are UTF-8 denotes is a bill.
+-- What the root of a document of events denotes is a bill.
 abbrev pub XmlDenotesBills : Type 0
-XmlDenotesBills = (x : Node) (v : SpecVersion) (b : Tree) → NodeTexts IsUtf8 x → xml_denotes x v ≡ Ok b → IsBill b × IsShallow b
+XmlDenotesBills = (events : Events) (x : Node) (v : SpecVersion) (b : Tree) → events.list ≡ document x → xml_denotes x v ≡ Ok b → IsBill b × IsShallow b
 
 -- ---- roads
 

@@ -6,7 +6,7 @@ use Rattle.cdx_events.proofs.sending.send.Given as goal
 abbrev pub invariant-loop-event : goal.invariant-loop-event
 invariant-loop-event g l =
     record {
-      put : IsPut l.fn.events l.waiting.items l.put (g.K.EventSink.written l.initial.sink) (g.K.EventSink.written l.sink);
+      put : IsPut l.fn.events.list l.waiting.items l.put (g.K.EventSink.written l.initial.sink) (g.K.EventSink.written l.sink);
       sound : g.K.EventSink.faults l.sink ≡ g.K.EventSink.faults l.initial.sink;
       fits : l.put + deque_len l.waiting < 2 ^ 64;
     }
