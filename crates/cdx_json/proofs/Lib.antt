@@ -4,6 +4,3 @@ pub mod Values
 pub mod Loops
 pub mod KeptRowsLaws
 pub mod Spelled
-pub mod Texts
-pub mod Signed
-pub mod Licensed

@@ -4,13 +4,6 @@ use Rattle.serde_json.specs.Data.{no_members}
 use Rattle.cdx_models.specs.declared.bom.SpecVersion.{SpecVersion}
 use Rattle.cdx_models.specs.declared.bom.SpecVersion.TheVariants.{V1_3, V1_4, V1_5}
 use Rattle.cdx_models.specs.Trees.{Name, Tree, text, number, boolean, items, fields, Trees, is_absent}
-use Rattle.cdx_models.specs.Records.{signature_tree, choice_tree, identifier_tree}
-use Rattle.cdx_models.specs.declared.signature.Signature.{Signature}
-use Rattle.cdx_models.specs.declared.signature.Signature.TheVariants as variant
-use Rattle.cdx_models.specs.declared.license.LicenseChoice.{LicenseChoice}
-use Rattle.cdx_models.specs.declared.license.LicenseChoice.TheVariants as choice
-use Rattle.cdx_models.specs.declared.license.LicenseIdentifier.{LicenseIdentifier}
-use Rattle.cdx_models.specs.declared.license.LicenseIdentifier.TheVariants as identifier
 use Rattle.cdx_schema.specs.Kinds.{Lists, Kind, a_text, a_number, a_boolean, a_reference, a_list, a_record, a_signature, a_license_choice, a_license_identifier}
 use Rattle.cdx_schema.specs.Depth.{Depth, name_too_deep, inside}
 use Rattle.cdx_schema.specs.JsonSpelling.{heading}
@@ -51,33 +44,20 @@ record_stays V1_3 l n ts = refl
 record_stays V1_4 l n ts = refl
 record_stays V1_5 l n ts = refl
 
-signature_fields_stay : (w l : SpecVersion) (n : Name) (ts : Trees) → is_absent (kept w l (fields n ts) a_signature) ≡ false
+pub signature_fields_stay : (w l : SpecVersion) (n : Name) (ts : Trees) → is_absent (kept w l (fields n ts) a_signature) ≡ false
 unfolding kept
 signature_fields_stay V1_3 l n ts = refl
 signature_fields_stay V1_4 l n ts = refl
 signature_fields_stay V1_5 l n ts = refl
 
-pub signature_stays : (w l : SpecVersion) (x : Signature) → is_absent (kept w l (signature_tree x) a_signature) ≡ false
-signature_stays w l (variant.Signers xs) = signature_fields_stay w l _ _
-signature_stays w l (variant.Chain xs) = signature_fields_stay w l _ _
-signature_stays w l (variant.Single x) = signature_fields_stay w l _ _
-
-choice_fields_stay : (w l : SpecVersion) (n : Name) (ts : Trees) → is_absent (kept w l (fields n ts) a_license_choice) ≡ false
+pub choice_fields_stay : (w l : SpecVersion) (n : Name) (ts : Trees) → is_absent (kept w l (fields n ts) a_license_choice) ≡ false
 unfolding kept
 choice_fields_stay V1_3 l n ts = refl
 choice_fields_stay V1_4 l n ts = refl
 choice_fields_stay V1_5 l n ts = refl
 
-pub choice_stays : (w l : SpecVersion) (x : LicenseChoice) → is_absent (kept w l (choice_tree x) a_license_choice) ≡ false
-choice_stays w l (choice.License x) = choice_fields_stay w l _ _
-choice_stays w l (choice.Expression x) = choice_fields_stay w l _ _
-
-identifier_fields_stay : (w l : SpecVersion) (n : Name) (ts : Trees) → is_absent (kept w l (fields n ts) a_license_identifier) ≡ false
+pub identifier_fields_stay : (w l : SpecVersion) (n : Name) (ts : Trees) → is_absent (kept w l (fields n ts) a_license_identifier) ≡ false
 unfolding kept
 identifier_fields_stay V1_3 l n ts = refl
 identifier_fields_stay V1_4 l n ts = refl
 identifier_fields_stay V1_5 l n ts = refl
-
-pub identifier_stays : (w l : SpecVersion) (x : LicenseIdentifier) → is_absent (kept w l (identifier_tree x) a_license_identifier) ≡ false
-identifier_stays w l (identifier.SpdxId s) = identifier_fields_stay w l _ _
-identifier_stays w l (identifier.Name s) = identifier_fields_stay w l _ _

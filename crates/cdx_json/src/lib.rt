@@ -3,17 +3,13 @@
 
 pub mod attached_text;
 pub mod bom;
-pub mod composition;
-pub mod dependency;
 pub mod depth;
 pub mod external_reference;
 pub mod fault;
 pub mod hash;
-pub mod license;
 pub mod organization;
 pub mod property;
 pub mod reading;
-pub mod signature;
 pub mod tool;
 pub mod traits;
 pub mod writing;
@@ -31,6 +27,3 @@ pub use writing::{
     list_to_value, put_list, put_optional_list, put_optional_list_since, put_required,
     put_required_list, put_row, put_row_since, write_record,
 };
-
-#[cfg(test)]
-mod tests;

@@ -9,7 +9,4 @@ pub mod Parts
 pub mod Contents
 pub mod Attributes
 pub mod Digits
-pub mod Algorithms
-pub mod Identifiers
-pub mod Signatures
 pub mod Roots

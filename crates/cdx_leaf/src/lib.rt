@@ -26,7 +26,7 @@ pub use children::{Children, read_record};
 pub use content::{read_content, read_exact_content};
 pub use error::{invalid_parse_error, refuse, refuse_missing, unexpected_element_error};
 pub use from_xml::{FromXml, FromXmlDocument};
-pub use lists::{read_lax_validation_list_tag, read_list_tag};
+pub use lists::{read_items, read_lax_validation_list_tag, read_list_tag};
 pub use namespace::{expected_namespace_or_error, namespace_of};
 pub use record::{Record, TextRecord, read_text_record, read_whole};
 pub use root::{Root, read_root, root_of};
@@ -38,6 +38,3 @@ pub use tags::{
 pub use take::{take_into, take_list, take_more, take_one};
 pub use taken::Taken;
 pub use xml_type::{FromXmlType, attribute_value};
-
-#[cfg(test)]
-mod tests;

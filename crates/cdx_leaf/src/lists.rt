@@ -51,7 +51,7 @@ impl<'a, X: FromXml> Children for Listing<'a, X> {
 }
 
 /// The items of the element, by the rule for what else stands in it.
-pub(crate) fn read_items<X: FromXml>(
+pub fn read_items<X: FromXml>(
     alloc: Global,
     reader: &mut EventReader<'_>,
     v: SpecVersion,

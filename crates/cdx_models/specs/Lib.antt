@@ -3,7 +3,6 @@ pub mod Trees
 pub mod Same
 pub mod SameLaws
 pub mod Addresses
-pub mod Signatures
 pub mod Records
 pub mod Entries
 pub mod Path

@@ -3,33 +3,25 @@
 
 pub mod attached_text;
 pub mod bom;
-pub mod composition;
-pub mod dependency;
 pub mod errors;
 pub mod external_reference;
 pub mod hash;
-pub mod license;
 pub mod organization;
 mod path;
 pub mod property;
-pub mod signature;
 pub mod tool;
 pub mod tree;
 
 pub use attached_text::AttachedText;
 pub use bom::{SpecVersion, UrnUuid};
-pub use composition::{BomReference, Composition, Compositions};
-pub use dependency::{Dependencies, Dependency};
 pub use errors::{
     BomError, JsonKind, JsonReadError, JsonWriteError, Lack, Path, ReadKind, Step, XmlReadError,
     XmlWriteError,
 };
 pub use external_reference::{ExternalReference, ExternalReferences, Uri};
 pub use hash::{Hash, HashValue, Hashes};
-pub use license::{Expression, License, LicenseChoice, LicenseIdentifier, Licenses};
 pub use organization::{OrganizationalContact, OrganizationalEntity};
 pub use property::{Properties, Property};
-pub use signature::{Algorithm, Signature, Signer};
 pub use tool::Tool;
 pub use tree::{HasTree, copy_row, same_row};
 

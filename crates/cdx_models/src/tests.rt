@@ -1,5 +1,3 @@
-mod records;
-
 use super::*;
 use cdx_events::{List, OwnedName, Text};
 use std::test::Fail;

@@ -1,7 +1,8 @@
 -- The trees of the leaf records of components and services, a field for each row of the schema and in its order.
 use Rattle.std.specs.Prelude.{◌≡◌, refl, false, [], ◌∷◌}
 use Rattle.cdx_models.specs.Trees.{swid, evidence, copyright, classification, service_data, Tree, text, number, boolean, fields, trees, present, list_tree, is_absent}
-use Rattle.cdx_models.specs.Records.{attached_text_tree, licenses_tree}
+use Rattle.cdx_models.specs.Records.{attached_text_tree}
+use Rattle.cdx_license.specs.Records.{licenses_tree}
 use Rattle.cdx_models.specs.Entries.{entry_of}
 use Rattle.cdx_parts.specs.declared.component.Swid.{Swid}
 use Rattle.cdx_parts.specs.declared.component.Cpe.{Cpe}

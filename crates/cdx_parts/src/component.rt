@@ -6,7 +6,8 @@ ghost use Rattle.cdx_models.specs.SameLaws.{same_laws};
 ghost use Rattle.cdx_parts.specs.Records.{swid_tree, cpe_tree, mime_type_tree, evidence_tree, copyright_tree, copyrights_tree};
 
 use cdx_events::{List, Text};
-use cdx_models::{AttachedText, HasTree, Licenses, copy_row, same_row};
+use cdx_license::Licenses;
+use cdx_models::{AttachedText, HasTree, copy_row, same_row};
 use std::alloc::{AllocError, Global};
 
 /// A tag of a software identification (ISO/IEC 19770-2).

@@ -4,7 +4,7 @@ use Rattle.cdx_models.specs.Trees.{text}
 use Rattle.cdx_models.specs.Addresses.{uri_text}
 use Rattle.cdx_json.specs.Depths.{depth_of}
 use Rattle.cdx_json.proofs.Values.{text_ok, text_err}
-use Rattle.cdx_json.proofs.Texts.{uri_back}
+use Rattle.cdx_models.proofs.AddressTexts.{text_of_uri as uri_back}
 use Rattle.cdx_json.proofs.external_reference.UriFromJson.from_json_at.Goals as goal
 
 pub returns-in-None-clause-gives : goal.returns-in-None-clause-gives

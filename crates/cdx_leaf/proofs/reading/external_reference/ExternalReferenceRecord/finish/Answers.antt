@@ -8,7 +8,7 @@ use Rattle.cdx_schema.specs.XmlReading.{ended}
 use Rattle.cdx_leaf.specs.Attribute.{or_fault}
 use Rattle.cdx_leaf.specs.Parts.{reference_part}
 use Rattle.cdx_leaf.proofs.Attributes.{or_fault_ok, or_fault_err}
-use Rattle.cdx_leaf.proofs.Algorithms.{text_of_uri}
+use Rattle.cdx_models.proofs.AddressTexts.{text_of_uri}
 use Rattle.cdx_leaf.proofs.Loop.{fails_along}
 use Rattle.cdx_leaf.proofs.reading.external_reference.ExternalReferenceRecord.finish.Goals as goal
 

@@ -1,9 +1,0 @@
-use Rattle.std.proofs.Common.{refl}
-use Rattle.cdx_json.proofs.Licensed.{lone_when, lone_unless}
-use Rattle.cdx_json.proofs.license.is_lone_license.Goals as goal
-
-pub returns-then-len-eq1 : goal.returns-then-len-eq1
-returns-then-len-eq1 c = lone_when c.args.map.now.entries c.len.result c.has_member.result c.len.ensures.len c.if-len-eq1.true c.has_member.ensures
-
-pub returns-else-len-eq1 : goal.returns-else-len-eq1
-returns-else-len-eq1 c = lone_unless c.args.map.now.entries c.len.result _ c.len.ensures.len c.if-len-eq1.false refl

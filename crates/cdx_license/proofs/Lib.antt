@@ -1,0 +1,2 @@
+pub mod Licensed
+pub mod Identifiers

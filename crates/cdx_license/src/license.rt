@@ -1,0 +1,213 @@
+//! Licenses.
+
+ghost use Rattle.std.specs.Prelude.{◌≡◌, refl, IfOk, None};
+ghost use Rattle.cdx_license.specs.Records.{identifier_tree, identifier_there, license_tree, expression_tree, choice_tree, choice_there, licenses_tree};
+ghost use Rattle.cdx_models.specs.Same.{same};
+ghost use Rattle.cdx_models.specs.SameLaws.{same_laws};
+
+use cdx_events::{List, Text};
+use cdx_models::{AttachedText, HasTree, Properties, copy_row, same_row};
+use std::alloc::{AllocError, Global};
+
+/// How a license is named.
+#[derive(Debug, Drop)]
+pub enum LicenseIdentifier {
+    /// An identifier of the SPDX list of licenses, which isn't checked.
+    SpdxId(Text),
+    /// The name of any other license.
+    Name(Text),
+}
+
+impl HasTree for LicenseIdentifier {
+    ghost tree = { identifier_tree };
+
+    ghost there = { identifier_there };
+
+    fn copy(&self, alloc: Global) -> Result<LicenseIdentifier, AllocError> {
+        match self {
+            LicenseIdentifier::SpdxId(held) => Ok(LicenseIdentifier::SpdxId(held.copy(alloc)?)),
+            LicenseIdentifier::Name(held) => Ok(LicenseIdentifier::Name(held.copy(alloc)?)),
+        }
+    }
+
+    fn same(&self, other: &LicenseIdentifier) -> bool {
+        match (self, other) {
+            (LicenseIdentifier::SpdxId(one), LicenseIdentifier::SpdxId(other)) => one.same(other),
+            (LicenseIdentifier::SpdxId(_), LicenseIdentifier::Name(_)) => false,
+            (LicenseIdentifier::Name(_), LicenseIdentifier::SpdxId(_)) => false,
+            (LicenseIdentifier::Name(one), LicenseIdentifier::Name(other)) => one.same(other),
+        }
+    }
+}
+
+impl PartialEq for LicenseIdentifier {
+    ghost eq = { λ a b. same (identifier_tree a) (identifier_tree b) };
+
+    ghost laws = { same_laws identifier_tree };
+
+    fn eq(&self, other: &LicenseIdentifier) -> bool {
+        self.same(other)
+    }
+}
+
+/// A license.
+#[derive(Debug, Drop)]
+pub struct License {
+    /// The name by which the rest of the bill refers to it. Known from 1.5 on.
+    pub bom_ref: Option<Text>,
+    pub license_identifier: LicenseIdentifier,
+    /// The license's own text.
+    pub text: Option<AttachedText>,
+    /// Where the license's text can be found.
+    pub url: Option<Text>,
+    /// Known from 1.5 on.
+    pub properties: Option<Properties>,
+}
+
+impl HasTree for License {
+    ghost tree = { license_tree };
+
+    ghost there = { λ x. refl };
+
+    fn copy(&self, alloc: Global) -> Result<License, AllocError> {
+        Ok(License {
+            bom_ref: copy_row(alloc, &self.bom_ref)?,
+            license_identifier: self.license_identifier.copy(alloc)?,
+            text: copy_row(alloc, &self.text)?,
+            url: copy_row(alloc, &self.url)?,
+            properties: copy_row(alloc, &self.properties)?,
+        })
+    }
+
+    fn same(&self, other: &License) -> bool {
+        same_row(&self.bom_ref, &other.bom_ref)
+            && self.license_identifier.same(&other.license_identifier)
+            && same_row(&self.text, &other.text)
+            && same_row(&self.url, &other.url)
+            && same_row(&self.properties, &other.properties)
+    }
+}
+
+impl PartialEq for License {
+    ghost eq = { λ a b. same (license_tree a) (license_tree b) };
+
+    ghost laws = { same_laws license_tree };
+
+    fn eq(&self, other: &License) -> bool {
+        self.same(other)
+    }
+}
+
+/// An SPDX license expression.
+#[derive(Debug, Drop)]
+pub struct Expression {
+    /// The name by which the rest of the bill refers to it.
+    pub bom_ref: Option<Text>,
+    /// The expression, as `MIT OR Apache-2.0`, which isn't checked.
+    pub expression: Text,
+}
+
+impl Expression {
+    /// This expression, without a reference.
+    pub fn new(alloc: Global, expression: &str) -> Result<Expression, AllocError>
+        ensures { IfOk result (λ r. r ≡ record { bom_ref = None; expression = expression.now }) }
+    {
+        Ok(Expression {
+            bom_ref: None,
+            expression: Text::new(alloc, expression)?,
+        })
+    }
+}
+
+impl HasTree for Expression {
+    ghost tree = { expression_tree };
+
+    ghost there = { λ x. refl };
+
+    fn copy(&self, alloc: Global) -> Result<Expression, AllocError> {
+        Ok(Expression {
+            bom_ref: copy_row(alloc, &self.bom_ref)?,
+            expression: self.expression.copy(alloc)?,
+        })
+    }
+
+    fn same(&self, other: &Expression) -> bool {
+        same_row(&self.bom_ref, &other.bom_ref) && self.expression.same(&other.expression)
+    }
+}
+
+impl PartialEq for Expression {
+    ghost eq = { λ a b. same (expression_tree a) (expression_tree b) };
+
+    ghost laws = { same_laws expression_tree };
+
+    fn eq(&self, other: &Expression) -> bool {
+        self.same(other)
+    }
+}
+
+/// A license or an expression.
+#[derive(Debug, Drop)]
+pub enum LicenseChoice {
+    License(License),
+    Expression(Expression),
+}
+
+impl HasTree for LicenseChoice {
+    ghost tree = { choice_tree };
+
+    ghost there = { choice_there };
+
+    fn copy(&self, alloc: Global) -> Result<LicenseChoice, AllocError> {
+        match self {
+            LicenseChoice::License(held) => Ok(LicenseChoice::License(held.copy(alloc)?)),
+            LicenseChoice::Expression(held) => Ok(LicenseChoice::Expression(held.copy(alloc)?)),
+        }
+    }
+
+    fn same(&self, other: &LicenseChoice) -> bool {
+        match (self, other) {
+            (LicenseChoice::License(one), LicenseChoice::License(other)) => one.same(other),
+            (LicenseChoice::License(_), LicenseChoice::Expression(_)) => false,
+            (LicenseChoice::Expression(_), LicenseChoice::License(_)) => false,
+            (LicenseChoice::Expression(one), LicenseChoice::Expression(other)) => one.same(other),
+        }
+    }
+}
+
+impl PartialEq for LicenseChoice {
+    ghost eq = { λ a b. same (choice_tree a) (choice_tree b) };
+
+    ghost laws = { same_laws choice_tree };
+
+    fn eq(&self, other: &LicenseChoice) -> bool {
+        self.same(other)
+    }
+}
+
+#[derive(Debug, Drop)]
+pub struct Licenses(pub List<LicenseChoice>);
+
+impl HasTree for Licenses {
+    ghost tree = { licenses_tree };
+
+    ghost there = { λ x. refl };
+
+    fn copy(&self, alloc: Global) -> Result<Licenses, AllocError> {
+        Ok(Licenses(self.0.copy(alloc)?))
+    }
+
+    fn same(&self, other: &Licenses) -> bool {
+        self.0.same(&other.0)
+    }
+}
+
+impl PartialEq for Licenses {
+    ghost eq = { λ a b. same (licenses_tree a) (licenses_tree b) };
+
+    ghost laws = { same_laws licenses_tree };
+
+    fn eq(&self, other: &Licenses) -> bool {
+        self.same(other)
+    }
+}

@@ -1,0 +1,314 @@
+//! Licenses.
+
+use crate::license::{Expression, License, LicenseChoice, LicenseIdentifier, Licenses};
+use crate::parts::{ChoicesPart, LicensePart};
+use cdx_events::{EventReader, List, OwnedAttribute, OwnedName, Text};
+use cdx_leaf::{
+    Children, FromXml, Record, Rule, Taken, TextRecord, attribute_or_none, attribute_since,
+    child_or_error, read_exact_content, read_record, read_text_record, read_whole, refuse_missing,
+    take_into, take_one,
+};
+use cdx_models::{SpecVersion, XmlReadError};
+use std::alloc::Global;
+
+/// An `id` or a `name`. An element of another name lacks `id or name`, at its start.
+impl FromXml for LicenseIdentifier {
+    ghost use Rattle.cdx_schema.specs.Kinds.{a_license_identifier};
+
+    ghost kind = { a_license_identifier };
+
+    ghost depth = { λ d. d };
+
+    fn read_xml_element(
+        alloc: Global,
+        reader: &mut EventReader<'_>,
+        _v: SpecVersion,
+        element: &OwnedName,
+        _attributes: &List<OwnedAttribute>,
+    ) -> Result<LicenseIdentifier, XmlReadError> {
+        if element.local_name.is("id") {
+            let (_, id) = read_exact_content(alloc, reader, element, Ok(()))?;
+            return Ok(LicenseIdentifier::SpdxId(id));
+        }
+        if element.local_name.is("name") {
+            let (_, name) = read_exact_content(alloc, reader, element, Ok(()))?;
+            return Ok(LicenseIdentifier::Name(name));
+        }
+        refuse_missing(alloc, reader.place() - 1, element, "id or name")
+    }
+}
+
+impl Children for LicensePart {
+    ghost use Rattle.cdx_models.specs.Trees.{license};
+    ghost use Rattle.cdx_schema.specs.XmlReading.{record_plan};
+    ghost use Rattle.cdx_license.specs.Parts.{license_part};
+
+    ghost slots = { license_part };
+
+    ghost plan = { λ r. record_plan license };
+
+    ghost depth = { λ r d. d };
+
+    fn rule(&self) -> Rule {
+        Rule::Lax
+    }
+
+    fn read_child(
+        &mut self,
+        alloc: Global,
+        reader: &mut EventReader<'_>,
+        v: SpecVersion,
+        element: &OwnedName,
+        attributes: &List<OwnedAttribute>,
+    ) -> Result<Taken, XmlReadError> {
+        match element.local_name.as_str() {
+            "id" => {
+                if self.license_identifier.is_some() {
+                    return Ok(Taken::Second);
+                }
+                take_one(
+                    alloc,
+                    reader,
+                    v,
+                    element,
+                    attributes,
+                    &mut self.license_identifier,
+                )
+            }
+            "name" => {
+                if self.license_identifier.is_some() {
+                    return Ok(Taken::Second);
+                }
+                take_one(
+                    alloc,
+                    reader,
+                    v,
+                    element,
+                    attributes,
+                    &mut self.license_identifier,
+                )
+            }
+            "text" => take_one(alloc, reader, v, element, attributes, &mut self.text),
+            "url" => take_one(alloc, reader, v, element, attributes, &mut self.url),
+            "properties" => {
+                if !SpecVersion::V1_5.is_known_to(v) {
+                    return Ok(Taken::Unknown);
+                }
+                take_one(alloc, reader, v, element, attributes, &mut self.properties)
+            }
+            _ => Ok(Taken::Unknown),
+        }
+    }
+}
+
+impl Record for License {
+    ghost use Rattle.std.specs.Prelude.{refl};
+    ghost use Rattle.cdx_models.specs.Trees.{license};
+    ghost use Rattle.cdx_leaf.specs.Plain.{license_plain};
+
+    type Part = LicensePart;
+
+    ghost name = { license };
+
+    ghost plain = { license_plain };
+
+    ghost is_record = { λ x. refl };
+
+    ghost by_rows = { λ part. refl };
+
+    ghost same_depth = { λ part. refl };
+
+    fn begin(
+        alloc: Global,
+        _place: usize,
+        v: SpecVersion,
+        _element: &OwnedName,
+        attributes: &List<OwnedAttribute>,
+    ) -> Result<LicensePart, XmlReadError> {
+        Ok(LicensePart {
+            bom_ref: attribute_since(alloc, SpecVersion::V1_5, v, attributes, "bom-ref")?,
+            license_identifier: None,
+            text: None,
+            url: None,
+            properties: None,
+        })
+    }
+
+    fn finish(
+        alloc: Global,
+        place: usize,
+        _v: SpecVersion,
+        element: &OwnedName,
+        part: LicensePart,
+    ) -> Result<License, XmlReadError> {
+        let license_identifier = child_or_error(
+            alloc,
+            place,
+            element,
+            part.license_identifier,
+            "id or name",
+        )?;
+        Ok(License {
+            bom_ref: part.bom_ref,
+            license_identifier,
+            text: part.text,
+            url: part.url,
+            properties: part.properties,
+        })
+    }
+}
+
+impl FromXml for License {
+    ghost use Rattle.cdx_models.specs.Trees.{license};
+    ghost use Rattle.cdx_schema.specs.Kinds.{a_record};
+
+    ghost kind = { a_record license };
+
+    ghost depth = { λ d. d };
+
+    fn read_xml_element(
+        alloc: Global,
+        reader: &mut EventReader<'_>,
+        v: SpecVersion,
+        element: &OwnedName,
+        attributes: &List<OwnedAttribute>,
+    ) -> Result<License, XmlReadError> {
+        read_whole(alloc, reader, v, element, attributes)
+    }
+}
+
+impl TextRecord for Expression {
+    ghost use Rattle.std.specs.Prelude.{refl};
+    ghost use Rattle.cdx_models.specs.Trees.{expression};
+    ghost use Rattle.cdx_leaf.specs.Plain.{expression_content};
+    ghost use Rattle.cdx_leaf.specs.Whole.{expression_whole};
+    ghost use Rattle.cdx_leaf.specs.Parts.{reference_alone};
+
+    type Start = Option<Text>;
+
+    ghost name = { expression };
+
+    ghost start = { reference_alone };
+
+    ghost at = { 1 };
+
+    ghost content = { expression_content };
+
+    ghost whole = { expression_whole };
+
+    fn begin(
+        alloc: Global,
+        _place: usize,
+        _v: SpecVersion,
+        _element: &OwnedName,
+        attributes: &List<OwnedAttribute>,
+    ) -> Result<Option<Text>, XmlReadError> {
+        Ok(attribute_or_none(alloc, attributes, "bom-ref")?)
+    }
+
+    fn with_text(begun: Option<Text>, content: Text) -> Expression {
+        Expression {
+            bom_ref: begun,
+            expression: content,
+        }
+    }
+}
+
+impl FromXml for Expression {
+    ghost use Rattle.cdx_models.specs.Trees.{expression};
+    ghost use Rattle.cdx_schema.specs.Kinds.{a_record};
+
+    ghost kind = { a_record expression };
+
+    ghost depth = { λ d. d };
+
+    fn read_xml_element(
+        alloc: Global,
+        reader: &mut EventReader<'_>,
+        v: SpecVersion,
+        element: &OwnedName,
+        attributes: &List<OwnedAttribute>,
+    ) -> Result<Expression, XmlReadError> {
+        read_text_record(alloc, reader, v, element, attributes)
+    }
+}
+
+/// A `license` or an `expression`. An element of another name lacks `license or expression`, at its start.
+impl FromXml for LicenseChoice {
+    ghost use Rattle.cdx_schema.specs.Kinds.{a_license_choice};
+
+    ghost kind = { a_license_choice };
+
+    ghost depth = { λ d. d };
+
+    fn read_xml_element(
+        alloc: Global,
+        reader: &mut EventReader<'_>,
+        v: SpecVersion,
+        element: &OwnedName,
+        attributes: &List<OwnedAttribute>,
+    ) -> Result<LicenseChoice, XmlReadError> {
+        if element.local_name.is("license") {
+            let license = License::read_xml_element(alloc, reader, v, element, attributes)?;
+            return Ok(LicenseChoice::License(license));
+        }
+        if element.local_name.is("expression") {
+            let expression = Expression::read_xml_element(alloc, reader, v, element, attributes)?;
+            return Ok(LicenseChoice::Expression(expression));
+        }
+        refuse_missing(alloc, reader.place() - 1, element, "license or expression")
+    }
+}
+
+impl Children for ChoicesPart {
+    ghost use Rattle.cdx_schema.specs.Kinds.{licenses};
+    ghost use Rattle.cdx_schema.specs.XmlReading.{choice_plan};
+    ghost use Rattle.cdx_license.specs.Parts.{choices_part};
+
+    ghost slots = { choices_part };
+
+    ghost plan = { λ r. choice_plan licenses };
+
+    ghost depth = { λ r d. d };
+
+    fn rule(&self) -> Rule {
+        Rule::Strict
+    }
+
+    fn read_child(
+        &mut self,
+        alloc: Global,
+        reader: &mut EventReader<'_>,
+        v: SpecVersion,
+        element: &OwnedName,
+        attributes: &List<OwnedAttribute>,
+    ) -> Result<Taken, XmlReadError> {
+        match element.local_name.as_str() {
+            "license" => take_into(alloc, reader, v, element, attributes, &mut self.items),
+            "expression" => take_into(alloc, reader, v, element, attributes, &mut self.items),
+            _ => Ok(Taken::Unknown),
+        }
+    }
+}
+
+impl FromXml for Licenses {
+    ghost use Rattle.cdx_schema.specs.Kinds.{a_list, licenses};
+
+    ghost kind = { a_list licenses };
+
+    ghost depth = { λ d. d };
+
+    fn read_xml_element(
+        alloc: Global,
+        reader: &mut EventReader<'_>,
+        v: SpecVersion,
+        element: &OwnedName,
+        _attributes: &List<OwnedAttribute>,
+    ) -> Result<Licenses, XmlReadError> {
+        let begun = Ok(ChoicesPart {
+            items: List::new(alloc),
+        });
+        let part: ChoicesPart = read_record(alloc, reader, v, element, begun)?;
+        Ok(Licenses(part.items))
+    }
+}

@@ -1,0 +1,128 @@
+//! How complete the parts of a bill are known.
+
+ghost use Rattle.std.specs.Prelude.{◌≡◌, refl, IfOk};
+ghost use Rattle.cdx_relations.specs.Records.{bom_reference_tree, composition_tree, compositions_tree};
+ghost use Rattle.cdx_models.specs.Same.{same};
+ghost use Rattle.cdx_models.specs.SameLaws.{same_laws};
+
+use crate::signature::Signature;
+use cdx_events::{List, Text};
+use cdx_models::{HasTree, copy_row, same_row};
+use std::alloc::{AllocError, Global};
+
+/// A reference to a part of the bill, by that part's `bom_ref`.
+#[derive(Debug, Drop)]
+pub struct BomReference(pub Text);
+
+impl BomReference {
+    /// The reference with this text.
+    pub fn new(alloc: Global, input: &str) -> Result<BomReference, AllocError>
+        ensures { IfOk result (λ r. r.0 ≡ input.now) }
+    {
+        Ok(BomReference(Text::new(alloc, input)?))
+    }
+}
+
+impl HasTree for BomReference {
+    ghost tree = { bom_reference_tree };
+
+    ghost there = { λ x. refl };
+
+    fn copy(&self, alloc: Global) -> Result<BomReference, AllocError> {
+        Ok(BomReference(self.0.copy(alloc)?))
+    }
+
+    fn same(&self, other: &BomReference) -> bool {
+        self.0.same(&other.0)
+    }
+}
+
+impl PartialEq for BomReference {
+    ghost eq = { λ a b. same (bom_reference_tree a) (bom_reference_tree b) };
+
+    ghost laws = { same_laws bom_reference_tree };
+
+    fn eq(&self, other: &BomReference) -> bool {
+        self.same(other)
+    }
+}
+
+/// How complete the bill knows some of its parts.
+#[derive(Debug, Drop)]
+pub struct Composition {
+    /// The name by which the rest of the bill refers to it. Known from 1.5 on.
+    pub bom_ref: Option<Text>,
+    /// How complete, as `complete` or `unknown`.
+    pub aggregate: Text,
+    /// The parts whose own parts are meant.
+    pub assemblies: Option<List<BomReference>>,
+    /// The parts whose dependencies are meant.
+    pub dependencies: Option<List<BomReference>>,
+    /// The vulnerabilities that are meant. Known from 1.5 on.
+    pub vulnerabilities: Option<List<BomReference>>,
+    /// Known from 1.4 on.
+    pub signature: Option<Signature>,
+}
+
+impl HasTree for Composition {
+    ghost tree = { composition_tree };
+
+    ghost there = { λ x. refl };
+
+    fn copy(&self, alloc: Global) -> Result<Composition, AllocError> {
+        Ok(Composition {
+            bom_ref: copy_row(alloc, &self.bom_ref)?,
+            aggregate: self.aggregate.copy(alloc)?,
+            assemblies: copy_row(alloc, &self.assemblies)?,
+            dependencies: copy_row(alloc, &self.dependencies)?,
+            vulnerabilities: copy_row(alloc, &self.vulnerabilities)?,
+            signature: copy_row(alloc, &self.signature)?,
+        })
+    }
+
+    fn same(&self, other: &Composition) -> bool {
+        same_row(&self.bom_ref, &other.bom_ref)
+            && self.aggregate.same(&other.aggregate)
+            && same_row(&self.assemblies, &other.assemblies)
+            && same_row(&self.dependencies, &other.dependencies)
+            && same_row(&self.vulnerabilities, &other.vulnerabilities)
+            && same_row(&self.signature, &other.signature)
+    }
+}
+
+impl PartialEq for Composition {
+    ghost eq = { λ a b. same (composition_tree a) (composition_tree b) };
+
+    ghost laws = { same_laws composition_tree };
+
+    fn eq(&self, other: &Composition) -> bool {
+        self.same(other)
+    }
+}
+
+#[derive(Debug, Drop)]
+pub struct Compositions(pub List<Composition>);
+
+impl HasTree for Compositions {
+    ghost tree = { compositions_tree };
+
+    ghost there = { λ x. refl };
+
+    fn copy(&self, alloc: Global) -> Result<Compositions, AllocError> {
+        Ok(Compositions(self.0.copy(alloc)?))
+    }
+
+    fn same(&self, other: &Compositions) -> bool {
+        self.0.same(&other.0)
+    }
+}
+
+impl PartialEq for Compositions {
+    ghost eq = { λ a b. same (compositions_tree a) (compositions_tree b) };
+
+    ghost laws = { same_laws compositions_tree };
+
+    fn eq(&self, other: &Compositions) -> bool {
+        self.same(other)
+    }
+}

@@ -1,0 +1,74 @@
+//! Which component or service depends on which.
+
+ghost use Rattle.std.specs.Prelude.{refl};
+ghost use Rattle.cdx_relations.specs.Records.{dependency_tree, dependencies_tree};
+ghost use Rattle.cdx_models.specs.Same.{same};
+ghost use Rattle.cdx_models.specs.SameLaws.{same_laws};
+
+use cdx_events::{List, Text};
+use cdx_models::HasTree;
+use std::alloc::{AllocError, Global};
+
+/// What a component or service depends on directly.
+#[derive(Debug, Drop)]
+pub struct Dependency {
+    /// The reference of what depends on the others.
+    pub dependency_ref: Text,
+    /// The references of the others.
+    pub depends_on: List<Text>,
+}
+
+impl HasTree for Dependency {
+    ghost tree = { dependency_tree };
+
+    ghost there = { λ x. refl };
+
+    fn copy(&self, alloc: Global) -> Result<Dependency, AllocError> {
+        Ok(Dependency {
+            dependency_ref: self.dependency_ref.copy(alloc)?,
+            depends_on: self.depends_on.copy(alloc)?,
+        })
+    }
+
+    fn same(&self, other: &Dependency) -> bool {
+        self.dependency_ref.same(&other.dependency_ref) && self.depends_on.same(&other.depends_on)
+    }
+}
+
+impl PartialEq for Dependency {
+    ghost eq = { λ a b. same (dependency_tree a) (dependency_tree b) };
+
+    ghost laws = { same_laws dependency_tree };
+
+    fn eq(&self, other: &Dependency) -> bool {
+        self.same(other)
+    }
+}
+
+/// The graph of the bill's dependencies.
+#[derive(Debug, Drop)]
+pub struct Dependencies(pub List<Dependency>);
+
+impl HasTree for Dependencies {
+    ghost tree = { dependencies_tree };
+
+    ghost there = { λ x. refl };
+
+    fn copy(&self, alloc: Global) -> Result<Dependencies, AllocError> {
+        Ok(Dependencies(self.0.copy(alloc)?))
+    }
+
+    fn same(&self, other: &Dependencies) -> bool {
+        self.0.same(&other.0)
+    }
+}
+
+impl PartialEq for Dependencies {
+    ghost eq = { λ a b. same (dependencies_tree a) (dependencies_tree b) };
+
+    ghost laws = { same_laws dependencies_tree };
+
+    fn eq(&self, other: &Dependencies) -> bool {
+        self.same(other)
+    }
+}

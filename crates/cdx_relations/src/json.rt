@@ -1,0 +1,5 @@
+//! Dependencies, compositions and signatures in JSON.
+
+mod composition;
+mod dependency;
+mod signature;

@@ -1,0 +1,5 @@
+//! Dependencies, compositions and signatures read from XML.
+
+mod composition;
+mod dependency;
+mod signature;

@@ -1,0 +1,189 @@
+//! How complete the parts of a bill are known.
+
+use crate::composition::{BomReference, Composition, Compositions};
+use crate::parts::CompositionPart;
+use cdx_events::{EventReader, List, OwnedAttribute, OwnedName};
+use cdx_leaf::{
+    Children, FromXml, Record, Rule, Taken, attribute_or_error, attribute_since, child_or_error,
+    closing_tag_or_error, read_lax_validation_list_tag, read_whole, take_list, take_one,
+};
+use cdx_models::{SpecVersion, XmlReadError};
+use std::alloc::Global;
+
+impl FromXml for BomReference {
+    ghost use Rattle.cdx_schema.specs.Kinds.{a_reference};
+
+    ghost kind = { a_reference };
+
+    ghost depth = { λ d. d };
+
+    fn read_xml_element(
+        alloc: Global,
+        reader: &mut EventReader<'_>,
+        _v: SpecVersion,
+        element: &OwnedName,
+        attributes: &List<OwnedAttribute>,
+    ) -> Result<BomReference, XmlReadError> {
+        let text = attribute_or_error(alloc, reader.place() - 1, element, attributes, "ref")?;
+        closing_tag_or_error(alloc, reader, element)?;
+        Ok(BomReference(text))
+    }
+}
+
+impl Children for CompositionPart {
+    ghost use Rattle.cdx_models.specs.Trees.{composition};
+    ghost use Rattle.cdx_schema.specs.XmlReading.{record_plan};
+    ghost use Rattle.cdx_relations.specs.Parts.{composition_part};
+
+    ghost slots = { composition_part };
+
+    ghost plan = { λ r. record_plan composition };
+
+    ghost depth = { λ r d. d };
+
+    fn rule(&self) -> Rule {
+        Rule::Strict
+    }
+
+    fn read_child(
+        &mut self,
+        alloc: Global,
+        reader: &mut EventReader<'_>,
+        v: SpecVersion,
+        element: &OwnedName,
+        attributes: &List<OwnedAttribute>,
+    ) -> Result<Taken, XmlReadError> {
+        match element.local_name.as_str() {
+            "aggregate" => take_one(alloc, reader, v, element, attributes, &mut self.aggregate),
+            "assemblies" => take_list(
+                alloc,
+                reader,
+                v,
+                element,
+                "assembly",
+                Rule::Lax,
+                &mut self.assemblies,
+            ),
+            "dependencies" => take_list(
+                alloc,
+                reader,
+                v,
+                element,
+                "dependency",
+                Rule::Lax,
+                &mut self.dependencies,
+            ),
+            "vulnerabilities" => {
+                if !SpecVersion::V1_5.is_known_to(v) {
+                    return Ok(Taken::Unknown);
+                }
+                take_list(
+                    alloc,
+                    reader,
+                    v,
+                    element,
+                    "vulnerability",
+                    Rule::Lax,
+                    &mut self.vulnerabilities,
+                )
+            }
+            "signature" => {
+                if !SpecVersion::V1_4.is_known_to(v) {
+                    return Ok(Taken::Unknown);
+                }
+                take_one(alloc, reader, v, element, attributes, &mut self.signature)
+            }
+            _ => Ok(Taken::Unknown),
+        }
+    }
+}
+
+impl Record for Composition {
+    ghost use Rattle.std.specs.Prelude.{refl};
+    ghost use Rattle.cdx_models.specs.Trees.{composition};
+    ghost use Rattle.cdx_leaf.specs.Plain.{composition_plain};
+
+    type Part = CompositionPart;
+
+    ghost name = { composition };
+
+    ghost plain = { composition_plain };
+
+    ghost is_record = { λ x. refl };
+
+    ghost by_rows = { λ part. refl };
+
+    ghost same_depth = { λ part. refl };
+
+    fn begin(
+        alloc: Global,
+        _place: usize,
+        v: SpecVersion,
+        _element: &OwnedName,
+        attributes: &List<OwnedAttribute>,
+    ) -> Result<CompositionPart, XmlReadError> {
+        Ok(CompositionPart {
+            bom_ref: attribute_since(alloc, SpecVersion::V1_5, v, attributes, "bom-ref")?,
+            aggregate: None,
+            assemblies: None,
+            dependencies: None,
+            vulnerabilities: None,
+            signature: None,
+        })
+    }
+
+    fn finish(
+        alloc: Global,
+        place: usize,
+        _v: SpecVersion,
+        element: &OwnedName,
+        part: CompositionPart,
+    ) -> Result<Composition, XmlReadError> {
+        let aggregate = child_or_error(alloc, place, element, part.aggregate, "aggregate")?;
+        Ok(Composition {
+            bom_ref: part.bom_ref,
+            aggregate,
+            assemblies: part.assemblies,
+            dependencies: part.dependencies,
+            vulnerabilities: part.vulnerabilities,
+            signature: part.signature,
+        })
+    }
+}
+
+impl FromXml for Composition {
+    ghost use Rattle.cdx_models.specs.Trees.{composition};
+    ghost use Rattle.cdx_schema.specs.Kinds.{a_record};
+
+    ghost kind = { a_record composition };
+
+    ghost depth = { λ d. d };
+
+    fn read_xml_element(
+        alloc: Global,
+        reader: &mut EventReader<'_>,
+        v: SpecVersion,
+        element: &OwnedName,
+        attributes: &List<OwnedAttribute>,
+    ) -> Result<Composition, XmlReadError> {
+        read_whole(alloc, reader, v, element, attributes)
+    }
+}
+
+impl FromXml for Compositions {
+    ghost use Rattle.cdx_schema.specs.Kinds.{a_list, compositions};
+
+    ghost kind = { a_list compositions };
+
+    ghost depth = { λ d. d };
+
+    fn read_xml_element(
+        alloc: Global,
+        reader: &mut EventReader<'_>,
+        v: SpecVersion,
+        element: &OwnedName,
+        _attributes: &List<OwnedAttribute>,
+    ) -> Result<Compositions, XmlReadError> {
+        Ok(Compositions(read_lax_validation_list_tag(alloc, reader, v, element, "composition")?))
+    }
+}
