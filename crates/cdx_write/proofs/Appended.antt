@@ -1,0 +1,65 @@
+-- Spellings one after the other.
+use Rattle.std.proofs.Common.{◌≡◌, ℕ, ◌+◌, ◌<◌, ◌≤◌, List, [], ◌∷◌, ◌++◌, Result, Ok, Err, length, take, drop, get_or, refl, sym, ap, subst, ◌∙◌, append_assoc}
+use Rattle.std.specs.List.{flat_map}
+use Rattle.std.proofs.lemmas.List.{take-append-drop, drop_more, append-nil, take_all}
+use Rattle.std.proofs.lemmas.List.Concat.{flat_map-append}
+use Rattle.cdx_events.specs.declared.event.XmlEvent.{XmlEvent}
+use Rattle.cdx_models.specs.declared.errors.XmlWriteError.{XmlWriteError}
+use Rattle.cdx_models.specs.declared.errors.XmlWriteError.TheVariants.{XmlElementWriteError, BomError, Memory}
+use Rattle.cdx_write.specs.Writing.{Partly, Appends}
+
+-- ---- two spellings, one after the other
+
+pub partly_first : (old new a b : List XmlEvent) → Partly old new a → Partly old new (a ++ b)
+partly_first old new a b p = record { part = p.part; rest = p.rest ++ b; new_is = p.new_is; spelling_is = ap (λ x. x ++ b) p.spelling_is ∙ append_assoc p.part p.rest b }
+
+pub partly_after : (old mid new a b : List XmlEvent) → mid ≡ old ++ a → Partly mid new b → Partly old new (a ++ b)
+partly_after old mid new a b is p =
+    record { part = a ++ p.part; rest = p.rest; new_is = p.new_is ∙ ap (λ x. x ++ p.part) is ∙ append_assoc old a p.part; spelling_is = ap (λ x. a ++ x) p.spelling_is ∙ sym (append_assoc a p.part p.rest) }
+
+-- Nothing was written yet.
+pub partly_none : (old s : List XmlEvent) → Partly old old s
+partly_none old s = record { part = []; rest = s; new_is = sym (append-nil old); spelling_is = refl }
+
+pub after_both : (old mid new a b : List XmlEvent) → mid ≡ old ++ a → new ≡ mid ++ b → new ≡ old ++ (a ++ b)
+after_both old mid new a b p q = q ∙ ap (λ x. x ++ b) p ∙ append_assoc old a b
+
+-- what comes after a whole spelling
+pub then_all : (old mid new a b : List XmlEvent) (r : Result (Unit {0}) XmlWriteError) → mid ≡ old ++ a → Appends mid new b r → Appends old new (a ++ b) r
+then_all old mid new a b (Ok u) p q = after_both old mid new a b p q
+then_all old mid new a b (Err (Memory e)) p q = partly_after old mid new a b p q
+then_all old mid new a b (Err (BomError e)) p q = q
+then_all old mid new a b (Err (XmlElementWriteError n)) p q = q
+
+-- The first of two spellings was refused.
+pub first_fails : (old new a b : List XmlEvent) (e : XmlWriteError) → Appends old new a (Err e) → Appends old new (a ++ b) (Err e)
+first_fails old new a b (Memory e) p = partly_first old new a b p
+first_fails old new a b (BomError e) p = p
+first_fails old new a b (XmlElementWriteError n) p = p
+
+-- The last of a record's rows was written.
+pub last_row : (old new a : List XmlEvent) (r : Result (Unit {0}) XmlWriteError) → Appends old new a r → Appends old new (a ++ []) r
+last_row old new a r p = subst (λ s. Appends old new s r) (sym (append-nil a)) p
+
+-- ---- a list's spellings
+
+-- the spelling of a list at item i
+flat_at : {X : Type 0} (f : X → List XmlEvent) (xs : List X) (i : ℕ) (x : X) → i < length xs → x ≡ get_or xs i x
+    → flat_map f xs ≡ flat_map f (take i xs) ++ (f x ++ flat_map f (drop (i + 1) xs))
+flat_at f xs i x h is =
+    let split : xs ≡ take i xs ++ x ∷ drop (i + 1) xs = sym (take-append-drop i xs) ∙ ap (λ ys. take i xs ++ ys) (drop_more xs i x h ∙ ap (λ y. y ∷ drop (i + 1) xs) (sym is)) in
+    ap (flat_map f) split ∙ flat_map-append f (take i xs) (x ∷ drop (i + 1) xs)
+
+-- An item was refused, after the items before it.
+pub item_fails : {X : Type 0} (f : X → List XmlEvent) (old mid new rest : List XmlEvent) (xs ys : List X) (i : ℕ) (x : X) (e : XmlWriteError) → xs ≡ ys → i < length xs → x ≡ get_or xs i x
+    → mid ≡ old ++ flat_map f (take i xs) → Appends mid new (f x) (Err e) → Appends old new (flat_map f ys ++ rest) (Err e)
+item_fails f old mid new rest xs ys i x e same h is inv fails =
+    let before = flat_map f (take i xs) in
+    let behind = flat_map f (drop (i + 1) xs) in
+    let part = then_all old mid new before (f x ++ (behind ++ rest)) (Err e) inv (first_fails mid new (f x) (behind ++ rest) e fails) in
+    let shape = ap (λ s. s ++ rest) (sym (ap (flat_map f) same) ∙ flat_at f xs i x h is) ∙ append_assoc before (f x ++ behind) rest ∙ ap (λ s. before ++ s) (append_assoc (f x) behind rest) in
+    subst (λ s. Appends old new s (Err e)) (sym shape) part
+
+-- All items were written.
+pub items_end : {X : Type 0} (f : X → List XmlEvent) (old mid : List XmlEvent) (xs ys : List X) (i : ℕ) → xs ≡ ys → length xs ≤ i → mid ≡ old ++ flat_map f (take i xs) → mid ≡ old ++ flat_map f ys
+items_end f old mid xs ys i same h inv = inv ∙ ap (λ zs. old ++ flat_map f zs) (take_all i xs h ∙ same)

@@ -1,0 +1,5 @@
+pub mod Appended
+pub mod RowsLaws
+pub mod RowWords
+pub mod Lists
+pub mod Decimals

@@ -1,0 +1,40 @@
+use Rattle.std.proofs.Common.{Err, [], ◌∷◌, ◌++◌}
+use Rattle.std.proofs.lemmas.Result.{err_from_is_err_and}
+use Rattle.cdx_models.specs.Trees.{list_tree}
+use Rattle.cdx_schema.specs.Kinds.{a_list}
+use Rattle.cdx_write.specs.Spelling.{written, inner}
+use Rattle.cdx_write.specs.Writing.{start_tag, end_tag}
+use Rattle.cdx_write.proofs.Appended.{first_fails, then_all}
+use Rattle.cdx_write.proofs.RowWords.{appends_same}
+use Rattle.cdx_write.proofs.Lists.{list_is}
+use Rattle.cdx_write.proofs.list.write_list.Goals as goal
+
+pub returns-in_err-write_start_tag : goal.returns-in_err-write_start_tag
+returns-in_err-write_start_tag g c = λ l is.
+    let p = err_from_is_err_and c.from_residual.result c.from_residual.ensures.1 in
+    let tag = c.args.tag.now in
+    let t = list_tree g.T.HasTree.tree c.args.held.now in
+    let content = inner t c.args.w (a_list l) in
+    rw (p.1, p.2) (appends_same c.args.writer.now c.write_start_tag.new.writer (start_tag tag ∷ content ++ end_tag tag ∷ []) (written t c.args.w tag (a_list l)) (Err _) (list_is g.T.HasTree.tree tag l c.args.w c.args.held.now)
+    (first_fails c.args.writer.now c.write_start_tag.new.writer (start_tag tag ∷ []) (content ++ end_tag tag ∷ []) _ c.in_err-write_start_tag.ensures))
+
+pub returns-in_err-write_items : goal.returns-in_err-write_items
+returns-in_err-write_items g c = λ l is.
+    let p = err_from_is_err_and c.from_residual-in_err-write_items.result c.from_residual-in_err-write_items.ensures.1 in
+    let tag = c.args.tag.now in
+    let t = list_tree g.T.HasTree.tree c.args.held.now in
+    let new = c.write_items.new.writer in
+    let content = inner t c.args.w (a_list l) in
+    rw (p.1, p.2) (appends_same c.args.writer.now new (start_tag tag ∷ content ++ end_tag tag ∷ []) (written t c.args.w tag (a_list l)) (Err _) (list_is g.T.HasTree.tree tag l c.args.w c.args.held.now)
+    (then_all c.args.writer.now c.write_start_tag.new.writer new (start_tag tag ∷ []) (content ++ end_tag tag ∷ []) (Err _) c.in_ok-write_start_tag.ensures
+    (first_fails c.write_start_tag.new.writer new content (end_tag tag ∷ []) _ (c.in_err-write_items.ensures l is))))
+
+pub returns : goal.returns
+returns g c = λ l is.
+    let tag = c.args.tag.now in
+    let t = list_tree g.T.HasTree.tree c.args.held.now in
+    let new = c.write_close_tag.new.writer in
+    let content = inner t c.args.w (a_list l) in
+    appends_same c.args.writer.now new (start_tag tag ∷ content ++ end_tag tag ∷ []) (written t c.args.w tag (a_list l)) c.write_close_tag.result (list_is g.T.HasTree.tree tag l c.args.w c.args.held.now)
+    (then_all c.args.writer.now c.write_start_tag.new.writer new (start_tag tag ∷ []) (content ++ end_tag tag ∷ []) c.write_close_tag.result c.in_ok-write_start_tag.ensures
+    (then_all c.write_start_tag.new.writer c.write_items.new.writer new content (end_tag tag ∷ []) c.write_close_tag.result (c.in_ok-write_items.ensures l is) c.write_close_tag.ensures))

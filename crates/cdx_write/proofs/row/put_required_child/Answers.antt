@@ -1,0 +1,11 @@
+use Rattle.cdx_write.specs.Spelling.{written}
+use Rattle.cdx_write.specs.WrittenRows.{child_put}
+use Rattle.cdx_write.proofs.RowWords.{appends_same, child_there}
+use Rattle.cdx_write.proofs.row.put_required_child.Goals as goal
+
+pub returns : goal.returns
+returns g c =
+    let t = g.T.HasTree.tree c.args.held.now in
+    let k = g.T.Kinded.kind in
+    appends_same c.args.writer.now c.write_as.new.writer (written t c.args.w c.args.name.now k) (child_put c.args.name.now k t c.args.w) c.write_as.result
+    (child_there c.args.name.now k t c.args.w g.met.T.Element.keeps (g.met.T.HasTree.there c.args.held.now)) c.write_as.ensures

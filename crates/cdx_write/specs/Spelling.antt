@@ -1,0 +1,31 @@
+-- What a value is written as in a version: the schema's spelling of what the version keeps.
+use Rattle.std.specs.Prelude.{ℕ, List, [], if◌then◌else◌}
+use Rattle.cdx_events.specs.declared.event.XmlEvent.{XmlEvent}
+use Rattle.cdx_events.specs.Nodes.{events_of, events_of_all}
+use Rattle.cdx_models.specs.declared.bom.SpecVersion.{SpecVersion}
+use Rattle.cdx_models.specs.Trees.{Tree, is_absent}
+use Rattle.cdx_schema.specs.Kinds.{Kind}
+use Rattle.cdx_schema.specs.Keeping.{keep}
+use Rattle.cdx_schema.specs.XmlSpelling.{nodes_of, spelled}
+
+-- the element, under a name
+unfoldable pub written : Tree → SpecVersion → List ℕ → Kind → List XmlEvent
+written t w tag k = events_of (spelled (keep w t k) w tag k)
+
+-- what stands between the element's tags
+unfoldable pub inner : Tree → SpecVersion → Kind → List XmlEvent
+inner t w k = events_of_all (nodes_of (keep w t k) w k)
+
+-- How a value is written where nothing else names it: under this name, unless its kind has one of its own, or without
+-- a tag, which whatever stands around it writes.
+pub data Tag : Type 0 where
+  tagged : List ℕ → Tag
+  untagged : Tag
+
+abbrev pub spelled_as : Tag → Tree → SpecVersion → Kind → List XmlEvent
+spelled_as (tagged tag) t w k = written t w tag k
+spelled_as untagged t w k = inner t w k
+
+-- Of what isn't there nothing is written.
+abbrev pub spelling : Tag → Tree → SpecVersion → Kind → List XmlEvent
+spelling tag t w k = if is_absent t then [] else spelled_as tag t w k

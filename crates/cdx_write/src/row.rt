@@ -1,0 +1,111 @@
+//! One helper per sort of row. Each appends what the row is written as; only want of memory is refused, and the writer
+//! then has a prefix of that.
+
+ghost use Rattle.std.specs.Prelude.{◌≡◌, not};
+ghost use Rattle.cdx_models.specs.Trees.{text, present, is_absent};
+ghost use Rattle.cdx_schema.specs.Kinds.{a_text};
+ghost use Rattle.cdx_write.specs.Spelling.{inner};
+ghost use Rattle.cdx_write.specs.WrittenRows.{child_put, filled_put, cdata_put, late_put};
+ghost use Rattle.cdx_write.specs.Writing.{Appends};
+
+use crate::element::{Element, Filled};
+use crate::tags::write_characters;
+use cdx_events::{EventWriter, Text, XmlEvent};
+use cdx_models::{HasTree, SpecVersion, XmlWriteError};
+use std::alloc::Global;
+
+/// Whether a field that may be absent is there. It takes no memory.
+pub fn is_there<T: HasTree>(held: &Option<T>) -> bool
+    ensures { result ≡ not (is_absent (present T.tree held.now)) }
+{
+    held.is_some()
+}
+
+/// A child that is always there.
+pub fn put_required_child<T: Element>(
+    alloc: Global,
+    writer: &mut EventWriter,
+    w: SpecVersion,
+    name: &str,
+    held: &T,
+) -> Result<(), XmlWriteError>
+    ensures { Appends writer.old writer.new (child_put name.now T.kind (T.tree held.now) w) result }
+{
+    held.write_as(alloc, writer, w, name)
+}
+
+/// A child, where it is there.
+pub fn put_child<T: Element>(
+    alloc: Global,
+    writer: &mut EventWriter,
+    w: SpecVersion,
+    name: &str,
+    held: &Option<T>,
+) -> Result<(), XmlWriteError>
+    ensures { Appends writer.old writer.new (child_put name.now T.kind (present T.tree held.now) w) result }
+{
+    match held {
+        None => Ok(()),
+        Some(held) => put_required_child(alloc, writer, w, name, held),
+    }
+}
+
+/// A child, where it is there and the version is not before `since`.
+pub fn put_child_since<T: Element>(
+    alloc: Global,
+    writer: &mut EventWriter,
+    w: SpecVersion,
+    since: SpecVersion,
+    name: &str,
+    held: &Option<T>,
+) -> Result<(), XmlWriteError>
+    ensures { Appends writer.old writer.new
+        (late_put since w (child_put name.now T.kind (present T.tree held.now) w)) result }
+{
+    if since.is_known_to(w) {
+        put_child(alloc, writer, w, name, held)
+    } else {
+        Ok(())
+    }
+}
+
+/// A child, where it is there and has a child itself.
+pub fn put_filled_child<T: Filled>(
+    alloc: Global,
+    writer: &mut EventWriter,
+    w: SpecVersion,
+    name: &str,
+    held: &Option<T>,
+) -> Result<(), XmlWriteError>
+    ensures { Appends writer.old writer.new (filled_put name.now T.kind (present T.tree held.now) w) result }
+{
+    match held {
+        None => Ok(()),
+        Some(held) => {
+            if held.is_hollow() {
+                Ok(())
+            } else {
+                put_required_child(alloc, writer, w, name, held)
+            }
+        }
+    }
+}
+
+/// The text that is an element's content.
+pub fn put_content(
+    alloc: Global,
+    writer: &mut EventWriter,
+    held: &Text,
+) -> Result<(), XmlWriteError>
+    ensures { (w : SpecVersion) → Appends writer.old writer.new (inner (text held.now) w a_text) result }
+{
+    write_characters(alloc, writer, held.as_str())
+}
+
+/// The same as CDATA.
+pub fn put_cdata(alloc: Global, writer: &mut EventWriter, held: &Text) -> Result<(), XmlWriteError>
+    ensures { (w : SpecVersion) → Appends writer.old writer.new (cdata_put a_text (text held.now) w) result }
+{
+    writer.write(XmlEvent::CData(held.copy(alloc)?))?;
+    Ok(())
+}

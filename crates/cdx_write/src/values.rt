@@ -1,0 +1,97 @@
+//! Texts, booleans and numbers.
+
+use crate::element::{Element, Item, Kinded, Lone, write_lone};
+use cdx_events::{EventWriter, Text};
+use cdx_models::{SpecVersion, XmlWriteError};
+use std::alloc::{AllocError, Global};
+
+impl Kinded for Text {
+    ghost use Rattle.cdx_schema.specs.Kinds.{a_text};
+
+    ghost kind = { a_text };
+}
+
+impl Lone for Text {
+    ghost use Rattle.cdx_write.specs.Lone.{text_is_lone};
+
+    ghost lone = { text_is_lone };
+
+    fn xml_text(&self, alloc: Global) -> Result<Text, AllocError> {
+        self.copy(alloc)
+    }
+}
+
+impl Element for Text {
+    ghost use Rattle.std.specs.Prelude.{refl};
+
+    ghost keeps = { refl };
+
+    fn write_as(
+        &self,
+        alloc: Global,
+        writer: &mut EventWriter,
+        w: SpecVersion,
+        tag: &str,
+    ) -> Result<(), XmlWriteError> {
+        write_lone(alloc, writer, w, tag, self)
+    }
+}
+
+impl Item for Text {
+    fn is_passed_over(&self) -> bool {
+        false
+    }
+}
+
+impl Kinded for bool {
+    ghost use Rattle.cdx_schema.specs.Kinds.{a_boolean};
+
+    ghost kind = { a_boolean };
+}
+
+impl Lone for bool {
+    ghost use Rattle.cdx_write.specs.Lone.{boolean_is_lone};
+
+    ghost lone = { boolean_is_lone };
+
+    fn xml_text(&self, alloc: Global) -> Result<Text, AllocError> {
+        if *self {
+            Text::new(alloc, "true")
+        } else {
+            Text::new(alloc, "false")
+        }
+    }
+}
+
+impl Element for bool {
+    ghost use Rattle.std.specs.Prelude.{refl};
+
+    ghost keeps = { refl };
+
+    fn write_as(
+        &self,
+        alloc: Global,
+        writer: &mut EventWriter,
+        w: SpecVersion,
+        tag: &str,
+    ) -> Result<(), XmlWriteError> {
+        write_lone(alloc, writer, w, tag, self)
+    }
+}
+
+impl Kinded for u32 {
+    ghost use Rattle.cdx_schema.specs.Kinds.{a_number};
+
+    ghost kind = { a_number };
+}
+
+impl Lone for u32 {
+    ghost use Rattle.cdx_write.specs.Lone.{number_is_lone};
+
+    ghost lone = { number_is_lone };
+
+    fn xml_text(&self, alloc: Global) -> Result<Text, AllocError> {
+        let number = *self;
+        Ok(Text::from_string(format!(in alloc; "{number}")?))
+    }
+}
