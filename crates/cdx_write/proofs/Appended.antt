@@ -1,7 +1,7 @@
 -- Spellings one after the other.
 use Rattle.std.proofs.Common.{◌≡◌, ℕ, ◌+◌, ◌<◌, ◌≤◌, List, [], ◌∷◌, ◌++◌, Result, Ok, Err, length, take, drop, get_or, refl, sym, ap, subst, ◌∙◌, append_assoc}
 use Rattle.std.specs.List.{flat_map}
-use Rattle.std.proofs.lemmas.List.{take-append-drop, drop_more, append-nil, take_all}
+use Rattle.std.proofs.lemmas.List.{take-append-drop, drop_more, append-nil, take_all, take_more}
 use Rattle.std.proofs.lemmas.List.Concat.{flat_map-append}
 use Rattle.cdx_events.specs.declared.event.XmlEvent.{XmlEvent}
 use Rattle.cdx_models.specs.declared.errors.XmlWriteError.{XmlWriteError}
@@ -21,7 +21,7 @@ partly_after old mid new a b is p =
 pub partly_none : (old s : List XmlEvent) → Partly old old s
 partly_none old s = record { part = []; rest = s; new_is = sym (append-nil old); spelling_is = refl }
 
-pub after_both : (old mid new a b : List XmlEvent) → mid ≡ old ++ a → new ≡ mid ++ b → new ≡ old ++ (a ++ b)
+pub after_both : {A : Type 0} (old mid new a b : List A) → mid ≡ old ++ a → new ≡ mid ++ b → new ≡ old ++ (a ++ b)
 after_both old mid new a b p q = q ∙ ap (λ x. x ++ b) p ∙ append_assoc old a b
 
 -- what comes after a whole spelling
@@ -41,6 +41,13 @@ first_fails old new a b (XmlElementWriteError n) p = p
 pub last_row : (old new a : List XmlEvent) (r : Result (Unit {0}) XmlWriteError) → Appends old new a r → Appends old new (a ++ []) r
 last_row old new a r p = subst (λ s. Appends old new s r) (sym (append-nil a)) p
 
+-- Attributes were added to none.
+pub all_added : {A : Type 0} (none new s : List A) → none ≡ [] → new ≡ none ++ s → new ≡ s
+all_added none new s is e = e ∙ ap (λ q. q ++ s) is
+
+pub last_added : {A : Type 0} (old new a : List A) → new ≡ old ++ a → new ≡ old ++ (a ++ [])
+last_added old new a e = e ∙ ap (λ s. old ++ s) (sym (append-nil a))
+
 -- ---- a list's spellings
 
 -- the spelling of a list at item i
@@ -59,6 +66,13 @@ item_fails f old mid new rest xs ys i x e same h is inv fails =
     let part = then_all old mid new before (f x ++ (behind ++ rest)) (Err e) inv (first_fails mid new (f x) (behind ++ rest) e fails) in
     let shape = ap (λ s. s ++ rest) (sym (ap (flat_map f) same) ∙ flat_at f xs i x h is) ∙ append_assoc before (f x ++ behind) rest ∙ ap (λ s. before ++ s) (append_assoc (f x) behind rest) in
     subst (λ s. Appends old new s (Err e)) (sym shape) part
+
+-- One item more was written.
+pub item_written : {X : Type 0} (f : X → List XmlEvent) (old mid new : List XmlEvent) (xs : List X) (i : ℕ) (x : X) → i < length xs → x ≡ get_or xs i x
+    → mid ≡ old ++ flat_map f (take i xs) → new ≡ mid ++ f x → new ≡ old ++ flat_map f (take (i + 1) xs)
+item_written f old mid new xs i x h is inv e =
+    after_both old mid new (flat_map f (take i xs)) (f x) inv e
+    ∙ ap (λ s. old ++ s) (sym (ap (flat_map f) (take_more xs i x h ∙ ap (λ y. take i xs ++ y ∷ []) (sym is)) ∙ flat_map-append f (take i xs) (x ∷ []) ∙ ap (λ s. flat_map f (take i xs) ++ s) (append-nil (f x))))
 
 -- All items were written.
 pub items_end : {X : Type 0} (f : X → List XmlEvent) (old mid : List XmlEvent) (xs ys : List X) (i : ℕ) → xs ≡ ys → length xs ≤ i → mid ≡ old ++ flat_map f (take i xs) → mid ≡ old ++ flat_map f ys

@@ -3,3 +3,4 @@ pub mod RowsLaws
 pub mod RowWords
 pub mod Lists
 pub mod Decimals
+pub mod Hollow

@@ -2,13 +2,19 @@
 //! sort of row, one writer of records and one of lists serve all of them.
 #![tactic(auto)]
 
+pub mod attached_text;
 pub mod attribute;
 pub mod element;
+pub mod external_reference;
+pub mod hash;
 pub mod list;
+pub mod organization;
+pub mod property;
 pub mod record;
 pub mod row;
 pub mod tags;
 pub mod to_xml;
+pub mod tool;
 pub mod values;
 
 pub use attribute::{put_attribute, put_attribute_since, put_required_attribute};

@@ -2,7 +2,7 @@
 
 use crate::element::{Element, Item, Kinded, Lone, write_lone};
 use cdx_events::{EventWriter, Text};
-use cdx_models::{SpecVersion, XmlWriteError};
+use cdx_models::{SpecVersion, UrnUuid, XmlWriteError};
 use std::alloc::{AllocError, Global};
 
 impl Kinded for Text {
@@ -40,6 +40,22 @@ impl Element for Text {
 impl Item for Text {
     fn is_passed_over(&self) -> bool {
         false
+    }
+}
+
+impl Kinded for UrnUuid {
+    ghost use Rattle.cdx_schema.specs.Kinds.{a_text};
+
+    ghost kind = { a_text };
+}
+
+impl Lone for UrnUuid {
+    ghost use Rattle.cdx_write.specs.Lone.{text_is_lone};
+
+    ghost lone = { λ x. text_is_lone _ };
+
+    fn xml_text(&self, alloc: Global) -> Result<Text, AllocError> {
+        self.0.copy(alloc)
     }
 }
 
