@@ -1,7 +1,8 @@
-//! Commits, patches and issues, and their trees.
+//! Commits, patches and issues: their types and trees, and what they are in JSON.
 #![tactic(auto)]
 
 pub mod code;
+mod json;
 
 pub use code::{Commit, Commits, Diff, IdentifiableAction, Issue, Patch, Patches, Source};
 

@@ -1,0 +1,5 @@
+//! Commits, patches and issues in JSON: each record is read, kept and written row by row, as the schema says.
+
+mod commit;
+mod issue;
+mod patch;

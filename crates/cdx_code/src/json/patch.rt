@@ -1,0 +1,216 @@
+//! Patches in JSON.
+
+ghost use Rattle.std.specs.Prelude.{refl};
+ghost use Rattle.cdx_models.specs.Trees.{diff, patch};
+ghost use Rattle.cdx_schema.specs.Kinds.{patches, a_record, a_list};
+ghost use Rattle.cdx_json.specs.Stays.{list_stays, record_stays};
+
+use crate::{Diff, Patch, Patches};
+use cdx_json::{
+    Depth, FromJson, Kept, Kinded, Record, ToJson, keep_list, keep_optional_list, keep_record,
+    keep_row, list_from_value, list_to_value, optional_list_row, optional_row, put_optional_list,
+    put_required, put_row, read_record, required_row, write_record,
+};
+use cdx_models::{JsonReadError, SpecVersion};
+use serde_json::{Map, Value};
+use std::alloc::{AllocError, Global};
+
+impl Kinded for Diff {
+    ghost kind = { a_record diff };
+}
+
+impl FromJson for Diff {
+    fn from_json_at(
+        alloc: Global,
+        value: &Value,
+        version: SpecVersion,
+        depth: Depth,
+    ) -> Result<Diff, JsonReadError> {
+        read_record(alloc, value, version, depth)
+    }
+}
+
+impl Kept for Diff {
+    ghost stays = { λ w l x. record_stays w l diff _ };
+
+    fn kept_as(
+        &self,
+        alloc: Global,
+        version: SpecVersion,
+        label: SpecVersion,
+    ) -> Result<Diff, AllocError> {
+        keep_record(self, alloc, version, label)
+    }
+}
+
+impl ToJson for Diff {
+    fn to_value(&self, alloc: Global, version: SpecVersion) -> Result<Value, AllocError> {
+        write_record(self, alloc, version)
+    }
+}
+
+impl Record for Diff {
+    ghost name = { diff };
+
+    ghost is_plain = { λ x. (refl, refl) };
+
+    ghost flat = { λ d. (refl, refl) };
+
+    #[tactic(auto, unfolding(cdx_json::specs::ByRows::rows_made, cdx_schema::specs::Table::rows, cdx_schema::specs::Table::list))]
+    fn from_members(
+        alloc: Global,
+        map: &Map<String, Value>,
+        version: SpecVersion,
+        depth: Depth,
+    ) -> Result<Diff, JsonReadError> {
+        let text = optional_row(alloc, map, "text", version, depth)?;
+        let url = optional_row(alloc, map, "url", version, depth)?;
+        Ok(Diff { text, url })
+    }
+
+    #[tactic(auto, unfolding(cdx_json::specs::KeptRows::rows_held, cdx_schema::specs::Table::rows, cdx_schema::specs::Table::list))]
+    fn kept_rows(
+        &self,
+        alloc: Global,
+        version: SpecVersion,
+        label: SpecVersion,
+    ) -> Result<Diff, AllocError> {
+        Ok(Diff {
+            text: keep_row(alloc, &self.text, version, label)?,
+            url: keep_row(alloc, &self.url, version, label)?,
+        })
+    }
+
+    #[tactic(auto, unfolding(cdx_json::specs::KeptRows::rows_put, cdx_schema::specs::Table::rows, cdx_schema::specs::Table::list))]
+    fn put_members(
+        &self,
+        alloc: Global,
+        map: &mut Map<String, Value>,
+        version: SpecVersion,
+    ) -> Result<(), AllocError> {
+        put_row(alloc, map, "text", &self.text, version)?;
+        put_row(alloc, map, "url", &self.url, version)
+    }
+}
+
+impl Kinded for Patch {
+    ghost kind = { a_record patch };
+}
+
+impl FromJson for Patch {
+    fn from_json_at(
+        alloc: Global,
+        value: &Value,
+        version: SpecVersion,
+        depth: Depth,
+    ) -> Result<Patch, JsonReadError> {
+        read_record(alloc, value, version, depth)
+    }
+}
+
+impl Kept for Patch {
+    ghost stays = { λ w l x. record_stays w l patch _ };
+
+    fn kept_as(
+        &self,
+        alloc: Global,
+        version: SpecVersion,
+        label: SpecVersion,
+    ) -> Result<Patch, AllocError> {
+        keep_record(self, alloc, version, label)
+    }
+}
+
+impl ToJson for Patch {
+    fn to_value(&self, alloc: Global, version: SpecVersion) -> Result<Value, AllocError> {
+        write_record(self, alloc, version)
+    }
+}
+
+impl Record for Patch {
+    ghost name = { patch };
+
+    ghost is_plain = { λ x. (refl, refl) };
+
+    ghost flat = { λ d. (refl, refl) };
+
+    #[tactic(auto, unfolding(cdx_json::specs::ByRows::rows_made, cdx_schema::specs::Table::rows, cdx_schema::specs::Table::list))]
+    fn from_members(
+        alloc: Global,
+        map: &Map<String, Value>,
+        version: SpecVersion,
+        depth: Depth,
+    ) -> Result<Patch, JsonReadError> {
+        let patch_type = required_row(alloc, map, "type", version, depth)?;
+        let diff = optional_row(alloc, map, "diff", version, depth)?;
+        let resolves = optional_list_row(alloc, map, "resolves", version, depth)?;
+        Ok(Patch {
+            patch_type,
+            diff,
+            resolves,
+        })
+    }
+
+    #[tactic(auto, unfolding(cdx_json::specs::KeptRows::rows_held, cdx_schema::specs::Table::rows, cdx_schema::specs::Table::list))]
+    fn kept_rows(
+        &self,
+        alloc: Global,
+        version: SpecVersion,
+        label: SpecVersion,
+    ) -> Result<Patch, AllocError> {
+        Ok(Patch {
+            patch_type: self.patch_type.kept_as(alloc, version, label)?,
+            diff: keep_row(alloc, &self.diff, version, label)?,
+            resolves: keep_optional_list(alloc, &self.resolves, version, label)?,
+        })
+    }
+
+    #[tactic(auto, unfolding(cdx_json::specs::KeptRows::rows_put, cdx_schema::specs::Table::rows, cdx_schema::specs::Table::list))]
+    fn put_members(
+        &self,
+        alloc: Global,
+        map: &mut Map<String, Value>,
+        version: SpecVersion,
+    ) -> Result<(), AllocError> {
+        put_required(alloc, map, "type", &self.patch_type, version)?;
+        put_row(alloc, map, "diff", &self.diff, version)?;
+        put_optional_list(alloc, map, "resolves", &self.resolves, version)
+    }
+}
+
+impl Kinded for Patches {
+    ghost kind = { a_list patches };
+}
+
+impl FromJson for Patches {
+    #[tactic(auto, unfolding(cdx_schema::specs::Table::list))]
+    fn from_json_at(
+        alloc: Global,
+        value: &Value,
+        version: SpecVersion,
+        depth: Depth,
+    ) -> Result<Patches, JsonReadError> {
+        Ok(Patches(list_from_value(alloc, value, version, depth)?))
+    }
+}
+
+impl Kept for Patches {
+    ghost stays = { λ w l x. list_stays w l patches _ };
+
+    #[tactic(auto, unfolding(cdx_schema::specs::Table::list))]
+    fn kept_as(
+        &self,
+        alloc: Global,
+        version: SpecVersion,
+        label: SpecVersion,
+    ) -> Result<Patches, AllocError> {
+        Ok(Patches(keep_list(alloc, &self.0, version, label)?))
+    }
+}
+
+impl ToJson for Patches {
+    #[tactic(auto, unfolding(cdx_schema::specs::Table::list))]
+    fn to_value(&self, alloc: Global, version: SpecVersion) -> Result<Value, AllocError> {
+        list_to_value(alloc, &self.0, version)
+    }
+}
