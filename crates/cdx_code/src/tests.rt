@@ -1,4 +1,6 @@
 //! Worked examples of the records of code.
 
 mod json;
+mod pieces;
 mod types;
+mod xml;

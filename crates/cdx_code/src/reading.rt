@@ -1,0 +1,5 @@
+//! Commits, patches and issues read from XML.
+
+mod commit;
+mod issue;
+mod patch;
