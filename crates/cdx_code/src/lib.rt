@@ -4,6 +4,7 @@
 pub mod code;
 mod json;
 mod reading;
+mod writing;
 
 pub use code::{Commit, Commits, Diff, IdentifiableAction, Issue, Patch, Patches, Source};
 

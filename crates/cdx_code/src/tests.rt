@@ -3,4 +3,5 @@
 mod json;
 mod pieces;
 mod types;
+mod written;
 mod xml;

@@ -1,0 +1,5 @@
+//! Commits, patches and issues written as XML.
+
+mod commit;
+mod issue;
+mod patch;
