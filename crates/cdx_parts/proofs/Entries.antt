@@ -41,7 +41,7 @@ pub over-each : {A : Type 0} (g : Tree → Tree) (f : A → Tree) (xs : List A) 
 over-each g f [] = refl
 over-each g f (x ∷ xs) = ap (more (g (f x))) (over-each g f xs)
 
-abbrev held : Tree → Trees
+abbrev pub held : Tree → Trees
 held (items ts) = ts
 held _ = none
 

@@ -1,1 +1,4 @@
 pub mod Entries
+pub mod DataEntries
+pub mod DataSpelled
+pub mod Flows

@@ -43,6 +43,10 @@ classification_tree x = fields classification (trees (text x.flow ∷ text x.cla
 abbrev pub service_data_tree : ServiceData → Tree
 service_data_tree x = fields service_data (trees (present text x.name ∷ present text x.description ∷ classification_tree x.classification ∷ []))
 
+-- what a service data is where only classifications are known
+abbrev pub service_classification : ServiceData → Tree
+service_classification x = classification_tree x.classification
+
 -- what a service data is among a service's data
 abbrev pub service_entry : ServiceData → Tree
 service_entry x = entry_of (service_data_tree x)

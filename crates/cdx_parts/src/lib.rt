@@ -2,7 +2,10 @@
 #![tactic(auto)]
 
 pub mod component;
+mod json;
+mod reading;
 pub mod service;
+mod writing;
 
 pub use component::{ComponentEvidence, Copyright, CopyrightTexts, Cpe, MimeType, Swid};
 pub use service::{Data, DataClassification, ServiceData};

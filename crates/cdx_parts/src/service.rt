@@ -5,7 +5,7 @@ ghost use Rattle.cdx_models.specs.Trees.{list_tree};
 ghost use Rattle.cdx_models.specs.Entries.{entry_of};
 ghost use Rattle.cdx_models.specs.Same.{same};
 ghost use Rattle.cdx_models.specs.SameLaws.{same_laws};
-ghost use Rattle.cdx_parts.specs.Records.{classification_tree, service_data_tree, service_entry, data_tree, data_there};
+ghost use Rattle.cdx_parts.specs.Records.{classification_tree, service_data_tree, service_classification, service_entry, data_tree, data_there};
 
 use cdx_events::{List, Text};
 use cdx_models::{HasTree, copy_row, same_row};
@@ -190,4 +190,18 @@ fn same_entries<T: Entry + Drop>(one: &List<T>, other: &List<ServiceData>) -> bo
         }
     }
     true
+}
+
+/// The classification of each. Only want of memory is refused.
+pub(crate) fn classifications(
+    alloc: Global,
+    held: &List<ServiceData>,
+) -> Result<List<DataClassification>, AllocError>
+    ensures { IfOk result (λ r. list_tree classification_tree r ≡ list_tree service_classification held.now) }
+{
+    let mut copies = List::new(alloc);
+    for item in held.as_slice() {
+        copies.push(item.classification.copy(alloc)?)?;
+    }
+    Ok(copies)
 }

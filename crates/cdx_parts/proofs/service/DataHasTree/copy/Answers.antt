@@ -1,4 +1,3 @@
-use Rattle.std.proofs.Common.{◌∙◌}
 use Rattle.cdx_models.specs.Entries.{entry_of}
 use Rattle.cdx_parts.specs.Records.{service_data_tree}
 use Rattle.cdx_parts.proofs.Entries.{over-equal}

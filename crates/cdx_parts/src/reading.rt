@@ -1,0 +1,5 @@
+//! Readers of the records from XML.
+
+mod component;
+mod parts;
+mod service;

@@ -1,0 +1,4 @@
+//! Writers of the records as XML.
+
+mod component;
+mod service;
