@@ -1,20 +1,14 @@
 -- License choices and identifiers have element names of their own.
-use Rattle.std.proofs.Common.{◌≡◌, ℕ, List, [], ◌∷◌, ◌++◌, codes, refl, sym, ap, ◌∙◌}
-use Rattle.std.proofs.lemmas.List.{append-nil}
-use Rattle.cdx_events.specs.declared.name.OwnedName.{OwnedName}
-use Rattle.cdx_events.specs.Name.{local}
-use Rattle.cdx_events.specs.Nodes.{Nodes, no_nodes, node, events_of}
+use Rattle.std.proofs.Common.{◌≡◌, ℕ, List, codes, refl}
 use Rattle.cdx_models.specs.declared.bom.SpecVersion.{SpecVersion}
 use Rattle.cdx_models.specs.declared.bom.SpecVersion.TheVariants.{V1_3, V1_4, V1_5}
-use Rattle.cdx_models.specs.Trees.{license, expression, spdx_id, license_name, signer, signers, chain, text, items, fields, Trees, one}
-use Rattle.cdx_schema.specs.Kinds.{a_reference, a_record, a_list, a_license_choice, a_license_identifier, a_signature, signer_list, chain_list}
-use Rattle.cdx_schema.specs.Nodes.{◌⊕◌}
+use Rattle.cdx_models.specs.Trees.{license, expression, spdx_id, license_name, text, fields, Trees, one}
+use Rattle.cdx_schema.specs.Kinds.{a_record, a_license_choice, a_license_identifier}
 use Rattle.cdx_schema.specs.Table.{rows}
 use Rattle.cdx_schema.specs.Keeping.{kept}
-use Rattle.cdx_schema.specs.XmlSpelling.{plain_element, nodes_of}
-use Rattle.cdx_write.specs.Listed.{item_put}
+use Rattle.cdx_schema.specs.XmlSpelling.{nodes_of}
 use Rattle.cdx_write.specs.Spelling.{written}
-use Rattle.cdx_write.specs.Writing.{opening, start_tag, end_tag, simple_tag}
+use Rattle.cdx_write.specs.Writing.{simple_tag}
 
 pub license_choice : (ts : Trees) (w : SpecVersion) (tag : List ℕ) → written (fields license ts) w (codes "license") (a_record license) ≡ written (fields license ts) w tag a_license_choice
 unfolding written kept nodes_of
