@@ -1,2 +1,3 @@
 pub mod Licensed
 pub mod Identifiers
+pub mod Written

@@ -5,5 +5,6 @@ pub mod json;
 pub mod license;
 mod parts;
 mod reading;
+mod writing;
 
 pub use license::{Expression, License, LicenseChoice, LicenseIdentifier, Licenses};

@@ -7,6 +7,7 @@ pub mod json;
 mod parts;
 mod reading;
 pub mod signature;
+mod writing;
 
 pub use composition::{BomReference, Composition, Compositions};
 pub use dependency::{Dependencies, Dependency};
