@@ -13,7 +13,7 @@ use Rattle.cdx_schema.specs.Kinds.{a_list, a_record, a_data, an_entry, classific
 use Rattle.cdx_schema.specs.Nodes.{◌⊕◌}
 use Rattle.cdx_schema.specs.Table.{rows, list}
 use Rattle.cdx_schema.specs.Trips.{is_passed_over}
-use Rattle.cdx_schema.specs.XmlSpelling.{lone, Items, named, as_flows, item_node, any_flow, nodes_of, items_nodes}
+use Rattle.cdx_schema.specs.XmlSpelling.{lone, named, as_flows, item_node, any_flow, nodes_of, items_nodes}
 use Rattle.cdx_write.specs.Spelling.{inner, written}
 use Rattle.cdx_write.specs.Writing.{start_tag, end_tag}
 use Rattle.cdx_parts.specs.Records.{classification_tree, service_data_tree, service_classification, service_entry, data_tree}
@@ -21,6 +21,7 @@ use Rattle.cdx_parts.specs.declared.service.Data.{Data}
 use Rattle.cdx_parts.specs.declared.service.Data.TheVariants as variant
 use Rattle.cdx_parts.specs.declared.service.DataClassification.{DataClassification}
 use Rattle.cdx_parts.specs.declared.service.ServiceData.{ServiceData}
+use Rattle.cdx_parts.proofs.Entries.{held}
 use Rattle.cdx_parts.proofs.DataEntries.{late, kept_alike, classification_kept, flow_dropped}
 
 -- ---- classifications
@@ -88,10 +89,6 @@ unnamed_kept : (w : SpecVersion) (xs : List ServiceData) → (knows V1_5 w && li
 unnamed_kept V1_3 xs e = kept_alike service_classification service_entry (a_record classification) an_entry V1_3 V1_3 xs (λ x. flow_dropped V1_3 V1_3 x refl)
 unnamed_kept V1_4 xs e = kept_alike service_classification service_entry (a_record classification) an_entry V1_4 V1_4 xs (λ x. flow_dropped V1_4 V1_4 x refl)
 unnamed_kept V1_5 xs e = none_named V1_5 xs e
-
-abbrev held : Tree → Trees
-held (items ts) = ts
-held _ = none
 
 pub unnamed_inner : (w : SpecVersion) (cs : List DataClassification) (xs : List ServiceData) (b : Bool) → b ≡ (knows V1_5 w && list_any is_named xs) → b ≡ false → list_tree classification_tree cs ≡ list_tree service_classification xs
     → inner (list_tree classification_tree cs) w (a_list classifications) ≡ inner (list_tree service_entry xs) w a_data

@@ -2,3 +2,4 @@ mod documents;
 mod json;
 mod reading;
 mod types;
+mod writing;

@@ -100,3 +100,56 @@ pub fn told(alloc: Global, fault: &XmlReadError) -> Result<String, AllocError> {
         _ => String::from_str(alloc, "another fault"),
     }
 }
+
+fn put_start(
+    line: &mut String,
+    name: &OwnedName,
+    attributes: &List<OwnedAttribute>,
+) -> Result<(), AllocError> {
+    line.push('<')?;
+    line.push_str(name.local_name.as_str())?;
+    for attribute in attributes.as_slice() {
+        line.push(' ')?;
+        line.push_str(attribute.name.local_name.as_str())?;
+        line.push('=')?;
+        line.push_str(attribute.value.as_str())?;
+    }
+    Ok(())
+}
+
+fn put_text(line: &mut String, mark: char, text: &Text) -> Result<(), AllocError> {
+    line.push(mark)?;
+    line.push_str(text.as_str())
+}
+
+fn put_event(line: &mut String, event: &XmlEvent) -> Result<(), AllocError> {
+    match event {
+        XmlEvent::StartElement {
+            name,
+            attributes,
+            ..
+        } => put_start(line, name, attributes),
+        XmlEvent::EndElement { name } => put_text(line, '>', &name.local_name),
+        XmlEvent::Characters(text) => put_text(line, '=', text),
+        XmlEvent::CData(text) => put_text(line, '!', text),
+        _ => Ok(()),
+    }
+}
+
+/// The line of the events between the document's start and its end.
+pub fn line(alloc: Global, events: &Events) -> Result<String, AllocError> {
+    let mut line = String::new(alloc);
+    for place in 1..events.len() {
+        let Some(event) = events.get(place) else {
+            return Ok(line);
+        };
+        if matches!(event, XmlEvent::EndDocument) {
+            return Ok(line);
+        }
+        if place > 1 {
+            line.push('|')?;
+        }
+        put_event(&mut line, event)?;
+    }
+    Ok(line)
+}

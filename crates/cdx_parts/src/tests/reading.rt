@@ -10,15 +10,25 @@ use cdx_models::SpecVersion;
 use std::alloc::Global;
 use std::test::Fail;
 
-// What the document denotes in a version, as JSON of 1.5, or its fault.
-fn read<T: FromXml + ToJson>(alloc: Global, line: &str, v: SpecVersion) -> Result<String, Fail> {
+// What the document denotes in a version, as JSON of another, or its fault.
+fn carried<T: FromXml + ToJson>(
+    alloc: Global,
+    line: &str,
+    from: SpecVersion,
+    to: SpecVersion,
+) -> Result<String, Fail> {
     let Some(events) = document(alloc, line)? else {
         return Ok(String::from_str(alloc, "unbalanced")?);
     };
-    match read_root::<T>(alloc, &events, v) {
-        Ok(held) => Ok(held.to_json(alloc, SpecVersion::V1_5)?.to_string(alloc)?),
+    match read_root::<T>(alloc, &events, from) {
+        Ok(held) => Ok(held.to_json(alloc, to)?.to_string(alloc)?),
         Err(error) => Ok(told(alloc, &error)?),
     }
+}
+
+// What the document denotes in a version, as JSON of 1.5, or its fault.
+fn read<T: FromXml + ToJson>(alloc: Global, line: &str, v: SpecVersion) -> Result<String, Fail> {
+    carried::<T>(alloc, line, v, SpecVersion::V1_5)
 }
 
 // The first of the lines, in 1.5, that isn't read as what stands beside it.
@@ -164,5 +174,9 @@ fn data(rt: HostRuntime) -> Result<(), Fail> {
         assert_eq!(rt; read::<Data>(alloc, line, SpecVersion::V1_4)?.as_str(), old);
         assert_eq!(rt; read::<Data>(alloc, line, SpecVersion::V1_5)?.as_str(), new);
     }
+    assert_eq!(rt;
+        carried::<Data>(alloc, both, SpecVersion::V1_5, SpecVersion::V1_4)?.as_str(),
+        r#"[{"classification":"public","flow":"outbound"}]"#
+    );
     Ok(())
 }

@@ -1,4 +1,4 @@
-use Rattle.std.proofs.Common.{refl, Err}
+use Rattle.std.proofs.Common.{refl}
 use Rattle.cdx_schema.specs.Kinds.{classifications, flows}
 use Rattle.cdx_schema.specs.Table.{list}
 use Rattle.cdx_write.proofs.RowWords.{appends_same}
