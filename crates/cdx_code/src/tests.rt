@@ -1,7 +1,7 @@
 //! Worked examples of the records of code.
 
+mod documents;
 mod json;
-mod pieces;
 mod types;
 mod written;
 mod xml;

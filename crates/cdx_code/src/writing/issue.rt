@@ -86,6 +86,7 @@ impl ToXml for Source {
         write_record(alloc, writer, w, "source", self)
     }
 
+    /// False exactly where name and url are absent.
     fn will_write(&self) -> bool {
         is_there(&self.name) || is_there(&self.url)
     }

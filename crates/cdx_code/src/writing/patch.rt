@@ -86,6 +86,7 @@ impl ToXml for Diff {
         write_record(alloc, writer, w, "diff", self)
     }
 
+    /// False exactly where text and url are absent.
     fn will_write(&self) -> bool {
         is_there(&self.text) || is_there(&self.url)
     }
