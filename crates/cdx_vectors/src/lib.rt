@@ -10,4 +10,6 @@ mod helpers;
 #[cfg(test)]
 mod json;
 #[cfg(test)]
+mod written;
+#[cfg(test)]
 mod xml;
