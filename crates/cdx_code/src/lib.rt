@@ -1,4 +1,4 @@
-//! Commits, patches and issues: their types and trees, and what they are in JSON and in XML.
+//! Commits: their types and trees, and what they are in JSON and in XML.
 #![tactic(auto)]
 
 pub mod code;
@@ -6,7 +6,4 @@ mod json;
 mod reading;
 mod writing;
 
-pub use code::{Commit, Commits, Diff, IdentifiableAction, Issue, Patch, Patches, Source};
-
-#[cfg(test)]
-mod tests;
+pub use code::{Commit, Commits, IdentifiableAction};

@@ -1,5 +1,217 @@
-//! Commits, patches and issues read from XML.
+//! Commits, and who made them, read from XML.
 
-mod commit;
-mod issue;
-mod patch;
+use crate::{Commit, Commits, IdentifiableAction};
+use cdx_events::{EventReader, List, OwnedAttribute, OwnedName};
+use cdx_leaf::{
+    Children, FromXml, Record, Rule, Taken, read_lax_validation_list_tag, read_whole, take_one,
+};
+use cdx_models::{SpecVersion, XmlReadError};
+use std::alloc::Global;
+
+impl Children for IdentifiableAction {
+    ghost use Rattle.cdx_models.specs.Trees.{action};
+    ghost use Rattle.cdx_schema.specs.XmlReading.{record_plan};
+    ghost use Rattle.cdx_code.specs.Slots.{action_slots};
+
+    ghost slots = { action_slots };
+
+    ghost plan = { λ r. record_plan action };
+
+    ghost depth = { λ r d. d };
+
+    fn rule(&self) -> Rule {
+        Rule::Lax
+    }
+
+    fn read_child(
+        &mut self,
+        alloc: Global,
+        reader: &mut EventReader<'_>,
+        v: SpecVersion,
+        element: &OwnedName,
+        attributes: &List<OwnedAttribute>,
+    ) -> Result<Taken, XmlReadError> {
+        match element.local_name.as_str() {
+            "timestamp" => take_one(alloc, reader, v, element, attributes, &mut self.timestamp),
+            "name" => take_one(alloc, reader, v, element, attributes, &mut self.name),
+            "email" => take_one(alloc, reader, v, element, attributes, &mut self.email),
+            _ => Ok(Taken::Unknown),
+        }
+    }
+}
+
+impl Record for IdentifiableAction {
+    ghost use Rattle.std.specs.Prelude.{refl};
+    ghost use Rattle.cdx_models.specs.Trees.{action};
+    ghost use Rattle.cdx_code.specs.Plain.{action_plain};
+
+    type Part = IdentifiableAction;
+
+    ghost name = { action };
+
+    ghost plain = { action_plain };
+
+    ghost is_record = { λ x. refl };
+
+    ghost by_rows = { λ part. refl };
+
+    ghost same_depth = { λ part. refl };
+
+    fn begin(
+        _alloc: Global,
+        _place: usize,
+        _v: SpecVersion,
+        _element: &OwnedName,
+        _attributes: &List<OwnedAttribute>,
+    ) -> Result<IdentifiableAction, XmlReadError> {
+        Ok(IdentifiableAction {
+            timestamp: None,
+            name: None,
+            email: None,
+        })
+    }
+
+    fn finish(
+        _alloc: Global,
+        _place: usize,
+        _v: SpecVersion,
+        _element: &OwnedName,
+        part: IdentifiableAction,
+    ) -> Result<IdentifiableAction, XmlReadError> {
+        Ok(part)
+    }
+}
+
+impl FromXml for IdentifiableAction {
+    ghost use Rattle.cdx_models.specs.Trees.{action};
+    ghost use Rattle.cdx_schema.specs.Kinds.{a_record};
+
+    ghost kind = { a_record action };
+
+    ghost depth = { λ d. d };
+
+    fn read_xml_element(
+        alloc: Global,
+        reader: &mut EventReader<'_>,
+        v: SpecVersion,
+        element: &OwnedName,
+        attributes: &List<OwnedAttribute>,
+    ) -> Result<IdentifiableAction, XmlReadError> {
+        read_whole(alloc, reader, v, element, attributes)
+    }
+}
+
+impl Children for Commit {
+    ghost use Rattle.cdx_models.specs.Trees.{commit};
+    ghost use Rattle.cdx_schema.specs.XmlReading.{record_plan};
+    ghost use Rattle.cdx_code.specs.Slots.{commit_slots};
+
+    ghost slots = { commit_slots };
+
+    ghost plan = { λ r. record_plan commit };
+
+    ghost depth = { λ r d. d };
+
+    fn rule(&self) -> Rule {
+        Rule::Lax
+    }
+
+    fn read_child(
+        &mut self,
+        alloc: Global,
+        reader: &mut EventReader<'_>,
+        v: SpecVersion,
+        element: &OwnedName,
+        attributes: &List<OwnedAttribute>,
+    ) -> Result<Taken, XmlReadError> {
+        match element.local_name.as_str() {
+            "uid" => take_one(alloc, reader, v, element, attributes, &mut self.uid),
+            "url" => take_one(alloc, reader, v, element, attributes, &mut self.url),
+            "author" => take_one(alloc, reader, v, element, attributes, &mut self.author),
+            "committer" => take_one(alloc, reader, v, element, attributes, &mut self.committer),
+            "message" => take_one(alloc, reader, v, element, attributes, &mut self.message),
+            _ => Ok(Taken::Unknown),
+        }
+    }
+}
+
+impl Record for Commit {
+    ghost use Rattle.std.specs.Prelude.{refl};
+    ghost use Rattle.cdx_models.specs.Trees.{commit};
+    ghost use Rattle.cdx_code.specs.Plain.{commit_plain};
+
+    type Part = Commit;
+
+    ghost name = { commit };
+
+    ghost plain = { commit_plain };
+
+    ghost is_record = { λ x. refl };
+
+    ghost by_rows = { λ part. refl };
+
+    ghost same_depth = { λ part. refl };
+
+    fn begin(
+        _alloc: Global,
+        _place: usize,
+        _v: SpecVersion,
+        _element: &OwnedName,
+        _attributes: &List<OwnedAttribute>,
+    ) -> Result<Commit, XmlReadError> {
+        Ok(Commit {
+            uid: None,
+            url: None,
+            author: None,
+            committer: None,
+            message: None,
+        })
+    }
+
+    fn finish(
+        _alloc: Global,
+        _place: usize,
+        _v: SpecVersion,
+        _element: &OwnedName,
+        part: Commit,
+    ) -> Result<Commit, XmlReadError> {
+        Ok(part)
+    }
+}
+
+impl FromXml for Commit {
+    ghost use Rattle.cdx_models.specs.Trees.{commit};
+    ghost use Rattle.cdx_schema.specs.Kinds.{a_record};
+
+    ghost kind = { a_record commit };
+
+    ghost depth = { λ d. d };
+
+    fn read_xml_element(
+        alloc: Global,
+        reader: &mut EventReader<'_>,
+        v: SpecVersion,
+        element: &OwnedName,
+        attributes: &List<OwnedAttribute>,
+    ) -> Result<Commit, XmlReadError> {
+        read_whole(alloc, reader, v, element, attributes)
+    }
+}
+
+impl FromXml for Commits {
+    ghost use Rattle.cdx_schema.specs.Kinds.{a_list, commits};
+
+    ghost kind = { a_list commits };
+
+    ghost depth = { λ d. d };
+
+    fn read_xml_element(
+        alloc: Global,
+        reader: &mut EventReader<'_>,
+        v: SpecVersion,
+        element: &OwnedName,
+        _attributes: &List<OwnedAttribute>,
+    ) -> Result<Commits, XmlReadError> {
+        Ok(Commits(read_lax_validation_list_tag(alloc, reader, v, element, "commit")?))
+    }
+}

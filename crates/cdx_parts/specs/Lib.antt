@@ -1,6 +1,4 @@
-pub mod Entries
+pub mod Records
 pub mod Parts
 pub mod Plain
-pub mod Records
-pub mod Stays
 pub mod Whole

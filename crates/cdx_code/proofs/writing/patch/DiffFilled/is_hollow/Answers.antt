@@ -1,5 +1,0 @@
-use Rattle.cdx_write.proofs.Hollow.{diff_hollow}
-use Rattle.cdx_code.proofs.writing.patch.DiffFilled.is_hollow.Goals as goal
-
-pub returns : goal.returns
-returns c = diff_hollow _ _ c.will_write.result c.will_write.ensures

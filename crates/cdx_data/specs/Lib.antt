@@ -1,0 +1,6 @@
+pub mod Entries
+pub mod Records
+pub mod Parts
+pub mod Plain
+pub mod Stays
+pub mod Whole

@@ -1,0 +1,10 @@
+//! The data that services take and give, and how sensitive it is.
+#![tactic(auto)]
+
+mod json;
+mod parts;
+mod reading;
+pub mod service;
+mod writing;
+
+pub use service::{Data, DataClassification, ServiceData};

@@ -1,0 +1,207 @@
+//! The data that a service takes or gives.
+
+ghost use Rattle.std.specs.Prelude.{◌≡◌, refl, IfOk, is_some, ◌||◌};
+ghost use Rattle.cdx_models.specs.Trees.{list_tree};
+ghost use Rattle.cdx_models.specs.Entries.{entry_of};
+ghost use Rattle.cdx_models.specs.Same.{same};
+ghost use Rattle.cdx_models.specs.SameLaws.{same_laws};
+ghost use Rattle.cdx_data.specs.Records.{classification_tree, service_data_tree, service_classification, service_entry, data_tree, data_there};
+
+use cdx_events::{List, Text};
+use cdx_models::{HasTree, copy_row, same_row};
+use std::alloc::{AllocError, Global};
+
+/// How sensitive data is.
+#[derive(Debug, Drop)]
+pub struct DataClassification {
+    /// Whether the data goes in or out, as `inbound`.
+    pub flow: Text,
+    /// The data's class, as `PII`.
+    pub classification: Text,
+}
+
+impl DataClassification {
+    /// The data of this class that flows this way.
+    pub fn new(
+        alloc: Global,
+        flow: &str,
+        classification: &str,
+    ) -> Result<DataClassification, AllocError>
+        ensures { IfOk result (λ r. r ≡ record { flow = flow.now; classification = classification.now }) }
+    {
+        Ok(DataClassification {
+            flow: Text::new(alloc, flow)?,
+            classification: Text::new(alloc, classification)?,
+        })
+    }
+}
+
+impl HasTree for DataClassification {
+    ghost tree = { classification_tree };
+
+    ghost there = { λ x. refl };
+
+    fn copy(&self, alloc: Global) -> Result<DataClassification, AllocError> {
+        Ok(DataClassification {
+            flow: self.flow.copy(alloc)?,
+            classification: self.classification.copy(alloc)?,
+        })
+    }
+
+    fn same(&self, other: &DataClassification) -> bool {
+        self.flow.same(&other.flow) && self.classification.same(&other.classification)
+    }
+}
+
+impl PartialEq for DataClassification {
+    ghost eq = { λ a b. same (classification_tree a) (classification_tree b) };
+
+    ghost laws = { same_laws classification_tree };
+
+    fn eq(&self, other: &DataClassification) -> bool {
+        self.same(other)
+    }
+}
+
+/// Data with a name and a description. Known from 1.5 on.
+#[derive(Debug, Drop)]
+pub struct ServiceData {
+    pub name: Option<Text>,
+    pub description: Option<Text>,
+    pub classification: DataClassification,
+}
+
+impl HasTree for ServiceData {
+    ghost tree = { service_data_tree };
+
+    ghost there = { λ x. refl };
+
+    fn copy(&self, alloc: Global) -> Result<ServiceData, AllocError> {
+        Ok(ServiceData {
+            name: copy_row(alloc, &self.name)?,
+            description: copy_row(alloc, &self.description)?,
+            classification: self.classification.copy(alloc)?,
+        })
+    }
+
+    fn same(&self, other: &ServiceData) -> bool {
+        same_row(&self.name, &other.name)
+            && same_row(&self.description, &other.description)
+            && self.classification.same(&other.classification)
+    }
+}
+
+impl PartialEq for ServiceData {
+    ghost eq = { λ a b. same (service_data_tree a) (service_data_tree b) };
+
+    ghost laws = { same_laws service_data_tree };
+
+    fn eq(&self, other: &ServiceData) -> bool {
+        self.same(other)
+    }
+}
+
+/// The data that a service takes or gives. It is seen as the list of its entries: a `ServiceData` with neither name
+/// nor description counts as its classification.
+#[derive(Debug, Drop)]
+pub enum Data {
+    /// Each with its classification alone.
+    Classification(List<DataClassification>),
+    /// Known from 1.5 on.
+    ServiceData(List<ServiceData>),
+}
+
+impl HasTree for Data {
+    ghost tree = { data_tree };
+
+    ghost there = { data_there };
+
+    fn copy(&self, alloc: Global) -> Result<Data, AllocError> {
+        match self {
+            Data::Classification(held) => Ok(Data::Classification(held.copy(alloc)?)),
+            Data::ServiceData(held) => Ok(Data::ServiceData(held.copy(alloc)?)),
+        }
+    }
+
+    fn same(&self, other: &Data) -> bool {
+        match (self, other) {
+            (Data::Classification(one), Data::Classification(other)) => one.same(other),
+            (Data::Classification(one), Data::ServiceData(other)) => same_entries(one, other),
+            (Data::ServiceData(one), Data::Classification(other)) => same_entries(other, one),
+            (Data::ServiceData(one), Data::ServiceData(other)) => same_entries(one, other),
+        }
+    }
+}
+
+impl PartialEq for Data {
+    ghost eq = { λ a b. same (data_tree a) (data_tree b) };
+
+    ghost laws = { same_laws data_tree };
+
+    fn eq(&self, other: &Data) -> bool {
+        self.same(other)
+    }
+}
+
+impl ServiceData {
+    /// Whether it has a name or a description, so that it is more than its classification. It takes no memory.
+    pub fn is_flow(&self) -> bool
+        ensures { result ≡ (is_some self.now.name || is_some self.now.description) }
+    {
+        self.name.is_some() || self.description.is_some()
+    }
+}
+
+/// A value that may stand among a service's data.
+trait Entry: HasTree {
+    /// Whether it is the same entry as a service data. It takes no memory.
+    fn same_entry(&self, other: &ServiceData) -> bool
+        ensures { result ≡ same (entry_of (Self.tree self.now)) (service_entry other.now) };
+}
+
+impl Entry for DataClassification {
+    fn same_entry(&self, other: &ServiceData) -> bool {
+        !other.is_flow() && self.same(&other.classification)
+    }
+}
+
+impl Entry for ServiceData {
+    fn same_entry(&self, other: &ServiceData) -> bool {
+        if self.is_flow() {
+            self.same(other)
+        } else {
+            self.classification.same_entry(other)
+        }
+    }
+}
+
+/// Whether the entries are equal one by one. It takes no memory.
+fn same_entries<T: Entry + Drop>(one: &List<T>, other: &List<ServiceData>) -> bool
+    ensures { result ≡ same (list_tree (λ x. entry_of (T.tree x)) one.now) (list_tree service_entry other.now) }
+{
+    let one = one.as_slice();
+    let other = other.as_slice();
+    if one.len() != other.len() {
+        return false;
+    }
+    for i in 0..one.len() {
+        if !one[i].same_entry(&other[i]) {
+            return false;
+        }
+    }
+    true
+}
+
+/// The classification of each. Only want of memory is refused.
+pub(crate) fn classifications(
+    alloc: Global,
+    held: &List<ServiceData>,
+) -> Result<List<DataClassification>, AllocError>
+    ensures { IfOk result (λ r. list_tree classification_tree r ≡ list_tree service_classification held.now) }
+{
+    let mut copies = List::new(alloc);
+    for item in held.as_slice() {
+        copies.push(item.classification.copy(alloc)?)?;
+    }
+    Ok(copies)
+}

@@ -1,0 +1,197 @@
+//! Patches and what they resolve.
+
+ghost use Rattle.std.specs.Prelude.{refl};
+ghost use Rattle.cdx_models.specs.Same.{same};
+ghost use Rattle.cdx_models.specs.SameLaws.{same_laws};
+ghost use Rattle.cdx_patch.specs.Records.{diff_tree, source_tree, issue_tree, patch_tree, patches_tree};
+
+use cdx_events::{List, Text};
+use cdx_models::{AttachedText, HasTree, copy_row, same_row};
+use std::alloc::{AllocError, Global};
+
+/// What a patch changes.
+#[derive(Debug, Drop)]
+pub struct Diff {
+    /// The change itself.
+    pub text: Option<AttachedText>,
+    /// Where the change can be found.
+    pub url: Option<Text>,
+}
+
+impl HasTree for Diff {
+    ghost tree = { diff_tree };
+
+    ghost there = { λ x. refl };
+
+    fn copy(&self, alloc: Global) -> Result<Diff, AllocError> {
+        Ok(Diff {
+            text: copy_row(alloc, &self.text)?,
+            url: copy_row(alloc, &self.url)?,
+        })
+    }
+
+    fn same(&self, other: &Diff) -> bool {
+        same_row(&self.text, &other.text) && same_row(&self.url, &other.url)
+    }
+}
+
+impl PartialEq for Diff {
+    ghost eq = { λ a b. same (diff_tree a) (diff_tree b) };
+
+    ghost laws = { same_laws diff_tree };
+
+    fn eq(&self, other: &Diff) -> bool {
+        self.same(other)
+    }
+}
+
+/// Where an issue is told of.
+#[derive(Debug, Drop)]
+pub struct Source {
+    pub name: Option<Text>,
+    pub url: Option<Text>,
+}
+
+impl HasTree for Source {
+    ghost tree = { source_tree };
+
+    ghost there = { λ x. refl };
+
+    fn copy(&self, alloc: Global) -> Result<Source, AllocError> {
+        Ok(Source {
+            name: copy_row(alloc, &self.name)?,
+            url: copy_row(alloc, &self.url)?,
+        })
+    }
+
+    fn same(&self, other: &Source) -> bool {
+        same_row(&self.name, &other.name) && same_row(&self.url, &other.url)
+    }
+}
+
+impl PartialEq for Source {
+    ghost eq = { λ a b. same (source_tree a) (source_tree b) };
+
+    ghost laws = { same_laws source_tree };
+
+    fn eq(&self, other: &Source) -> bool {
+        self.same(other)
+    }
+}
+
+/// A defect, a wish or a weakness that a patch resolves.
+#[derive(Debug, Drop)]
+pub struct Issue {
+    /// What it is, as `defect` or `security`.
+    pub issue_type: Text,
+    /// The identifier that its source gives it.
+    pub id: Option<Text>,
+    pub name: Option<Text>,
+    pub description: Option<Text>,
+    pub source: Option<Source>,
+    /// Addresses of what else tells of it.
+    pub references: Option<List<Text>>,
+}
+
+impl HasTree for Issue {
+    ghost tree = { issue_tree };
+
+    ghost there = { λ x. refl };
+
+    fn copy(&self, alloc: Global) -> Result<Issue, AllocError> {
+        Ok(Issue {
+            issue_type: self.issue_type.copy(alloc)?,
+            id: copy_row(alloc, &self.id)?,
+            name: copy_row(alloc, &self.name)?,
+            description: copy_row(alloc, &self.description)?,
+            source: copy_row(alloc, &self.source)?,
+            references: copy_row(alloc, &self.references)?,
+        })
+    }
+
+    fn same(&self, other: &Issue) -> bool {
+        self.issue_type.same(&other.issue_type)
+            && same_row(&self.id, &other.id)
+            && same_row(&self.name, &other.name)
+            && same_row(&self.description, &other.description)
+            && same_row(&self.source, &other.source)
+            && same_row(&self.references, &other.references)
+    }
+}
+
+impl PartialEq for Issue {
+    ghost eq = { λ a b. same (issue_tree a) (issue_tree b) };
+
+    ghost laws = { same_laws issue_tree };
+
+    fn eq(&self, other: &Issue) -> bool {
+        self.same(other)
+    }
+}
+
+/// A change of a component that is not in its own source.
+#[derive(Debug, Drop)]
+pub struct Patch {
+    /// What it is, as `backport`.
+    pub patch_type: Text,
+    pub diff: Option<Diff>,
+    /// The issues that it resolves.
+    pub resolves: Option<List<Issue>>,
+}
+
+impl HasTree for Patch {
+    ghost tree = { patch_tree };
+
+    ghost there = { λ x. refl };
+
+    fn copy(&self, alloc: Global) -> Result<Patch, AllocError> {
+        Ok(Patch {
+            patch_type: self.patch_type.copy(alloc)?,
+            diff: copy_row(alloc, &self.diff)?,
+            resolves: copy_row(alloc, &self.resolves)?,
+        })
+    }
+
+    fn same(&self, other: &Patch) -> bool {
+        self.patch_type.same(&other.patch_type)
+            && same_row(&self.diff, &other.diff)
+            && same_row(&self.resolves, &other.resolves)
+    }
+}
+
+impl PartialEq for Patch {
+    ghost eq = { λ a b. same (patch_tree a) (patch_tree b) };
+
+    ghost laws = { same_laws patch_tree };
+
+    fn eq(&self, other: &Patch) -> bool {
+        self.same(other)
+    }
+}
+
+#[derive(Debug, Drop)]
+pub struct Patches(pub List<Patch>);
+
+impl HasTree for Patches {
+    ghost tree = { patches_tree };
+
+    ghost there = { λ x. refl };
+
+    fn copy(&self, alloc: Global) -> Result<Patches, AllocError> {
+        Ok(Patches(self.0.copy(alloc)?))
+    }
+
+    fn same(&self, other: &Patches) -> bool {
+        self.0.same(&other.0)
+    }
+}
+
+impl PartialEq for Patches {
+    ghost eq = { λ a b. same (patches_tree a) (patches_tree b) };
+
+    ghost laws = { same_laws patches_tree };
+
+    fn eq(&self, other: &Patches) -> bool {
+        self.same(other)
+    }
+}

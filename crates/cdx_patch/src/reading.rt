@@ -1,0 +1,4 @@
+//! Patches and issues read from XML.
+
+mod issue;
+mod patch;

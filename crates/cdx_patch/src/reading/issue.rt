@@ -1,0 +1,206 @@
+//! Issues read from XML.
+
+use crate::{Issue, Source};
+use cdx_events::{EventReader, List, OwnedAttribute, OwnedName};
+use cdx_leaf::{
+    Children, FromXml, Record, Rule, Taken, attribute_or_error, read_whole, take_list, take_one,
+};
+use cdx_models::{SpecVersion, XmlReadError};
+use std::alloc::Global;
+
+impl Children for Source {
+    ghost use Rattle.cdx_models.specs.Trees.{source};
+    ghost use Rattle.cdx_schema.specs.XmlReading.{record_plan};
+    ghost use Rattle.cdx_patch.specs.Slots.{source_slots};
+
+    ghost slots = { source_slots };
+
+    ghost plan = { λ r. record_plan source };
+
+    ghost depth = { λ r d. d };
+
+    fn rule(&self) -> Rule {
+        Rule::Strict
+    }
+
+    fn read_child(
+        &mut self,
+        alloc: Global,
+        reader: &mut EventReader<'_>,
+        v: SpecVersion,
+        element: &OwnedName,
+        attributes: &List<OwnedAttribute>,
+    ) -> Result<Taken, XmlReadError> {
+        match element.local_name.as_str() {
+            "name" => take_one(alloc, reader, v, element, attributes, &mut self.name),
+            "url" => take_one(alloc, reader, v, element, attributes, &mut self.url),
+            _ => Ok(Taken::Unknown),
+        }
+    }
+}
+
+impl Record for Source {
+    ghost use Rattle.std.specs.Prelude.{refl};
+    ghost use Rattle.cdx_models.specs.Trees.{source};
+    ghost use Rattle.cdx_patch.specs.Plain.{source_plain};
+
+    type Part = Source;
+
+    ghost name = { source };
+
+    ghost plain = { source_plain };
+
+    ghost is_record = { λ x. refl };
+
+    ghost by_rows = { λ part. refl };
+
+    ghost same_depth = { λ part. refl };
+
+    fn begin(
+        _alloc: Global,
+        _place: usize,
+        _v: SpecVersion,
+        _element: &OwnedName,
+        _attributes: &List<OwnedAttribute>,
+    ) -> Result<Source, XmlReadError> {
+        Ok(Source {
+            name: None,
+            url: None,
+        })
+    }
+
+    fn finish(
+        _alloc: Global,
+        _place: usize,
+        _v: SpecVersion,
+        _element: &OwnedName,
+        part: Source,
+    ) -> Result<Source, XmlReadError> {
+        Ok(part)
+    }
+}
+
+impl FromXml for Source {
+    ghost use Rattle.cdx_models.specs.Trees.{source};
+    ghost use Rattle.cdx_schema.specs.Kinds.{a_record};
+
+    ghost kind = { a_record source };
+
+    ghost depth = { λ d. d };
+
+    fn read_xml_element(
+        alloc: Global,
+        reader: &mut EventReader<'_>,
+        v: SpecVersion,
+        element: &OwnedName,
+        attributes: &List<OwnedAttribute>,
+    ) -> Result<Source, XmlReadError> {
+        read_whole(alloc, reader, v, element, attributes)
+    }
+}
+
+impl Children for Issue {
+    ghost use Rattle.cdx_models.specs.Trees.{issue};
+    ghost use Rattle.cdx_schema.specs.XmlReading.{record_plan};
+    ghost use Rattle.cdx_patch.specs.Slots.{issue_slots};
+
+    ghost slots = { issue_slots };
+
+    ghost plan = { λ r. record_plan issue };
+
+    ghost depth = { λ r d. d };
+
+    fn rule(&self) -> Rule {
+        Rule::Lax
+    }
+
+    fn read_child(
+        &mut self,
+        alloc: Global,
+        reader: &mut EventReader<'_>,
+        v: SpecVersion,
+        element: &OwnedName,
+        attributes: &List<OwnedAttribute>,
+    ) -> Result<Taken, XmlReadError> {
+        match element.local_name.as_str() {
+            "id" => take_one(alloc, reader, v, element, attributes, &mut self.id),
+            "name" => take_one(alloc, reader, v, element, attributes, &mut self.name),
+            "description" => take_one(alloc, reader, v, element, attributes, &mut self.description),
+            "source" => take_one(alloc, reader, v, element, attributes, &mut self.source),
+            "references" => take_list(
+                alloc,
+                reader,
+                v,
+                element,
+                "url",
+                Rule::Strict,
+                &mut self.references,
+            ),
+            _ => Ok(Taken::Unknown),
+        }
+    }
+}
+
+impl Record for Issue {
+    ghost use Rattle.std.specs.Prelude.{refl};
+    ghost use Rattle.cdx_models.specs.Trees.{issue};
+    ghost use Rattle.cdx_patch.specs.Plain.{issue_plain};
+
+    type Part = Issue;
+
+    ghost name = { issue };
+
+    ghost plain = { issue_plain };
+
+    ghost is_record = { λ x. refl };
+
+    ghost by_rows = { λ part. refl };
+
+    ghost same_depth = { λ part. refl };
+
+    fn begin(
+        alloc: Global,
+        place: usize,
+        _v: SpecVersion,
+        element: &OwnedName,
+        attributes: &List<OwnedAttribute>,
+    ) -> Result<Issue, XmlReadError> {
+        Ok(Issue {
+            issue_type: attribute_or_error(alloc, place, element, attributes, "type")?,
+            id: None,
+            name: None,
+            description: None,
+            source: None,
+            references: None,
+        })
+    }
+
+    fn finish(
+        _alloc: Global,
+        _place: usize,
+        _v: SpecVersion,
+        _element: &OwnedName,
+        part: Issue,
+    ) -> Result<Issue, XmlReadError> {
+        Ok(part)
+    }
+}
+
+impl FromXml for Issue {
+    ghost use Rattle.cdx_models.specs.Trees.{issue};
+    ghost use Rattle.cdx_schema.specs.Kinds.{a_record};
+
+    ghost kind = { a_record issue };
+
+    ghost depth = { λ d. d };
+
+    fn read_xml_element(
+        alloc: Global,
+        reader: &mut EventReader<'_>,
+        v: SpecVersion,
+        element: &OwnedName,
+        attributes: &List<OwnedAttribute>,
+    ) -> Result<Issue, XmlReadError> {
+        read_whole(alloc, reader, v, element, attributes)
+    }
+}

@@ -1,0 +1,219 @@
+//! Patches read from XML.
+
+use crate::{Diff, Patch, Patches};
+use cdx_events::{EventReader, List, OwnedAttribute, OwnedName};
+use cdx_leaf::{
+    Children, FromXml, Record, Rule, Taken, attribute_or_error, read_lax_validation_list_tag,
+    read_whole, take_list, take_one,
+};
+use cdx_models::{SpecVersion, XmlReadError};
+use std::alloc::Global;
+
+impl Children for Diff {
+    ghost use Rattle.cdx_models.specs.Trees.{diff};
+    ghost use Rattle.cdx_schema.specs.XmlReading.{record_plan};
+    ghost use Rattle.cdx_patch.specs.Slots.{diff_slots};
+
+    ghost slots = { diff_slots };
+
+    ghost plan = { λ r. record_plan diff };
+
+    ghost depth = { λ r d. d };
+
+    fn rule(&self) -> Rule {
+        Rule::Lax
+    }
+
+    fn read_child(
+        &mut self,
+        alloc: Global,
+        reader: &mut EventReader<'_>,
+        v: SpecVersion,
+        element: &OwnedName,
+        attributes: &List<OwnedAttribute>,
+    ) -> Result<Taken, XmlReadError> {
+        match element.local_name.as_str() {
+            "text" => take_one(alloc, reader, v, element, attributes, &mut self.text),
+            "url" => take_one(alloc, reader, v, element, attributes, &mut self.url),
+            _ => Ok(Taken::Unknown),
+        }
+    }
+}
+
+impl Record for Diff {
+    ghost use Rattle.std.specs.Prelude.{refl};
+    ghost use Rattle.cdx_models.specs.Trees.{diff};
+    ghost use Rattle.cdx_patch.specs.Plain.{diff_plain};
+
+    type Part = Diff;
+
+    ghost name = { diff };
+
+    ghost plain = { diff_plain };
+
+    ghost is_record = { λ x. refl };
+
+    ghost by_rows = { λ part. refl };
+
+    ghost same_depth = { λ part. refl };
+
+    fn begin(
+        _alloc: Global,
+        _place: usize,
+        _v: SpecVersion,
+        _element: &OwnedName,
+        _attributes: &List<OwnedAttribute>,
+    ) -> Result<Diff, XmlReadError> {
+        Ok(Diff {
+            text: None,
+            url: None,
+        })
+    }
+
+    fn finish(
+        _alloc: Global,
+        _place: usize,
+        _v: SpecVersion,
+        _element: &OwnedName,
+        part: Diff,
+    ) -> Result<Diff, XmlReadError> {
+        Ok(part)
+    }
+}
+
+impl FromXml for Diff {
+    ghost use Rattle.cdx_models.specs.Trees.{diff};
+    ghost use Rattle.cdx_schema.specs.Kinds.{a_record};
+
+    ghost kind = { a_record diff };
+
+    ghost depth = { λ d. d };
+
+    fn read_xml_element(
+        alloc: Global,
+        reader: &mut EventReader<'_>,
+        v: SpecVersion,
+        element: &OwnedName,
+        attributes: &List<OwnedAttribute>,
+    ) -> Result<Diff, XmlReadError> {
+        read_whole(alloc, reader, v, element, attributes)
+    }
+}
+
+impl Children for Patch {
+    ghost use Rattle.cdx_models.specs.Trees.{patch};
+    ghost use Rattle.cdx_schema.specs.XmlReading.{record_plan};
+    ghost use Rattle.cdx_patch.specs.Slots.{patch_slots};
+
+    ghost slots = { patch_slots };
+
+    ghost plan = { λ r. record_plan patch };
+
+    ghost depth = { λ r d. d };
+
+    fn rule(&self) -> Rule {
+        Rule::Lax
+    }
+
+    fn read_child(
+        &mut self,
+        alloc: Global,
+        reader: &mut EventReader<'_>,
+        v: SpecVersion,
+        element: &OwnedName,
+        attributes: &List<OwnedAttribute>,
+    ) -> Result<Taken, XmlReadError> {
+        match element.local_name.as_str() {
+            "diff" => take_one(alloc, reader, v, element, attributes, &mut self.diff),
+            "resolves" => take_list(
+                alloc,
+                reader,
+                v,
+                element,
+                "issue",
+                Rule::Strict,
+                &mut self.resolves,
+            ),
+            _ => Ok(Taken::Unknown),
+        }
+    }
+}
+
+impl Record for Patch {
+    ghost use Rattle.std.specs.Prelude.{refl};
+    ghost use Rattle.cdx_models.specs.Trees.{patch};
+    ghost use Rattle.cdx_patch.specs.Plain.{patch_plain};
+
+    type Part = Patch;
+
+    ghost name = { patch };
+
+    ghost plain = { patch_plain };
+
+    ghost is_record = { λ x. refl };
+
+    ghost by_rows = { λ part. refl };
+
+    ghost same_depth = { λ part. refl };
+
+    fn begin(
+        alloc: Global,
+        place: usize,
+        _v: SpecVersion,
+        element: &OwnedName,
+        attributes: &List<OwnedAttribute>,
+    ) -> Result<Patch, XmlReadError> {
+        Ok(Patch {
+            patch_type: attribute_or_error(alloc, place, element, attributes, "type")?,
+            diff: None,
+            resolves: None,
+        })
+    }
+
+    fn finish(
+        _alloc: Global,
+        _place: usize,
+        _v: SpecVersion,
+        _element: &OwnedName,
+        part: Patch,
+    ) -> Result<Patch, XmlReadError> {
+        Ok(part)
+    }
+}
+
+impl FromXml for Patch {
+    ghost use Rattle.cdx_models.specs.Trees.{patch};
+    ghost use Rattle.cdx_schema.specs.Kinds.{a_record};
+
+    ghost kind = { a_record patch };
+
+    ghost depth = { λ d. d };
+
+    fn read_xml_element(
+        alloc: Global,
+        reader: &mut EventReader<'_>,
+        v: SpecVersion,
+        element: &OwnedName,
+        attributes: &List<OwnedAttribute>,
+    ) -> Result<Patch, XmlReadError> {
+        read_whole(alloc, reader, v, element, attributes)
+    }
+}
+
+impl FromXml for Patches {
+    ghost use Rattle.cdx_schema.specs.Kinds.{a_list, patches};
+
+    ghost kind = { a_list patches };
+
+    ghost depth = { λ d. d };
+
+    fn read_xml_element(
+        alloc: Global,
+        reader: &mut EventReader<'_>,
+        v: SpecVersion,
+        element: &OwnedName,
+        _attributes: &List<OwnedAttribute>,
+    ) -> Result<Patches, XmlReadError> {
+        Ok(Patches(read_lax_validation_list_tag(alloc, reader, v, element, "patch")?))
+    }
+}

@@ -1,0 +1,4 @@
+//! Patches and issues written as XML.
+
+mod issue;
+mod patch;
