@@ -1,0 +1,4 @@
+//! The nested records read from XML.
+
+mod component;
+pub(crate) mod parts;

@@ -1,0 +1,3 @@
+//! Components, pedigrees and lists of components read from XML.
+
+mod rows;
