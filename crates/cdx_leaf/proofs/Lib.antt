@@ -10,4 +10,3 @@ pub mod Contents
 pub mod Attributes
 pub mod Digits
 pub mod Roots
-pub mod Groups

@@ -14,4 +14,3 @@ pub mod Tags
 pub mod Plain
 pub mod Parts
 pub mod Whole
-pub mod Groups

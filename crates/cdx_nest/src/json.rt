@@ -1,6 +1,0 @@
-//! The nested records in JSON.
-
-mod component;
-mod metadata;
-mod service;
-mod tools;

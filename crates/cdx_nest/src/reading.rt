@@ -1,4 +1,0 @@
-//! The nested records read from XML.
-
-mod component;
-pub(crate) mod parts;

@@ -1,3 +1,0 @@
-//! Components, pedigrees and lists of components read from XML.
-
-mod rows;
