@@ -1,0 +1,7 @@
+pub mod Compared
+pub mod Copied
+pub mod LeavesFit
+pub mod Fitting
+pub mod Grouped
+pub mod Deep
+pub mod ToolValues

@@ -1,0 +1,182 @@
+//! Tools in JSON.
+
+ghost use Rattle.std.specs.Prelude.{◌≡◌, IfOk};
+ghost use Rattle.serde_json.specs.Data.{array, no_items, no_members, object};
+ghost use Rattle.serde_json.specs.View.{view, members_view};
+ghost use Rattle.cdx_models.specs.Trees.{tools_object};
+ghost use Rattle.cdx_schema.specs.Kinds.{a_tools};
+ghost use Rattle.cdx_schema.specs.Table.{rows};
+ghost use Rattle.cdx_schema.specs.Keeping.{kept, keep};
+ghost use Rattle.cdx_schema.specs.JsonReading.{seen, tools_read};
+ghost use Rattle.cdx_schema.specs.JsonSpelling.{jspell};
+ghost use Rattle.cdx_json.specs.ByRows.{by_rows};
+ghost use Rattle.cdx_json.specs.Depths.{depth_of};
+ghost use Rattle.cdx_json.specs.Gives.{Gives};
+ghost use Rattle.cdx_json.specs.KeptRows.{parts, rows_put};
+ghost use Rattle.cdx_nest.specs.MetadataTrees.{tools_tree, object_tree};
+ghost use Rattle.cdx_nest.specs.Stays.{tools_stay};
+
+use crate::component::Components;
+use crate::service::Services;
+use crate::tools::Tools;
+use cdx_events::List;
+use cdx_json::{
+    Depth, FromJson, Kept, Kinded, ToJson, here, keep_list, keep_row, list_from_items,
+    list_to_value, optional_row, put_row,
+};
+use cdx_models::{JsonKind, JsonReadError, SpecVersion};
+use serde_json::{Map, Value};
+use std::alloc::{AllocError, Global};
+
+impl Kinded for Tools {
+    ghost kind = { a_tools };
+}
+
+impl FromJson for Tools {
+    /// An array is a list of tools, and in 1.5 an object is the services and components.
+    fn from_json_at(
+        alloc: Global,
+        value: &Value,
+        version: SpecVersion,
+        depth: Depth,
+    ) -> Result<Tools, JsonReadError> {
+        match value.as_array() {
+            Some(items) => Ok(Tools::List(list_from_items(alloc, items, version, depth)?)),
+            None => match value.as_object() {
+                None => Err(here(alloc, JsonKind::WrongKind)),
+                Some(map) => tools_from_object(alloc, map, version, depth),
+            },
+        }
+    }
+}
+
+fn tools_from_object(
+    alloc: Global,
+    map: &Map<String, Value>,
+    version: SpecVersion,
+    depth: Depth,
+) -> Result<Tools, JsonReadError>
+    ensures { Gives tools_tree result
+        (tools_read version (seen (members_view map.now.entries)) (depth_of depth)) }
+{
+    match version {
+        SpecVersion::V1_3 => Err(here(alloc, JsonKind::WrongKind)),
+        SpecVersion::V1_4 => Err(here(alloc, JsonKind::WrongKind)),
+        SpecVersion::V1_5 => tools_from_members(alloc, map, version, depth),
+    }
+}
+
+#[tactic(auto, unfolding(cdx_json::specs::ByRows::rows_made, cdx_schema::specs::Table::rows, cdx_schema::specs::Table::list))]
+fn tools_from_members(
+    alloc: Global,
+    map: &Map<String, Value>,
+    version: SpecVersion,
+    depth: Depth,
+) -> Result<Tools, JsonReadError>
+    ensures { Gives tools_tree result
+        (by_rows tools_object (seen (members_view map.now.entries)) version (depth_of depth)) }
+{
+    let services = optional_row(alloc, map, "services", version, depth)?;
+    let components = optional_row(alloc, map, "components", version, depth)?;
+    Ok(Tools::Object {
+        services,
+        components,
+    })
+}
+
+impl Kept for Tools {
+    ghost stays = { tools_stay };
+
+    fn kept_as(
+        &self,
+        alloc: Global,
+        version: SpecVersion,
+        label: SpecVersion,
+    ) -> Result<Tools, AllocError> {
+        match self {
+            Tools::List(held) => Ok(Tools::List(keep_list(alloc, held, version, label)?)),
+            Tools::Object {
+                services,
+                components,
+            } => keep_object(alloc, services, components, version, label),
+        }
+    }
+}
+
+/// Before 1.5 the services and components become the empty list.
+#[tactic(auto, unfolding(cdx_schema::specs::Keeping::kept, cdx_schema::specs::Table::rows, cdx_schema::specs::Table::list))]
+fn keep_object(
+    alloc: Global,
+    services: &Option<Services>,
+    components: &Option<Components>,
+    version: SpecVersion,
+    label: SpecVersion,
+) -> Result<Tools, AllocError>
+    ensures { IfOk result
+        (λ r. tools_tree r ≡ kept version label (object_tree services.now components.now) a_tools) }
+{
+    match version {
+        SpecVersion::V1_3 => Ok(Tools::List(List::new(alloc))),
+        SpecVersion::V1_4 => Ok(Tools::List(List::new(alloc))),
+        SpecVersion::V1_5 => {
+            let services = keep_row(alloc, services, version, label)?;
+            let components = keep_row(alloc, components, version, label)?;
+            Ok(Tools::Object {
+                services,
+                components,
+            })
+        }
+    }
+}
+
+impl ToJson for Tools {
+    fn to_value(&self, alloc: Global, version: SpecVersion) -> Result<Value, AllocError> {
+        match self {
+            Tools::List(held) => list_to_value(alloc, held, version),
+            Tools::Object {
+                services,
+                components,
+            } => object_to_value(alloc, services, components, version),
+        }
+    }
+}
+
+/// Before 1.5 the services and components are written as the empty list.
+#[tactic(auto, unfolding(cdx_schema::specs::Keeping::kept, cdx_schema::specs::JsonSpelling::jspell))]
+fn object_to_value(
+    alloc: Global,
+    services: &Option<Services>,
+    components: &Option<Components>,
+    version: SpecVersion,
+) -> Result<Value, AllocError>
+    ensures { IfOk result (λ v. view v
+        ≡ jspell (keep version (object_tree services.now components.now) a_tools) version a_tools) }
+{
+    match version {
+        SpecVersion::V1_3 => Ok(empty_array(alloc)),
+        SpecVersion::V1_4 => Ok(empty_array(alloc)),
+        SpecVersion::V1_5 => members_to_value(alloc, services, components, version),
+    }
+}
+
+fn empty_array(alloc: Global) -> Value
+    ensures { view result ≡ array no_items }
+{
+    Value::Array(Vec::new(alloc))
+}
+
+#[tactic(auto, unfolding(cdx_json::specs::KeptRows::rows_put, cdx_schema::specs::Table::rows, cdx_schema::specs::Table::list))]
+fn members_to_value(
+    alloc: Global,
+    services: &Option<Services>,
+    components: &Option<Components>,
+    version: SpecVersion,
+) -> Result<Value, AllocError>
+    ensures { IfOk result (λ v. view v
+        ≡ object (rows_put (parts (object_tree services.now components.now)) version (rows tools_object) no_members)) }
+{
+    let mut map = Map::new(alloc);
+    put_row(alloc, &mut map, "services", services, version)?;
+    put_row(alloc, &mut map, "components", components, version)?;
+    Ok(Value::Object(map))
+}

@@ -1,0 +1,68 @@
+//! The tools that made a bill.
+
+ghost use Rattle.cdx_models.specs.Same.{same};
+ghost use Rattle.cdx_models.specs.SameLaws.{same_laws};
+ghost use Rattle.cdx_nest.specs.MetadataTrees.{tools_tree, tools_there};
+
+use crate::component::Components;
+use crate::service::Services;
+use cdx_events::List;
+use cdx_models::{HasTree, Tool, copy_row, same_row};
+use std::alloc::{AllocError, Global};
+
+/// The tools that made a bill: each by its name, or the services and components that they are.
+#[derive(Debug, Drop)]
+pub enum Tools {
+    List(List<Tool>),
+    /// Known from 1.5 on.
+    Object {
+        services: Option<Services>,
+        components: Option<Components>,
+    },
+}
+
+impl HasTree for Tools {
+    ghost tree = { tools_tree };
+
+    ghost there = { tools_there };
+
+    fn copy(&self, alloc: Global) -> Result<Tools, AllocError> {
+        match self {
+            Tools::List(held) => Ok(Tools::List(held.copy(alloc)?)),
+            Tools::Object {
+                services,
+                components,
+            } => Ok(Tools::Object {
+                services: copy_row(alloc, services)?,
+                components: copy_row(alloc, components)?,
+            }),
+        }
+    }
+
+    fn same(&self, other: &Tools) -> bool {
+        match (self, other) {
+            (Tools::List(one), Tools::List(other)) => one.same(other),
+            (
+                Tools::Object {
+                    services,
+                    components,
+                },
+                Tools::Object {
+                    services: other_services,
+                    components: other_components,
+                },
+            ) => same_row(services, other_services) && same_row(components, other_components),
+            _ => false,
+        }
+    }
+}
+
+impl PartialEq for Tools {
+    ghost eq = { λ a b. same (tools_tree a) (tools_tree b) };
+
+    ghost laws = { same_laws tools_tree };
+
+    fn eq(&self, other: &Tools) -> bool {
+        self.same(other)
+    }
+}
