@@ -4,3 +4,4 @@ pub mod Values
 pub mod Loops
 pub mod KeptRowsLaws
 pub mod Spelled
+pub mod Groups

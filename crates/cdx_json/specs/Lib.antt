@@ -3,3 +3,4 @@ pub mod Depths
 pub mod ByRows
 pub mod KeptRows
 pub mod Stays
+pub mod Groups

@@ -1,13 +1,14 @@
 -- What is there stays there, and which records are read and written in the usual way.
 use Rattle.std.specs.Prelude.{◌≡◌, refl, false, ℕ, List, Bool}
+use Rattle.std.proofs.Common.{ap}
 use Rattle.serde_json.specs.Data.{no_members}
 use Rattle.cdx_models.specs.declared.bom.SpecVersion.{SpecVersion}
 use Rattle.cdx_models.specs.declared.bom.SpecVersion.TheVariants.{V1_3, V1_4, V1_5}
 use Rattle.cdx_models.specs.Trees.{Name, Tree, text, number, boolean, items, fields, Trees, is_absent}
-use Rattle.cdx_schema.specs.Kinds.{Lists, Kind, a_text, a_number, a_boolean, a_reference, a_list, a_record, a_signature, a_license_choice, a_license_identifier}
+use Rattle.cdx_schema.specs.Kinds.{Kind, Lists, a_text, a_number, a_boolean, a_reference, a_list, a_record, a_signature, a_license_choice, a_license_identifier}
 use Rattle.cdx_schema.specs.Depth.{Depth, name_too_deep, inside}
 use Rattle.cdx_schema.specs.JsonSpelling.{heading}
-use Rattle.cdx_schema.specs.Keeping.{kept, before_1_5}
+use Rattle.cdx_schema.specs.Keeping.{kept}
 use Rattle.cdx_json.specs.KeptRows.{parts}
 
 -- A record of the name, that has no heading.
@@ -61,3 +62,7 @@ unfolding kept
 identifier_fields_stay V1_3 l n ts = refl
 identifier_fields_stay V1_4 l n ts = refl
 identifier_fields_stay V1_5 l n ts = refl
+
+-- Equal trees stay there alike.
+pub at : (w l : SpecVersion) (k : Kind) (t u : Tree) → t ≡ u → is_absent (kept w l t k) ≡ is_absent (kept w l u k)
+at w l k t u e = ap (λ x. is_absent (kept w l x k)) e

@@ -10,3 +10,4 @@ pub mod Contents
 pub mod Attributes
 pub mod Digits
 pub mod Roots
+pub mod Groups

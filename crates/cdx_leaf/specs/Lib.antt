@@ -14,3 +14,4 @@ pub mod Tags
 pub mod Plain
 pub mod Parts
 pub mod Whole
+pub mod Groups

@@ -1,3 +1,4 @@
 pub mod Escapes
 pub mod Lists
 pub mod AddressTexts
+pub mod Compared

@@ -160,7 +160,6 @@ impl From<AllocError> for JsonReadError {
 }
 
 impl From<AllocError> for JsonWriteError {
-    ghost use Rattle.std.specs.Prelude.{◌≡◌};
     ghost use Rattle.cdx_models.specs.declared.errors.JsonWriteError.TheVariants.{Memory};
 
     ghost from_gives = { λ a e. e ≡ Memory a };
@@ -171,7 +170,6 @@ impl From<AllocError> for JsonWriteError {
 }
 
 impl From<AllocError> for XmlReadError {
-    ghost use Rattle.std.specs.Prelude.{◌≡◌};
     ghost use Rattle.cdx_models.specs.declared.errors.XmlReadError.TheVariants.{Memory};
 
     ghost from_gives = { λ a e. e ≡ Memory a };
@@ -182,7 +180,6 @@ impl From<AllocError> for XmlReadError {
 }
 
 impl From<AllocError> for XmlWriteError {
-    ghost use Rattle.std.specs.Prelude.{◌≡◌};
     ghost use Rattle.cdx_models.specs.declared.errors.XmlWriteError.TheVariants.{Memory};
 
     ghost from_gives = { λ a e. e ≡ Memory a };

@@ -1,7 +1,4 @@
 pub mod Compared
-pub mod Copied
-pub mod LeavesFit
-pub mod Fitting
+pub mod MetadataFits
 pub mod Grouped
-pub mod Deep
 pub mod ToolValues

@@ -25,7 +25,7 @@ use Rattle.cdx_json.proofs.ByRowsLaws.{by_rows_are}
 use Rattle.cdx_json.proofs.KeptRowsLaws.{record_put}
 use Rattle.cdx_json.proofs.Rows.{fails_here}
 use Rattle.cdx_nest.specs.declared.tools.Tools.{Tools}
-use Rattle.cdx_nest.specs.MetadataTrees.{tools_tree}
+use Rattle.cdx_nest.specs.Trees.{tools_tree}
 
 -- ---- read
 

@@ -1,6 +1,4 @@
-//! The nested records in JSON.
+//! Tools and metadata in JSON.
 
-mod component;
 mod metadata;
-mod service;
 mod tools;

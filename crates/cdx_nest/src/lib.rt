@@ -1,13 +1,12 @@
-//! The nested records: components with their pedigrees, services, tools and metadata, and their trees.
+//! The records in which components and services stand: tools and metadata, their types and trees, copies, `==`, the
+//! versions that metadata fits, and JSON.
 #![tactic(auto)]
 
-pub mod component;
 mod json;
 pub mod metadata;
-pub mod service;
 pub mod tools;
 
-pub use component::{Component, Components, Pedigree};
+pub use cdx_component::{Component, Components, Pedigree};
+pub use cdx_service::{Service, Services};
 pub use metadata::Metadata;
-pub use service::{Service, Services};
 pub use tools::Tools;

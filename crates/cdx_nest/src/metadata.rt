@@ -6,13 +6,13 @@ ghost use Rattle.cdx_models.specs.SameLaws.{same_laws};
 ghost use Rattle.cdx_models.specs.Trees.{metadata};
 ghost use Rattle.cdx_schema.specs.Kinds.{a_record};
 ghost use Rattle.cdx_schema.specs.Keeping.{fits};
-ghost use Rattle.cdx_nest.specs.MetadataTrees.{metadata_tree};
+ghost use Rattle.cdx_nest.specs.Trees.{metadata_tree};
 
 mod compared;
 mod copied;
 pub(crate) mod parts;
 
-use crate::component::{Component, component_row_has_versions};
+use cdx_component::{Component, component_row_has_versions};
 use crate::tools::Tools;
 use cdx_events::{List, Text};
 use cdx_license::Licenses;
@@ -61,7 +61,7 @@ impl Default for Metadata {
 impl Metadata {
     /// Whether the version can hold the metadata: it is not 1.3, or the metadata's component has a version and so has
     /// each one in it, at every depth and in pedigrees. The components of the tools are not asked. It takes no memory.
-    #[tactic(auto, using(crate::proofs::Fitting::metadata_has))]
+    #[tactic(auto, using(crate::proofs::MetadataFits::metadata_has))]
     pub fn fits(&self, version: SpecVersion) -> bool
         ensures { result ≡ fits version (metadata_tree self.now) (a_record metadata) }
     {

@@ -2,10 +2,10 @@
 
 ghost use Rattle.cdx_models.specs.Same.{same};
 ghost use Rattle.cdx_models.specs.SameLaws.{same_laws};
-ghost use Rattle.cdx_nest.specs.MetadataTrees.{tools_tree, tools_there};
+ghost use Rattle.cdx_nest.specs.Trees.{tools_tree, tools_there};
 
-use crate::component::Components;
-use crate::service::Services;
+use cdx_component::Components;
+use cdx_service::Services;
 use cdx_events::List;
 use cdx_models::{HasTree, Tool, copy_row, same_row};
 use std::alloc::{AllocError, Global};

@@ -1,22 +1,16 @@
--- References and signatures as elements.
-use Rattle.std.proofs.Common.{◌≡◌, ℕ, List, [], ◌∷◌, ◌++◌, codes, refl, sym, ap, ◌∙◌}
-use Rattle.std.proofs.lemmas.List.{append-nil}
+-- References as elements.
+use Rattle.std.proofs.Common.{◌≡◌, ℕ, List, [], ◌∷◌, ◌++◌, codes, refl, ap, ◌∙◌}
 use Rattle.cdx_events.specs.declared.name.OwnedName.{OwnedName}
 use Rattle.cdx_events.specs.Name.{local}
-use Rattle.cdx_events.specs.Nodes.{Nodes, no_nodes, node, events_of}
 use Rattle.cdx_models.specs.declared.bom.SpecVersion.{SpecVersion}
-use Rattle.cdx_models.specs.declared.bom.SpecVersion.TheVariants.{V1_3, V1_4, V1_5}
-use Rattle.cdx_models.specs.Trees.{signer, signers, chain, text, items, fields, Trees, one}
-use Rattle.cdx_schema.specs.Kinds.{a_reference, a_record, a_list, a_signature, signer_list, chain_list}
+use Rattle.cdx_models.specs.Trees.{text}
+use Rattle.cdx_schema.specs.Kinds.{a_reference}
 use Rattle.cdx_schema.specs.Nodes.{◌⊕◌}
-use Rattle.cdx_schema.specs.Table.{rows}
 use Rattle.cdx_schema.specs.Keeping.{kept}
-use Rattle.cdx_schema.specs.XmlSpelling.{plain_element, nodes_of}
+use Rattle.cdx_schema.specs.XmlSpelling.{nodes_of}
 use Rattle.cdx_write.specs.Listed.{item_put}
 use Rattle.cdx_write.specs.Spelling.{written}
-use Rattle.cdx_write.specs.Writing.{opening, start_tag, end_tag}
-
--- ---- references
+use Rattle.cdx_write.specs.Writing.{opening, end_tag}
 
 pub reference_written : (tag s : List ℕ) (n : OwnedName) (v : List ℕ) (w : SpecVersion) → n ≡ local (codes "ref") → v ≡ s
     → opening tag (record { name = n; value = v } ∷ []) ∷ end_tag tag ∷ [] ≡ written (text s) w tag a_reference
@@ -28,32 +22,3 @@ reference_written tag s n v w is same =
 pub reference_item : (tag s : List ℕ) (w : SpecVersion) → written (text s) w tag a_reference ≡ item_put tag a_reference (text s) w
 unfolding item_put kept
 reference_item tag s w = refl
-
--- ---- signatures
-
-no_more_nodes : (xs : Nodes) → xs ⊕ no_nodes ≡ xs
-no_more_nodes no_nodes = refl
-no_more_nodes (node x xs) = ap (node x) (no_more_nodes xs)
-
-in_another : (tag name : List ℕ) (xs : Nodes) → start_tag tag ∷ events_of (plain_element name [] xs) ++ end_tag tag ∷ [] ≡ start_tag tag ∷ (events_of (plain_element name [] (xs ⊕ no_nodes)) ++ []) ++ end_tag tag ∷ []
-in_another tag name xs =
-    ap (λ ys. start_tag tag ∷ events_of (plain_element name [] ys) ++ end_tag tag ∷ []) (sym (no_more_nodes xs))
-    ∙ ap (λ s. start_tag tag ∷ s ++ end_tag tag ∷ []) (sym (append-nil (events_of (plain_element name [] (xs ⊕ no_nodes)))))
-
-pub single_signature : (ts : Trees) (w : SpecVersion) (tag : List ℕ) → written (fields signer ts) w tag (a_record signer) ≡ written (fields signer ts) w tag a_signature
-unfolding written kept nodes_of
-single_signature ts V1_3 tag = refl
-single_signature ts V1_4 tag = refl
-single_signature ts V1_5 tag = refl
-
-pub signers_signature : (ts : Trees) (w : SpecVersion) (tag : List ℕ) → start_tag tag ∷ written (items ts) w (codes "signers") (a_list signer_list) ++ end_tag tag ∷ [] ≡ written (fields signers (one (items ts))) w tag a_signature
-unfolding written kept nodes_of rows
-signers_signature ts V1_3 tag = in_another tag (codes "signers") _
-signers_signature ts V1_4 tag = in_another tag (codes "signers") _
-signers_signature ts V1_5 tag = in_another tag (codes "signers") _
-
-pub chain_signature : (ts : Trees) (w : SpecVersion) (tag : List ℕ) → start_tag tag ∷ written (items ts) w (codes "chain") (a_list chain_list) ++ end_tag tag ∷ [] ≡ written (fields chain (one (items ts))) w tag a_signature
-unfolding written kept nodes_of rows
-chain_signature ts V1_3 tag = in_another tag (codes "chain") _
-chain_signature ts V1_4 tag = in_another tag (codes "chain") _
-chain_signature ts V1_5 tag = in_another tag (codes "chain") _

@@ -1,4 +1,2 @@
-pub mod Signatures
 pub mod Records
 pub mod Parts
-pub mod Stays

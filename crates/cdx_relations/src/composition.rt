@@ -5,9 +5,9 @@ ghost use Rattle.cdx_relations.specs.Records.{bom_reference_tree, composition_tr
 ghost use Rattle.cdx_models.specs.Same.{same};
 ghost use Rattle.cdx_models.specs.SameLaws.{same_laws};
 
-use crate::signature::Signature;
 use cdx_events::{List, Text};
 use cdx_models::{HasTree, copy_row, same_row};
+use cdx_signature::Signature;
 use std::alloc::{AllocError, Global};
 
 /// A reference to a part of the bill, by that part's `bom_ref`.

@@ -1,5 +1,4 @@
-//! Dependencies, compositions and signatures in JSON.
+//! Dependencies and compositions in JSON.
 
 mod composition;
 mod dependency;
-mod signature;

@@ -1,4 +1,4 @@
-//! How the parts of a bill belong together: dependencies, compositions, and the signatures that vouch for them.
+//! How the parts of a bill belong together: dependencies and compositions.
 #![tactic(auto)]
 
 pub mod composition;
@@ -6,9 +6,7 @@ pub mod dependency;
 pub mod json;
 mod parts;
 mod reading;
-pub mod signature;
 mod writing;
 
 pub use composition::{BomReference, Composition, Compositions};
 pub use dependency::{Dependencies, Dependency};
-pub use signature::{Algorithm, Signature, Signer};

@@ -1,8 +1,8 @@
-//! Compositions and signatures while their children are read.
+//! Compositions while their children are read.
 
 use crate::composition::BomReference;
-use crate::signature::Signature;
 use cdx_events::{List, Text};
+use cdx_signature::Signature;
 
 #[derive(Drop)]
 pub struct CompositionPart {
@@ -12,17 +12,4 @@ pub struct CompositionPart {
     pub dependencies: Option<List<BomReference>>,
     pub vulnerabilities: Option<List<BomReference>>,
     pub signature: Option<Signature>,
-}
-
-#[derive(Drop)]
-pub struct SignerPart {
-    pub algorithm: Option<Text>,
-    pub value: Option<Text>,
-}
-
-/// A signature while it is read: the signers or the chain that was read last, and what was read of a single signer.
-#[derive(Drop)]
-pub struct SignaturePart {
-    pub list: Option<Signature>,
-    pub signer: SignerPart,
 }

@@ -1,5 +1,4 @@
-//! Dependencies, compositions and signatures read from XML.
+//! Dependencies and compositions read from XML.
 
 mod composition;
 mod dependency;
-mod signature;

@@ -1,6 +1,5 @@
-//! Dependencies, compositions and signatures as XML events.
+//! Dependencies and compositions as XML events.
 
 mod composition;
 mod dependency;
 mod reference;
-mod signature;

@@ -46,7 +46,3 @@ pub mod DroppedFull
 pub mod DroppedEmpty
 mod DroppedRows
 pub mod OnlyMembers
-pub mod PlainBills
-pub mod PlainRoads
-pub mod AnswerFloats
-pub mod RepliesOwed

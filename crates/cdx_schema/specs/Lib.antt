@@ -20,7 +20,3 @@ pub mod Laws
 pub mod Locality
 pub mod RowLaws
 pub mod Dropped
-pub mod EventValues
-pub mod Requests
-pub mod Replies
-pub mod Served

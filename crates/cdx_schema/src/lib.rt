@@ -3,6 +3,3 @@
 #![tactic(auto)]
 
 pub mod laws;
-mod replies;
-
-pub use replies::{form_law, no_floats, reply_law, valid_law};

@@ -6,9 +6,8 @@ use cdx_models::{
     AttachedText, ExternalReference, ExternalReferences, HasTree, Hash, HashValue, Hashes,
     OrganizationalContact, OrganizationalEntity, Properties, Property, Tool, Uri, UrnUuid,
 };
-use cdx_relations::{
-    Algorithm, BomReference, Composition, Compositions, Dependencies, Dependency, Signature, Signer,
-};
+use cdx_relations::{BomReference, Composition, Compositions, Dependencies, Dependency};
+use cdx_signature::{Algorithm, Signature, Signer};
 use std::alloc::{AllocError, Global};
 use std::test::Fail;
 

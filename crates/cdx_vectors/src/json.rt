@@ -8,9 +8,8 @@ use cdx_models::{
     JsonReadError, OrganizationalContact, OrganizationalEntity, Properties, Property, SpecVersion,
     Tool, Uri,
 };
-use cdx_relations::{
-    Algorithm, BomReference, Composition, Compositions, Dependencies, Dependency, Signature, Signer,
-};
+use cdx_relations::{BomReference, Composition, Compositions, Dependencies, Dependency};
+use cdx_signature::{Algorithm, Signature, Signer};
 use serde_json::Value;
 use std::alloc::Global;
 use std::test::Fail;

@@ -7,9 +7,8 @@ use cdx_models::{
     AttachedText, ExternalReferences, HasTree, Hashes, OrganizationalContact, OrganizationalEntity,
     Properties, SpecVersion, Tool, Uri,
 };
-use cdx_relations::{
-    Algorithm, BomReference, Composition, Compositions, Dependencies, Signature, Signer,
-};
+use cdx_relations::{BomReference, Composition, Compositions, Dependencies};
+use cdx_signature::{Algorithm, Signature, Signer};
 use std::test::Fail;
 
 const V3: SpecVersion = SpecVersion::V1_3;

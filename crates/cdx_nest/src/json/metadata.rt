@@ -9,9 +9,10 @@ ghost use Rattle.cdx_json.specs.Depths.{depth_of};
 ghost use Rattle.cdx_json.specs.Gives.{Gives};
 ghost use Rattle.cdx_json.specs.KeptRows.{rows_held, rows_put};
 ghost use Rattle.cdx_json.specs.Stays.{record_stays};
-ghost use Rattle.cdx_nest.specs.MetadataTrees.{metadata_tree, makers, terms};
+ghost use Rattle.cdx_nest.specs.Trees.{metadata_tree, makers, terms};
 ghost use Rattle.cdx_nest.specs.PartTrees.{makers_trees, terms_trees};
-ghost use Rattle.cdx_nest.specs.Groups.{group, group_read, metadata_by_groups};
+ghost use Rattle.cdx_json.specs.Groups.{group, group_read};
+ghost use Rattle.cdx_nest.specs.Groups.{metadata_by_groups};
 
 use crate::metadata::Metadata;
 use crate::metadata::parts::{Makers, Terms, assemble};

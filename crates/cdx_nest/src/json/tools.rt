@@ -13,11 +13,11 @@ ghost use Rattle.cdx_json.specs.ByRows.{by_rows};
 ghost use Rattle.cdx_json.specs.Depths.{depth_of};
 ghost use Rattle.cdx_json.specs.Gives.{Gives};
 ghost use Rattle.cdx_json.specs.KeptRows.{parts, rows_put};
-ghost use Rattle.cdx_nest.specs.MetadataTrees.{tools_tree, object_tree};
+ghost use Rattle.cdx_nest.specs.Trees.{tools_tree, object_tree};
 ghost use Rattle.cdx_nest.specs.Stays.{tools_stay};
 
-use crate::component::Components;
-use crate::service::Services;
+use cdx_component::Components;
+use cdx_service::Services;
 use crate::tools::Tools;
 use cdx_events::List;
 use cdx_json::{

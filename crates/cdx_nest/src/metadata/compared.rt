@@ -2,7 +2,7 @@
 
 ghost use Rattle.std.specs.Prelude.{◌≡◌};
 ghost use Rattle.cdx_models.specs.Same.{same, same_each};
-ghost use Rattle.cdx_nest.specs.MetadataTrees.{metadata_tree, makers, terms};
+ghost use Rattle.cdx_nest.specs.Trees.{metadata_tree, makers, terms};
 
 use crate::metadata::Metadata;
 use cdx_models::{HasTree, same_row};

@@ -1,7 +1,7 @@
 //! Copies of metadata.
 
 ghost use Rattle.std.specs.Prelude.{◌≡◌, IfOk};
-ghost use Rattle.cdx_nest.specs.MetadataTrees.{metadata_tree, makers, terms};
+ghost use Rattle.cdx_nest.specs.Trees.{metadata_tree, makers, terms};
 ghost use Rattle.cdx_nest.specs.PartTrees.{makers_trees, terms_trees};
 
 use crate::metadata::Metadata;

@@ -2,10 +2,10 @@
 
 ghost use Rattle.std.specs.Prelude.{◌≡◌};
 ghost use Rattle.cdx_models.specs.Trees.{metadata, fields, ◌⧺◌};
-ghost use Rattle.cdx_nest.specs.MetadataTrees.{metadata_tree};
+ghost use Rattle.cdx_nest.specs.Trees.{metadata_tree};
 ghost use Rattle.cdx_nest.specs.PartTrees.{makers_trees, terms_trees};
 
-use crate::component::Component;
+use cdx_component::Component;
 use crate::metadata::Metadata;
 use crate::tools::Tools;
 use cdx_events::{List, Text};

@@ -6,9 +6,8 @@ use cdx_models::{
     AttachedText, ExternalReference, ExternalReferences, Hash, HashValue, Hashes,
     OrganizationalContact, OrganizationalEntity, Properties, Property, Tool, Uri,
 };
-use cdx_relations::{
-    BomReference, Composition, Compositions, Dependencies, Dependency, Signature, Signer,
-};
+use cdx_relations::{BomReference, Composition, Compositions, Dependencies, Dependency};
+use cdx_signature::{Signature, Signer};
 use std::alloc::{AllocError, Global};
 
 pub fn some(alloc: Global, text: &str) -> Result<Option<Text>, AllocError> {

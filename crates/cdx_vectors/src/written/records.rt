@@ -7,7 +7,8 @@ use super::made::{
 };
 use super::printing::{is_named, is_shown};
 use cdx_models::SpecVersion;
-use cdx_relations::{BomReference, Signature, Signer};
+use cdx_relations::BomReference;
+use cdx_signature::{Signature, Signer};
 use cdx_write::{ToInnerXml, ToXml};
 use std::test::Fail;
 

@@ -1,7 +1,7 @@
 use Rattle.std.proofs.Common.{◌∙◌}
 use Rattle.cdx_json.specs.KeptRows.{parts}
 use Rattle.cdx_json.proofs.Spelled.{if_ok}
-use Rattle.cdx_nest.specs.MetadataTrees.{object_tree}
+use Rattle.cdx_nest.specs.Trees.{object_tree}
 use Rattle.cdx_nest.proofs.ToolValues.{object_spelled}
 use Rattle.cdx_nest.proofs.json.tools.object_to_value.Goals as goal
 

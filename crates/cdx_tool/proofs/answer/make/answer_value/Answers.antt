@@ -1,8 +1,8 @@
 use Rattle.std.proofs.Common.{ℕ, List, ap, ◌∙◌}
 use Rattle.serde_json.specs.View.{view}
 use Rattle.cdx_models.specs.declared.bom.SpecVersion.{SpecVersion}
-use Rattle.cdx_schema.specs.Requests.{request_of}
-use Rattle.cdx_schema.specs.Replies.{Reply, line_of, documents_answer}
+use Rattle.cdx_request.specs.Requests.{request_of}
+use Rattle.cdx_request.specs.Replies.{Reply, line_of, documents_answer}
 use Rattle.cdx_tool.proofs.Documents.{documents, documents_clear, answered}
 use Rattle.cdx_tool.proofs.answer.make.answer_value.Goals as goal
 

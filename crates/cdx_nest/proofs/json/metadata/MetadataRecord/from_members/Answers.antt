@@ -3,7 +3,7 @@ use Rattle.serde_json.specs.View.{members_view}
 use Rattle.cdx_schema.specs.JsonReading.{seen}
 use Rattle.cdx_json.specs.Depths.{depth_of}
 use Rattle.cdx_json.specs.Gives.{Gives}
-use Rattle.cdx_nest.specs.MetadataTrees.{metadata_tree}
+use Rattle.cdx_nest.specs.Trees.{metadata_tree}
 use Rattle.cdx_nest.proofs.Grouped.{metadata_in_groups}
 use Rattle.cdx_nest.proofs.json.metadata.MetadataRecord.from_members.Goals as goal
 

@@ -1,0 +1,196 @@
+//! Components, their pedigrees and lists of them.
+
+ghost use Rattle.std.specs.Prelude.{◌≡◌, [], ◌∷◌, ◌++◌, OnOk, OnErr, length, slice_get, option_copied, is_some, nat_lt};
+ghost use Rattle.cdx_models.specs.Same.{same};
+ghost use Rattle.cdx_models.specs.SameLaws.{same_laws};
+ghost use Rattle.cdx_component.specs.Trees.{component_tree, components_tree, pedigree_tree, listed};
+ghost use Rattle.cdx_component.specs.Laws.{component_there, components_there, pedigree_there};
+
+mod compared;
+mod copied;
+mod fitting;
+pub(crate) mod parts;
+
+use cdx_code::Commits;
+use cdx_events::Text;
+use cdx_license::Licenses;
+use cdx_models::{ExternalReferences, HasTree, Hashes, OrganizationalEntity, Properties};
+use cdx_parts::{ComponentEvidence, Cpe, MimeType, Swid};
+use cdx_patch::Patches;
+use cdx_signature::Signature;
+use compared::{same_component, same_components, same_pedigree};
+use copied::{copy_component, copy_components, copy_pedigree};
+pub use fitting::component_row_has_versions;
+use std::alloc::{AllocError, Global};
+
+/// A component: software, a part of it, or a device.
+#[cycle(component)]
+#[derive(Debug, Drop)]
+pub struct Component {
+    /// What it is, as `library`.
+    pub component_type: Text,
+    /// The media type of the file that it is.
+    pub mime_type: Option<MimeType>,
+    /// The name by which the rest of the bill refers to it.
+    pub bom_ref: Option<Text>,
+    /// Who supplied it, often its maker.
+    pub supplier: Option<OrganizationalEntity>,
+    pub author: Option<Text>,
+    pub publisher: Option<Text>,
+    pub group: Option<Text>,
+    pub name: Text,
+    /// Required in 1.3.
+    pub version: Option<Text>,
+    pub description: Option<Text>,
+    /// Whether it is needed, as `required`.
+    pub scope: Option<Text>,
+    pub hashes: Option<Hashes>,
+    pub licenses: Option<Licenses>,
+    pub copyright: Option<Text>,
+    pub cpe: Option<Cpe>,
+    /// A package URL, which isn't checked.
+    pub purl: Option<Text>,
+    pub swid: Option<Swid>,
+    /// Whether it was changed since its author published it.
+    pub modified: Option<bool>,
+    pub pedigree: Option<Pedigree>,
+    pub external_references: Option<ExternalReferences>,
+    pub properties: Option<Properties>,
+    pub components: Option<Components>,
+    pub evidence: Option<ComponentEvidence>,
+    /// Known from 1.4 on.
+    pub signature: Option<Signature>,
+}
+
+/// A list of components.
+#[cycle(component)]
+#[derive(Debug, Drop)]
+pub struct Components {
+    pub(crate) items: Vec<Component>,
+}
+
+/// What a component came from, and how it was changed.
+#[cycle(component)]
+#[derive(Debug, Drop)]
+pub struct Pedigree {
+    pub ancestors: Option<Components>,
+    pub descendants: Option<Components>,
+    pub variants: Option<Components>,
+    pub commits: Option<Commits>,
+    pub patches: Option<Patches>,
+    pub notes: Option<Text>,
+}
+
+impl Components {
+    /// The empty list. It takes no memory.
+    pub fn new(alloc: Global) -> Components
+        ensures { listed result ≡ [] }
+    {
+        Components {
+            items: Vec::new(alloc),
+        }
+    }
+
+    /// Appends a component. Where there is no memory, the list is as before and the component is dropped.
+    pub fn push(&mut self, item: Component) -> Result<(), AllocError>
+        ensures ok { OnOk result (listed self.new ≡ listed self.old ++ item ∷ []) }
+        ensures err { OnErr result (listed self.new ≡ listed self.old) }
+    {
+        self.items.push(item)?;
+        Ok(())
+    }
+
+    /// How many components there are. It takes no memory.
+    pub fn len(&self) -> usize
+        ensures { result ≡ length (listed self.now) }
+    {
+        self.items.len()
+    }
+
+    /// The component at a place, counted from 0, or `None` exactly from the length on. It takes no memory.
+    pub fn get(&self, at: usize) -> Option<&Component>
+        ensures item { option_copied result ≡ slice_get (listed self.now) at }
+        ensures there { is_some result ≡ nat_lt at (length (listed self.now)) }
+    {
+        self.items.get(at)
+    }
+
+    /// The components. It takes no memory.
+    pub fn as_slice(&self) -> &[Component]
+        ensures { result.now ≡ listed self.now }
+    {
+        self.items.as_slice()
+    }
+}
+
+impl HasTree for Component {
+    ghost tree = { component_tree };
+
+    ghost there = { component_there };
+
+    fn copy(&self, alloc: Global) -> Result<Component, AllocError> {
+        copy_component(self, alloc)
+    }
+
+    fn same(&self, other: &Component) -> bool {
+        same_component(self, other)
+    }
+}
+
+impl PartialEq for Component {
+    ghost eq = { λ a b. same (component_tree a) (component_tree b) };
+
+    ghost laws = { same_laws component_tree };
+
+    fn eq(&self, other: &Component) -> bool {
+        self.same(other)
+    }
+}
+
+impl HasTree for Components {
+    ghost tree = { components_tree };
+
+    ghost there = { components_there };
+
+    fn copy(&self, alloc: Global) -> Result<Components, AllocError> {
+        copy_components(self, alloc)
+    }
+
+    fn same(&self, other: &Components) -> bool {
+        same_components(self, other)
+    }
+}
+
+impl PartialEq for Components {
+    ghost eq = { λ a b. same (components_tree a) (components_tree b) };
+
+    ghost laws = { same_laws components_tree };
+
+    fn eq(&self, other: &Components) -> bool {
+        self.same(other)
+    }
+}
+
+impl HasTree for Pedigree {
+    ghost tree = { pedigree_tree };
+
+    ghost there = { pedigree_there };
+
+    fn copy(&self, alloc: Global) -> Result<Pedigree, AllocError> {
+        copy_pedigree(self, alloc)
+    }
+
+    fn same(&self, other: &Pedigree) -> bool {
+        same_pedigree(self, other)
+    }
+}
+
+impl PartialEq for Pedigree {
+    ghost eq = { λ a b. same (pedigree_tree a) (pedigree_tree b) };
+
+    ghost laws = { same_laws pedigree_tree };
+
+    fn eq(&self, other: &Pedigree) -> bool {
+        self.same(other)
+    }
+}

@@ -1,0 +1,4 @@
+pub mod AnswerFloats
+pub mod PlainBills
+pub mod PlainRoads
+pub mod RepliesOwed

@@ -1,0 +1,4 @@
+pub mod EventValues
+pub mod Requests
+pub mod Replies
+pub mod Served

@@ -1,0 +1,23 @@
+//! The laws of requests and replies. Each is the contract of a function that does nothing.
+
+ghost use Rattle.cdx_request.specs.Served.{FormLaw, NoFloats, ReplyLaw, ValidLaw};
+
+/// A request of the first form has a document that denotes a bill that fits every hop.
+pub fn form_law()
+    ensures { FormLaw }
+{}
+
+/// No answer of documents holds a float.
+pub fn no_floats()
+    ensures { NoFloats }
+{}
+
+/// A reply of status 0 serves one request.
+pub fn reply_law()
+    ensures { ReplyLaw }
+{}
+
+/// A valid request that isn't too long is owed such a reply.
+pub fn valid_law()
+    ensures { ValidLaw }
+{}

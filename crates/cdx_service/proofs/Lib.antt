@@ -1,0 +1,4 @@
+pub mod Compared
+pub mod Copied
+pub mod Grouped
+pub mod Deep

@@ -1,0 +1,5 @@
+pub mod Trees
+pub mod Laws
+pub mod PartTrees
+pub mod Groups
+pub mod Stays

@@ -1,0 +1,147 @@
+//! Services and lists of them.
+
+ghost use Rattle.std.specs.Prelude.{◌≡◌, [], ◌∷◌, ◌++◌, OnOk, OnErr, length, slice_get, option_copied, is_some, nat_lt};
+ghost use Rattle.cdx_models.specs.Same.{same};
+ghost use Rattle.cdx_models.specs.SameLaws.{same_laws};
+ghost use Rattle.cdx_service.specs.Trees.{service_tree, services_tree, services_listed};
+ghost use Rattle.cdx_service.specs.Laws.{service_there, services_there};
+
+mod compared;
+mod copied;
+pub(crate) mod parts;
+
+use cdx_data::Data;
+use cdx_events::{List, Text};
+use cdx_license::Licenses;
+use cdx_models::{ExternalReferences, HasTree, OrganizationalEntity, Properties};
+use cdx_signature::Signature;
+use compared::{same_service, same_services};
+use copied::{copy_service, copy_services};
+use std::alloc::{AllocError, Global};
+
+/// A service that a component calls, or that is described by itself.
+#[cycle(service)]
+#[derive(Debug, Drop)]
+pub struct Service {
+    /// The name by which the rest of the bill refers to it.
+    pub bom_ref: Option<Text>,
+    /// Who runs it.
+    pub provider: Option<OrganizationalEntity>,
+    pub group: Option<Text>,
+    pub name: Text,
+    pub version: Option<Text>,
+    pub description: Option<Text>,
+    /// The addresses under which it is reached.
+    pub endpoints: Option<List<Text>>,
+    /// Whether it asks who calls.
+    pub authenticated: Option<bool>,
+    /// Whether data crosses a border of trust on its way.
+    pub x_trust_boundary: Option<bool>,
+    /// What it takes and gives.
+    pub data_items: Option<Data>,
+    pub licenses: Option<Licenses>,
+    pub external_references: Option<ExternalReferences>,
+    pub properties: Option<Properties>,
+    pub services: Option<Services>,
+    /// Known from 1.4 on.
+    pub signature: Option<Signature>,
+    /// Known from 1.5 on.
+    pub trust_zone: Option<Text>,
+}
+
+/// A list of services.
+#[cycle(service)]
+#[derive(Debug, Drop)]
+pub struct Services {
+    pub(crate) items: Vec<Service>,
+}
+
+impl Services {
+    /// The empty list. It takes no memory.
+    pub fn new(alloc: Global) -> Services
+        ensures { services_listed result ≡ [] }
+    {
+        Services {
+            items: Vec::new(alloc),
+        }
+    }
+
+    /// Appends a service. Where there is no memory, the list is as before and the service is dropped.
+    pub fn push(&mut self, item: Service) -> Result<(), AllocError>
+        ensures ok { OnOk result (services_listed self.new ≡ services_listed self.old ++ item ∷ []) }
+        ensures err { OnErr result (services_listed self.new ≡ services_listed self.old) }
+    {
+        self.items.push(item)?;
+        Ok(())
+    }
+
+    /// How many services there are. It takes no memory.
+    pub fn len(&self) -> usize
+        ensures { result ≡ length (services_listed self.now) }
+    {
+        self.items.len()
+    }
+
+    /// The service at a place, counted from 0, or `None` exactly from the length on. It takes no memory.
+    pub fn get(&self, at: usize) -> Option<&Service>
+        ensures item { option_copied result ≡ slice_get (services_listed self.now) at }
+        ensures there { is_some result ≡ nat_lt at (length (services_listed self.now)) }
+    {
+        self.items.get(at)
+    }
+
+    /// The services. It takes no memory.
+    pub fn as_slice(&self) -> &[Service]
+        ensures { result.now ≡ services_listed self.now }
+    {
+        self.items.as_slice()
+    }
+}
+
+impl HasTree for Service {
+    ghost tree = { service_tree };
+
+    ghost there = { service_there };
+
+    fn copy(&self, alloc: Global) -> Result<Service, AllocError> {
+        copy_service(self, alloc)
+    }
+
+    fn same(&self, other: &Service) -> bool {
+        same_service(self, other)
+    }
+}
+
+impl PartialEq for Service {
+    ghost eq = { λ a b. same (service_tree a) (service_tree b) };
+
+    ghost laws = { same_laws service_tree };
+
+    fn eq(&self, other: &Service) -> bool {
+        self.same(other)
+    }
+}
+
+impl HasTree for Services {
+    ghost tree = { services_tree };
+
+    ghost there = { services_there };
+
+    fn copy(&self, alloc: Global) -> Result<Services, AllocError> {
+        copy_services(self, alloc)
+    }
+
+    fn same(&self, other: &Services) -> bool {
+        same_services(self, other)
+    }
+}
+
+impl PartialEq for Services {
+    ghost eq = { λ a b. same (services_tree a) (services_tree b) };
+
+    ghost laws = { same_laws services_tree };
+
+    fn eq(&self, other: &Services) -> bool {
+        self.same(other)
+    }
+}

@@ -1,0 +1,4 @@
+pub mod Algorithms
+pub mod Signed
+pub mod Signatures
+pub mod Written

@@ -1,0 +1,4 @@
+pub mod Signatures
+pub mod Records
+pub mod Parts
+pub mod Stays

@@ -1,0 +1,10 @@
+//! The signatures that vouch for a bill and its parts: their types and trees, and what they are in JSON and in XML.
+#![tactic(auto)]
+
+mod json;
+mod parts;
+mod reading;
+pub mod signature;
+mod writing;
+
+pub use signature::{Algorithm, Signature, Signer};

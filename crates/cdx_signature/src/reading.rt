@@ -1,0 +1,195 @@
+//! Signatures.
+
+use crate::parts::{SignaturePart, SignerPart};
+use crate::signature::{Algorithm, Signature, Signer};
+use cdx_events::{EventReader, List, OwnedAttribute, OwnedName};
+use cdx_leaf::{
+    Children, FromXml, Record, Rule, Taken, child_or_error, read_items, read_record, read_whole,
+    take_one,
+};
+use cdx_models::{SpecVersion, XmlReadError};
+use std::alloc::Global;
+
+impl Children for SignerPart {
+    ghost use Rattle.cdx_models.specs.Trees.{signer};
+    ghost use Rattle.cdx_schema.specs.XmlReading.{record_plan};
+    ghost use Rattle.cdx_signature.specs.Parts.{signer_part};
+
+    ghost slots = { signer_part };
+
+    ghost plan = { λ r. record_plan signer };
+
+    ghost depth = { λ r d. d };
+
+    fn rule(&self) -> Rule {
+        Rule::Strict
+    }
+
+    fn read_child(
+        &mut self,
+        alloc: Global,
+        reader: &mut EventReader<'_>,
+        v: SpecVersion,
+        element: &OwnedName,
+        attributes: &List<OwnedAttribute>,
+    ) -> Result<Taken, XmlReadError> {
+        match element.local_name.as_str() {
+            "algorithm" => take_one(alloc, reader, v, element, attributes, &mut self.algorithm),
+            "value" => take_one(alloc, reader, v, element, attributes, &mut self.value),
+            _ => Ok(Taken::Unknown),
+        }
+    }
+}
+
+impl Record for Signer {
+    ghost use Rattle.std.specs.Prelude.{refl};
+    ghost use Rattle.cdx_models.specs.Trees.{signer};
+    ghost use Rattle.cdx_leaf.specs.Plain.{signer_plain};
+
+    type Part = SignerPart;
+
+    ghost name = { signer };
+
+    ghost plain = { signer_plain };
+
+    ghost is_record = { λ x. refl };
+
+    ghost by_rows = { λ part. refl };
+
+    ghost same_depth = { λ part. refl };
+
+    fn begin(
+        _alloc: Global,
+        _place: usize,
+        _v: SpecVersion,
+        _element: &OwnedName,
+        _attributes: &List<OwnedAttribute>,
+    ) -> Result<SignerPart, XmlReadError> {
+        Ok(SignerPart {
+            algorithm: None,
+            value: None,
+        })
+    }
+
+    fn finish(
+        alloc: Global,
+        place: usize,
+        _v: SpecVersion,
+        element: &OwnedName,
+        part: SignerPart,
+    ) -> Result<Signer, XmlReadError> {
+        let algorithm = child_or_error(alloc, place, element, part.algorithm, "algorithm")?;
+        let value = child_or_error(alloc, place, element, part.value, "value")?;
+        Ok(Signer {
+            algorithm: Algorithm::new_unchecked(alloc, algorithm.as_str())?,
+            value,
+        })
+    }
+}
+
+impl FromXml for Signer {
+    ghost use Rattle.cdx_models.specs.Trees.{signer};
+    ghost use Rattle.cdx_schema.specs.Kinds.{a_record};
+
+    ghost kind = { a_record signer };
+
+    ghost depth = { λ d. d };
+
+    fn read_xml_element(
+        alloc: Global,
+        reader: &mut EventReader<'_>,
+        v: SpecVersion,
+        element: &OwnedName,
+        attributes: &List<OwnedAttribute>,
+    ) -> Result<Signer, XmlReadError> {
+        read_whole(alloc, reader, v, element, attributes)
+    }
+}
+
+impl Children for SignaturePart {
+    ghost use Rattle.cdx_schema.specs.XmlReading.{signature_plan};
+    ghost use Rattle.cdx_signature.specs.Parts.{signature_part};
+
+    ghost slots = { signature_part };
+
+    ghost plan = { λ r. signature_plan };
+
+    ghost depth = { λ r d. d };
+
+    fn rule(&self) -> Rule {
+        Rule::Strict
+    }
+
+    fn read_child(
+        &mut self,
+        alloc: Global,
+        reader: &mut EventReader<'_>,
+        v: SpecVersion,
+        element: &OwnedName,
+        attributes: &List<OwnedAttribute>,
+    ) -> Result<Taken, XmlReadError> {
+        match element.local_name.as_str() {
+            "signers" => {
+                let signers = read_items(alloc, reader, v, element, "signer", Rule::Strict)?;
+                self.list = Some(Signature::Signers(signers));
+                Ok(Taken::Read)
+            }
+            "chain" => {
+                let chain = read_items(alloc, reader, v, element, "chain", Rule::Strict)?;
+                self.list = Some(Signature::Chain(chain));
+                Ok(Taken::Read)
+            }
+            "algorithm" => take_one(
+                alloc,
+                reader,
+                v,
+                element,
+                attributes,
+                &mut self.signer.algorithm,
+            ),
+            "value" => take_one(
+                alloc,
+                reader,
+                v,
+                element,
+                attributes,
+                &mut self.signer.value,
+            ),
+            _ => Ok(Taken::Unknown),
+        }
+    }
+}
+
+/// The signers or the chain that stands last in the element, or else the single signer.
+impl FromXml for Signature {
+    ghost use Rattle.cdx_schema.specs.Kinds.{a_signature};
+
+    ghost kind = { a_signature };
+
+    ghost depth = { λ d. d };
+
+    fn read_xml_element(
+        alloc: Global,
+        reader: &mut EventReader<'_>,
+        v: SpecVersion,
+        element: &OwnedName,
+        _attributes: &List<OwnedAttribute>,
+    ) -> Result<Signature, XmlReadError> {
+        let begun = Ok(SignaturePart {
+            list: None,
+            signer: SignerPart {
+                algorithm: None,
+                value: None,
+            },
+        });
+        let part: SignaturePart = read_record(alloc, reader, v, element, begun)?;
+        let SignaturePart { list, signer } = part;
+        match list {
+            Some(list) => Ok(list),
+            None => {
+                let single = Signer::finish(alloc, reader.place() - 1, v, element, signer)?;
+                Ok(Signature::Single(single))
+            }
+        }
+    }
+}
