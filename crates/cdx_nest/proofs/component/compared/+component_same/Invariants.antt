@@ -1,9 +1,0 @@
-use Rattle.std.proofs.Common.{◌≡◌, drop}
-use Rattle.cdx_models.specs.Trees.{each}
-use Rattle.cdx_models.specs.Same.{same_each}
-use Rattle.cdx_nest.specs.ComponentTrees.{component_tree, listed}
-use Rattle.cdx_nest.proofs.component.compared.+component_same.Given as goal
-
-abbrev pub invariant-same_components-loop-i : goal.invariant-same_components-loop-i
-invariant-same_components-loop-i l =
-    same_each (each component_tree (drop l.i (listed l.one))) (each component_tree (drop l.i (listed l.other))) ≡ same_each (each component_tree (listed l.one)) (each component_tree (listed l.other))

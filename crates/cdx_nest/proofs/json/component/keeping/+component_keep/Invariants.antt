@@ -1,9 +1,0 @@
-use Rattle.std.proofs.Common.{◌≡◌, map, take}
-use Rattle.cdx_models.specs.Trees.{component}
-use Rattle.cdx_schema.specs.Kinds.{a_record}
-use Rattle.cdx_schema.specs.Keeping.{kept}
-use Rattle.cdx_nest.specs.ComponentTrees.{component_tree, listed}
-use Rattle.cdx_nest.proofs.json.component.keeping.+component_keep.Given as goal
-
-abbrev pub invariant-keep_components-loop-item : goal.invariant-keep_components-loop-item
-invariant-keep_components-loop-item l = map component_tree (listed l.copies) ≡ map (λ x. kept l.version l.label (component_tree x) (a_record component)) (take l.item-index l.item-items)

@@ -1,6 +1,0 @@
-use Rattle.std.proofs.Common.{◌≡◌, map, take}
-use Rattle.cdx_nest.specs.ServiceTrees.{service_tree, services_listed}
-use Rattle.cdx_nest.proofs.service.copied.+service_copy.Given as goal
-
-abbrev pub invariant-copy_services-loop-item : goal.invariant-copy_services-loop-item
-invariant-copy_services-loop-item l = map service_tree (services_listed l.copies) ≡ map service_tree (take l.item-index l.item-items)
