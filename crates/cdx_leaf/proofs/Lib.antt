@@ -11,3 +11,4 @@ pub mod Attributes
 pub mod Digits
 pub mod Roots
 pub mod Groups
+pub mod Nested

@@ -51,17 +51,23 @@ so_far name v d el a p nodes = read_on (attributes_read (rows name) (in_force na
 abbrev pub finished : Name → SpecVersion → List ℕ → ℕ → Trees → Result Tree XmlReadError
 finished name v el q ts = ended (rows name) ts v el q >>= λ us. Ok (fields name us)
 
-pub record_is : (name : Name) → IsPlain name → (v : SpecVersion) (n : OwnedName) (a : List OwnedAttribute) (ns : Namespace) (d : Depth) (p : ℕ) (nodes : Nodes)
-    → xread (element n a ns nodes) v (a_record name) p d ≡ (so_far name v d n.local_name a p nodes >>= λ ts. finished name v n.local_name (suc (p + places_of nodes)) ts)
+-- a record is its fields, read at its own depth, and its end
+pub nested_is : (name : Name) → content_from 0 (rows name) ≡ no_content → (v : SpecVersion) (n : OwnedName) (a : List OwnedAttribute) (ns : Namespace) (d : Depth) (p : ℕ) (nodes : Nodes) → is_too_deep (a_record name) d ≡ false
+    → xread (element n a ns nodes) v (a_record name) p d ≡ (so_far name v (inside name d) n.local_name a p nodes >>= λ ts. finished name v n.local_name (suc (p + places_of nodes)) ts)
 unfolding xread
-record_is name plain v n a ns d p nodes =
+nested_is name alone v n a ns d p nodes shallow =
     let e : Element = record { name = n.local_name; attributes = a; namespace = ns.default; nodes = nodes; start = p; read = λ plan w e ts. nodes_read nodes plan n.local_name w e (suc p) ts } in
     let last : Trees → Result Tree XmlReadError = λ ts. finished name v n.local_name (suc (p + places_of nodes)) ts in
     let first = attributes_read (rows name) (in_force name a) v n.local_name p in
-    ap (λ b. if b then Err (nested p) else record_read e name v d) (plain.shallow d)
-    ∙ ap (λ x. (first >>= λ ts. content_read (content_from 0 (rows name)) e name ts v x) >>= last) (plain.same_depth d)
-    ∙ ap (λ c. (first >>= λ ts. content_read c e name ts v d) >>= last) plain.no_content
-    ∙ ap (λ r. r >>= last) (both first (λ ts. nodes_read nodes (record_plan name) n.local_name v d (suc p) ts) (λ ts. each (plan_step (record_plan name) v d n.local_name) nodes (suc p) ts) (λ ts. each_is nodes (record_plan name) n.local_name v d (suc p) ts))
+    let i = inside name d in
+    ap (λ b. if b then Err (nested p) else record_read e name v d) shallow
+    ∙ ap (λ c. (first >>= λ ts. content_read c e name ts v i) >>= last) alone
+    ∙ ap (λ r. r >>= last) (both first (λ ts. nodes_read nodes (record_plan name) n.local_name v i (suc p) ts) (λ ts. each (plan_step (record_plan name) v i n.local_name) nodes (suc p) ts) (λ ts. each_is nodes (record_plan name) n.local_name v i (suc p) ts))
+
+pub record_is : (name : Name) → IsPlain name → (v : SpecVersion) (n : OwnedName) (a : List OwnedAttribute) (ns : Namespace) (d : Depth) (p : ℕ) (nodes : Nodes)
+    → xread (element n a ns nodes) v (a_record name) p d ≡ (so_far name v d n.local_name a p nodes >>= λ ts. finished name v n.local_name (suc (p + places_of nodes)) ts)
+record_is name plain v n a ns d p nodes =
+    nested_is name plain.no_content v n a ns d p nodes (plain.shallow d) ∙ ap (λ x. so_far name v x n.local_name a p nodes >>= λ ts. finished name v n.local_name (suc (p + places_of nodes)) ts) (plain.same_depth d)
 
 -- Begun by its attributes, and read to the element's end.
 pub begins : {R : Type 0} (slots : R → Trees) (plan : R → Plan) (depth : R → Depth → Depth) (v : SpecVersion) (pl : Plan) (dp : Depth → Depth) (p : ℕ) (first : Result Trees XmlReadError) (begun : Result R XmlReadError) → ((r : R) → plan r ≡ pl) → ((r : R) → depth r ≡ dp) → Gives slots (p + 1) first begun → Begins slots plan depth v dp pl p first begun

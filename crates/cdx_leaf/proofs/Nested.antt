@@ -1,0 +1,94 @@
+-- Records that stand in records of their own kind: they count their depth, and plain functions that call one another read them.
+use Rattle.std.proofs.Common.{◌≡◌, ℕ, suc, ◌+◌, ◌-◌, ◌≤◌, List, Bool, true, false, Result, Ok, Err, refl, sym, ap, ◌∙◌, subst, arith}
+use Rattle.std.specs.Prelude.{if◌then◌else◌}
+use Rattle.cdx_events.specs.declared.name.OwnedName.{OwnedName}
+use Rattle.cdx_events.specs.declared.name.OwnedAttribute.{OwnedAttribute}
+use Rattle.cdx_events.specs.declared.name.Namespace.{Namespace}
+use Rattle.cdx_events.specs.declared.event.XmlEvent.{XmlEvent}
+use Rattle.cdx_events.specs.Nodes.{Nodes, element}
+use Rattle.cdx_events.specs.Cursor.{Cursor}
+use Rattle.cdx_models.specs.declared.errors.XmlReadError.{XmlReadError}
+use Rattle.cdx_models.specs.declared.bom.SpecVersion.{SpecVersion}
+use Rattle.cdx_models.specs.Trees.{Name, Tree, Trees, fields}
+use Rattle.cdx_schema.specs.Faults.{nested}
+use Rattle.cdx_schema.specs.Results.{◌>>=◌}
+use Rattle.cdx_schema.specs.Depth.{Depth, name_too_deep}
+use Rattle.cdx_schema.specs.Kinds.{a_record}
+use Rattle.cdx_schema.specs.Table.{rows}
+use Rattle.cdx_schema.specs.Nodes.{places_of}
+use Rattle.cdx_schema.specs.XmlReading.{Plan, record_plan, attributes_read, in_force, Element, record_read, xread, nodes_read, ended}
+use Rattle.cdx_leaf.specs.declared.taken.Taken.{Taken}
+use Rattle.cdx_leaf.specs.declared.taken.Taken.TheVariants as answers
+use Rattle.cdx_leaf.specs.Attribute.{Gives}
+use Rattle.cdx_leaf.specs.Children.{TakesChild}
+use Rattle.cdx_leaf.specs.Each.{each, plan_step}
+use Rattle.cdx_leaf.specs.Fault.{Fails}
+use Rattle.cdx_leaf.specs.Reading.{Stands, Reads, ReadsAs, after}
+use Rattle.cdx_leaf.proofs.Records.{first_fails}
+use Rattle.cdx_leaf.proofs.Whole.{so_far, finished, start_is, begun_fails, finished_as, seen_whole}
+
+-- ---- children at one depth
+
+-- what holds at every depth holds at this one
+pub at_depth : (d : Depth) (before now : Trees) (old new : Cursor) (v : SpecVersion) (plan : Plan) (n : OwnedName) (a : List OwnedAttribute) (r : Result Taken XmlReadError) → TakesChild before now old new v plan (λ d. d) n a r → TakesChild before now old new v plan (λ _. d) n a r
+at_depth d before now old new v plan n a r takes e ns p nodes rest st = takes d ns p nodes rest st
+
+-- ---- a record that counts its depth
+
+-- its fields, read one level deeper, and its end
+abbrev pub IsNested : Name → SpecVersion → OwnedName → List OwnedAttribute → Namespace → Depth → Depth → ℕ → Nodes → Type 0
+IsNested name v n a ns d inner p nodes = xread (element n a ns nodes) v (a_record name) p d ≡ (so_far name v inner n.local_name a p nodes >>= λ ts. finished name v n.local_name (suc (p + places_of nodes)) ts)
+
+deep_is : (name : Name) (v : SpecVersion) (n : OwnedName) (a : List OwnedAttribute) (ns : Namespace) (d : Depth) (p : ℕ) (nodes : Nodes) → name_too_deep name d ≡ true → xread (element n a ns nodes) v (a_record name) p d ≡ Err (nested p)
+unfolding xread
+deep_is name v n a ns d p nodes deep =
+    let e : Element = record { name = n.local_name; attributes = a; namespace = ns.default; nodes = nodes; start = p; read = λ plan w e ts. nodes_read nodes plan n.local_name w e (suc p) ts } in
+    ap (λ b. if b then Err (nested p) else record_read e name v d) deep
+
+-- One level too much is refused at the element's start.
+pub deep_reads : {X : Type 0} (tree : X → Tree) (name : Name) (v : SpecVersion) (n : OwnedName) (a : List OwnedAttribute) (d : Depth) (old : Cursor) (k : ℕ) → name_too_deep name d ≡ true → k ≡ old.place → ReadsAs tree old old n a v (a_record name) (λ _. d) (Err (nested (k - 1)))
+deep_reads tree name v n a d old k deep at e ns p nodes rest st =
+    let same : p ≡ k - 1 = omega (arith, st.place) in
+    (omega arith, (deep_is name v n a ns d p nodes deep ∙ ap (λ q. Err (nested q)) same, omega (arith, st.place)))
+
+module _ (name : Name) (v : SpecVersion) (n : OwnedName) (a : List OwnedAttribute) (ns : Namespace) (d inner : Depth) (p : ℕ) (nodes : Nodes) (rest : List XmlEvent) (old : Cursor) where
+  -- the attributes are refused
+  pub begin_fails : {X : Type 0} (tree : X → Tree) (e : XmlReadError) (k : ℕ) → IsNested name v n a ns d inner p nodes → Stands old n p nodes rest → k ≡ old.place → Fails e ((k - 1) + 1) (attributes_read (rows name) (in_force name a) v n.local_name (k - 1))
+      → Reads {X = X} tree old old (after old nodes rest) (xread (element n a ns nodes) v (a_record name) p d) (Err e)
+  begin_fails tree e k is st at h =
+      let first = attributes_read (rows name) (in_force name a) v n.local_name p in
+      let moved : Fails e (p + 1) first = subst (λ x. Fails e (x + 1) (attributes_read (rows name) (in_force name a) v n.local_name x)) (start_is old.place k p (sym at) st.place) h in
+      (omega arith, subst (λ x. Fails e old.place x) (sym is) (first_fails e old.place (so_far name v inner n.local_name a p nodes) (λ ts. finished name v n.local_name (suc (p + places_of nodes)) ts) (begun_fails e p old.place first (λ ts. each (plan_step (record_plan name) v inner n.local_name) nodes (suc p) ts) st.place moved)))
+
+  -- what the attributes give, k being where the reader stands
+  abbrev pub Begun : ℕ → Trees → Type 0
+  Begun k begun = attributes_read (rows name) (in_force name a) v n.local_name (k - 1) ≡ Ok begun
+
+  -- the fields after the children, from where the reader stands
+  abbrev pub all_rows : Trees → Result Trees XmlReadError
+  all_rows begun = each (plan_step (record_plan name) v inner n.local_name) nodes old.place begun
+
+  so_far_is : (k : ℕ) (begun : Trees) → Stands old n p nodes rest → k ≡ old.place → Begun k begun → so_far name v inner n.local_name a p nodes ≡ all_rows begun
+  so_far_is k begun st at b =
+      let here : attributes_read (rows name) (in_force name a) v n.local_name p ≡ Ok begun = subst (λ x. attributes_read (rows name) (in_force name a) v n.local_name x ≡ Ok begun) (start_is old.place k p (sym at) st.place) b in
+      ap (λ r. r >>= λ ts. each (plan_step (record_plan name) v inner n.local_name) nodes (suc p) ts) here
+      ∙ ap (λ q. each (plan_step (record_plan name) v inner n.local_name) nodes q begun) (sym st.place)
+
+  -- a child is refused
+  pub rows_fail : {X : Type 0} (tree : X → Tree) (new : Cursor) (e : XmlReadError) (k : ℕ) (begun : Trees) → IsNested name v n a ns d inner p nodes → Stands old n p nodes rest → k ≡ old.place → Begun k begun
+      → (old.place ≤ new.place) × Fails e new.place (all_rows begun) → Reads {X = X} tree old new (after old nodes rest) (xread (element n a ns nodes) v (a_record name) p d) (Err e)
+  rows_fail tree new e k begun is st at b h = (
+    h.0,
+    subst (λ x. Fails e new.place x) (sym is) (first_fails e new.place (so_far name v inner n.local_name a p nodes) (λ ts. finished name v n.local_name (suc (p + places_of nodes)) ts)
+        (subst (λ x. Fails e new.place x) (sym (so_far_is k begun st at b)) h.1)),
+  )
+
+  -- the children were read, and the record is finished
+  pub rows_finish : {X : Type 0} (tree : X → Tree) (into : X → Trees) (new : Cursor) (k m : ℕ) (begun ts : Trees) (result : Result X XmlReadError) → ((x : X) → tree x ≡ fields name (into x)) → IsNested name v n a ns d inner p nodes → Stands old n p nodes rest → k ≡ old.place → Begun k begun
+      → (all_rows begun ≡ Ok ts) × (new ≡ after old nodes rest) → m ≡ new.place → Gives into ((m - 1) + 1) (ended (rows name) ts v n.local_name (m - 1)) result
+      → Reads tree old new (after old nodes rest) (xread (element n a ns nodes) v (a_record name) p d) result
+  rows_finish tree into new k m begun ts result whole is st at b read end gives =
+      let q = suc (p + places_of nodes) in
+      let same : xread (element n a ns nodes) v (a_record name) p d ≡ finished name v n.local_name q ts = is ∙ ap (λ x. x >>= λ us. finished name v n.local_name q us) (so_far_is k begun st at b ∙ read.0) in
+      seen_whole tree into name old new (after old nodes rest) (xread (element n a ns nodes) v (a_record name) p d) result whole
+      (subst (λ x. Reads (λ x. fields name (into x)) old new (after old nodes rest) x result) (sym same) (finished_as into name v n p nodes rest old new m ts result st read.1 (sym end) gives))
