@@ -22,10 +22,11 @@ use Rattle.cdx_schema.specs.JsonSpelling.{jspell}
 use Rattle.cdx_schema.specs.XmlSpelling.{root}
 use Rattle.cdx_schema.specs.Keeping.{keep}
 use Rattle.cdx_schema.specs.Trips.{Form, in_json, in_xml, Hop}
-use Rattle.cdx_schema.specs.Roads.{Doc, denotes, written, fits_all, hops_from}
+use Rattle.cdx_models.specs.declared.errors.XmlReadError.TheVariants.{ElementReadError, UnexpectedElementReadError, RequiredDataMissing, RequiredAttributeMissing, InvalidParseError, InvalidNamespaceError, TooDeep, Memory}
+use Rattle.cdx_schema.specs.Roads.{Doc, of_json, of_xml, version_missing, denotes, written, fits_all, hops_from}
 use Rattle.cdx_request.specs.EventValues.{with_text, named, attribute_value, with_attributes, event_value}
 use Rattle.cdx_request.specs.Replies.{doc_value}
-use Rattle.cdx_request.specs.Served.{NoFloats}
+use Rattle.cdx_request.specs.Served.{NoFloats, NoFloatRefused}
 use Rattle.cdx_schema.proofs.NoFloats.{no_float}
 
 neither : (a b : Bool) → a ≡ false → b ≡ false → (a || b) ≡ false
@@ -142,7 +143,7 @@ docs_clear (g ∷ hs) x v docs h =
     subst (λ (docs : List Doc). items_have_float (items_of (map doc_value docs)) ≡ false) (same_ok (doc ∷ r.0) docs r.2)
     (neither (has_float (doc_value doc)) (items_have_float (items_of (map doc_value r.0))) (doc_clear g.form g.version kept_bill) (docs_clear hs doc g.version r.0 r.1))
 
-chosen : {A F : Type 0} (b : Bool) (r : Result A F) (e : F) (y : A) → cond b r (Err e) ≡ Ok y → r ≡ Ok y
+pub chosen : {A F : Type 0} (b : Bool) (r : Result A F) (e : F) (y : A) → cond b r (Err e) ≡ Ok y → r ≡ Ok y
 chosen true r e y h = h
 chosen false r e y h = cc
 
@@ -150,3 +151,18 @@ pub no_floats : NoFloats
 no_floats x v hops docs h =
     let b = bound (denotes x v) _ docs h in
     neither (items_have_float (items_of (map doc_value docs))) false (docs_clear hops x v docs (chosen (fits_all hops b.0) (hops_from x v hops) _ docs b.2)) refl
+
+-- ---- refusals
+
+pub refused_clear : NoFloatRefused
+refused_clear (of_json f) = refl
+refused_clear (of_xml (InvalidNamespaceError expected None)) = refl
+refused_clear (of_xml (InvalidNamespaceError expected (Some actual))) = refl
+refused_clear (of_xml (UnexpectedElementReadError place element found)) = refl
+refused_clear (of_xml (RequiredDataMissing place element field)) = refl
+refused_clear (of_xml (InvalidParseError place element text type)) = refl
+refused_clear (of_xml (TooDeep place)) = refl
+refused_clear (of_xml (ElementReadError kind place)) = refl
+refused_clear (of_xml (RequiredAttributeMissing place element attribute)) = refl
+refused_clear (of_xml (Memory e)) = refl
+refused_clear version_missing = refl

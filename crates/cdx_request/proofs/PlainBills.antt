@@ -18,7 +18,7 @@ use Rattle.cdx_schema.specs.Kinds.{Row}
 use Rattle.cdx_schema.specs.Table.{rows, at}
 use Rattle.cdx_schema.specs.Depth.{top}
 use Rattle.cdx_schema.specs.JsonReading.{Object, nothing, found, jread, seen, bill_read, rows_read, found_read, first_float, float_of_members, json_denotes}
-use Rattle.cdx_request.specs.Requests.{member_count, version_at, u32_at, if_u32, is_text, has_text, plain, serial_read, how_many, plain_parts, plain_bill}
+use Rattle.cdx_request.specs.FirstRequests.{member_count, version_at, u32_at, if_u32, is_text, has_text, plain, serial_read, how_many, plain_parts, plain_bill}
 use Rattle.cdx_schema.proofs.OnlyMembers.{Named, Has, Differ, is_other, no_float_among, no_other, found_of, seen_is}
 
 text_is : (s : List ℕ) (o : Option Data) → is_text s (option_and_then as_str o) ≡ true → o ≡ Some (string s)

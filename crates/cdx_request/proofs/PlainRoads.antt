@@ -15,7 +15,7 @@ use Rattle.cdx_schema.specs.Keeping.{kept, has_versions}
 use Rattle.cdx_schema.specs.JsonSpelling.{jspell}
 use Rattle.cdx_schema.specs.Trips.{Hop}
 use Rattle.cdx_schema.specs.Roads.{Doc, json, denotes, from_json, fits_all, hops_from, road}
-use Rattle.cdx_request.specs.Requests.{Request, member_count, has_text, recent_at, plain, plain_bill, if_plain, doc_of, json_hop, hop_of, hops_of, request_parts, request_of}
+use Rattle.cdx_request.specs.FirstRequests.{Request, member_count, has_text, recent_at, plain, plain_bill, if_plain, doc_of, json_hop, hop_of, hops_of, request_parts, request_of}
 use Rattle.cdx_request.proofs.PlainBills.{IsSerial, no_serial, a_serial, plain_denotes}
 
 -- ---- a plain bill

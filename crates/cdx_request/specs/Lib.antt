@@ -1,4 +1,12 @@
+pub mod Parts
 pub mod EventValues
+pub mod EventReading
+pub mod Breaks
 pub mod Requests
+pub mod Refusals
 pub mod Replies
+pub mod Made
 pub mod Served
+pub mod FirstRequests
+pub mod FirstReplies
+pub mod FirstServed

@@ -1,131 +1,123 @@
--- Requests of the first form: a road through JSON alone, from a bill that holds no more than a version and a serial number.
-use Rattle.std.specs.Prelude.{ℕ, ◌+◌, ◌^◌, ◌==◌, ◌&&◌, List, [], ◌∷◌, Bool, false, codes, nat_lt, if◌then◌else◌, Option, Some, None, is_some, option_map, option_and_then}
+-- Requests: a document, the version in which it is read, and the hops of its road.
+use Rattle.std.specs.Prelude.{ℕ, ◌==◌, List, [], ◌∷◌, codes, if◌then◌else◌, Option, Some, None, option_map, Result, Ok, Err}
 use Rattle.std.specs.Str.{bytes_eq, is_utf8}
-use Rattle.serde_json.specs.Data.{Data, string, object, Items, no_items, item}
+use Rattle.serde_json.specs.Data.{Data, Items, no_items, item}
 use Rattle.serde_json.specs.Read.{read}
-use Rattle.serde_json.specs.Find.{get, as_str, as_number, as_u64, as_array}
-use Rattle.serde_json.specs.Events.{members_len}
+use Rattle.serde_json.specs.Find.{get, as_array}
+use Rattle.cdx_events.specs.declared.event.XmlEvent.{XmlEvent}
+use Rattle.cdx_events.specs.Balance.{Frame}
+use Rattle.cdx_events.specs.Root.{root_of, node_of}
 use Rattle.cdx_models.specs.declared.bom.SpecVersion.{SpecVersion}
-use Rattle.cdx_models.specs.declared.bom.SpecVersion.TheVariants.{V1_3, V1_4, V1_5}
-use Rattle.cdx_models.specs.Versions.{label, version_of}
-use Rattle.cdx_models.specs.Trees.{bill, Tree, absent, text, number, fields, none, more}
-use Rattle.cdx_schema.specs.Trips.{in_json, Hop}
-use Rattle.cdx_schema.specs.Roads.{Doc, json}
+use Rattle.cdx_schema.specs.Trips.{Form, in_json, in_xml, Hop}
+use Rattle.cdx_schema.specs.Roads.{Doc, json, xml}
+use Rattle.cdx_request.specs.Parts.{◌>>=◌, member_count, text_at, version_at}
+use Rattle.cdx_request.specs.EventReading.{events_of}
+use Rattle.cdx_request.specs.Breaks.{broken}
 
-infixl 10 ◌>>=◌
-abbrev pub ◌>>=◌ : {A B : Type 0} → Option A → (A → Option B) → Option B
-o >>= f = option_and_then f o
-
--- ---- what an object has
-
--- how many members, each under its own name
-abbrev pub member_count : Data → ℕ
-member_count (object ms) = members_len ms
-member_count _ = 0
-
-abbrev pub text_at : List ℕ → Data → Option (List ℕ)
-text_at name d = get name d >>= as_str
-
-abbrev pub is_text : List ℕ → Option (List ℕ) → Bool
-is_text s None = false
-is_text s (Some t) = bytes_eq t s
-
--- Whether this text stands under the name.
-abbrev pub has_text : List ℕ → List ℕ → Data → Bool
-has_text name s d = is_text s (text_at name d)
-
-abbrev pub version_at : List ℕ → Data → Option SpecVersion
-version_at name d = text_at name d >>= version_of
-
-abbrev pub if_recent : SpecVersion → Option SpecVersion
-if_recent V1_3 = None
-if_recent V1_4 = Some V1_4
-if_recent V1_5 = Some V1_5
-
--- `1.4` or `1.5`
-abbrev pub recent_at : List ℕ → Data → Option SpecVersion
-recent_at name d = version_at name d >>= if_recent
-
-abbrev pub if_u32 : ℕ → Option ℕ
-if_u32 n = if nat_lt n (2 ^ 32) then Some n else None
-
--- a whole number below 2 ^ 32
-abbrev pub u32_at : List ℕ → Data → Option ℕ
-u32_at name d = get name d >>= as_number >>= as_u64 >>= if_u32
+-- why bytes are no request
+pub data Misread : Type 0 where
+  not_json : Misread
+  shape : Misread
+  unbalanced : ℕ → Misread
 
 -- ---- the document
 
--- a bill that holds nothing beside its label, its version and its serial number
-abbrev pub plain : SpecVersion → ℕ → Tree → Tree
-plain v n serial = fields bill (more (text (label v)) (more (number n) (more serial (more absent (more absent (more absent (more absent (more absent (more absent (more absent (more absent none)))))))))))
+-- a document as it stands in a request
+pub data Sent : Type 0 where
+  sent_value : Data → Sent
+  sent_events : List XmlEvent → Sent
 
--- A serial number may be there, and is then a text.
-abbrev pub serial_read : Option Data → Option Tree
-serial_read None = Some absent
-serial_read (Some (string s)) = Some (text s)
-serial_read (Some _) = None
+abbrev pub sent_under : Option Data → Option Data → Option Sent
+sent_under (Some x) events = Some (sent_value x)
+sent_under None events = option_map (λ es. sent_events es) (events >>= events_of)
 
-abbrev pub how_many : Option Data → ℕ
-how_many None = 0
-how_many (Some d) = 1
+-- A document stands in an object as its only member: any value under `json`, or an array of events under `xml`.
+abbrev pub sent_of : Data → Option Sent
+sent_of d = if member_count d == 1 then sent_under (get (codes "json") d) (get (codes "xml") d) else None
 
-abbrev pub plain_parts : Data → Option Tree
-plain_parts d = do
-  v ← version_at (codes "specVersion") d
-  n ← u32_at (codes "version") d
-  serial ← serial_read (get (codes "serialNumber") d)
-  Some (plain v n serial)
+-- Events are a document where they have a root, and else break at a place.
+abbrev pub rooted : List XmlEvent → Option Frame → Result Doc Misread
+rooted events (Some root) = Ok (xml (node_of root))
+rooted events None = Err (unbalanced (broken events))
 
--- The bill of an object with `bomFormat`, `specVersion` and `version`, perhaps `serialNumber`, and no other member.
-abbrev pub plain_bill : Data → Option Tree
-plain_bill d = if has_text (codes "bomFormat") (codes "CycloneDX") d && (member_count d == 3 + how_many (get (codes "serialNumber") d)) then plain_parts d else None
+abbrev pub doc_of : Sent → Result Doc Misread
+doc_of (sent_value x) = Ok (json x)
+doc_of (sent_events events) = rooted events (root_of events)
 
-abbrev pub if_plain : Data → Option Doc
-if_plain d = if is_some (plain_bill d) then Some (json d) else None
+abbrev pub doc_if : Option Sent → Result Doc Misread
+doc_if None = Err shape
+doc_if (Some s) = doc_of s
 
--- A document stands in an object as its only member.
-abbrev pub doc_of : Data → Option Doc
-doc_of d = if member_count d == 1 then get (codes "json") d >>= if_plain else None
+-- the document of a value
+abbrev pub doc_in : Data → Result Doc Misread
+doc_in d = doc_if (sent_of d)
 
 -- ---- the hops
 
-abbrev pub json_hop : SpecVersion → Hop
-json_hop w = record { form = in_json; version = w }
+abbrev pub form_of : List ℕ → Option Form
+form_of s = if bytes_eq s (codes "json") then Some in_json else (if bytes_eq s (codes "xml") then Some in_xml else None)
+
+abbrev pub hop_parts : Data → Option Hop
+hop_parts d = do
+  form ← text_at (codes "form") d >>= form_of
+  version ← version_at (codes "version") d
+  Some (record { form = form; version = version })
 
 -- an object with `form` and `version`, and no other member
 abbrev pub hop_of : Data → Option Hop
-hop_of d = if (member_count d == 2) && has_text (codes "form") (codes "json") d then option_map json_hop (recent_at (codes "version") d) else None
+hop_of d = if member_count d == 2 then hop_parts d else None
 
-abbrev pub hops_of : Items → Option (List Hop)
-hops_of no_items = Some []
-hops_of (item d ds) = do
+abbrev pub hops_in : Items → Option (List Hop)
+hops_in no_items = Some []
+hops_in (item d ds) = do
   hop ← hop_of d
-  hops ← hops_of ds
+  hops ← hops_in ds
   Some (hop ∷ hops)
 
 -- ---- requests
 
--- a document, the version in which it is read, and the hops
 pub record Request : Type 0 where
   pub from : SpecVersion
   pub doc : Doc
   pub hops : List Hop
 
-abbrev pub request_parts : Data → Option Request
-request_parts d = do
-  from ← recent_at (codes "from") d
-  doc ← get (codes "doc") d >>= doc_of
-  hops ← get (codes "hops") d >>= as_array >>= hops_of
-  Some (record { from = from; doc = doc; hops = hops })
+-- the parts of a request, before it is seen whether its events are balanced
+pub record Asked : Type 0 where
+  pub from : SpecVersion
+  pub sent : Sent
+  pub hops : List Hop
+
+abbrev pub asked_parts : Data → Option Asked
+asked_parts d = do
+  from ← version_at (codes "from") d
+  sent ← get (codes "doc") d >>= sent_of
+  hops ← get (codes "hops") d >>= as_array >>= hops_in
+  Some (record { from = from; sent = sent; hops = hops })
 
 -- an object with `from`, `doc` and `hops`, and no other member
-abbrev pub request_of : Data → Option Request
-request_of d = if member_count d == 3 then request_parts d else None
+abbrev pub asked_of : Data → Option Asked
+asked_of d = if member_count d == 3 then asked_parts d else None
+
+abbrev pub asking : SpecVersion → List Hop → Result Doc Misread → Result Request Misread
+asking from hops (Ok doc) = Ok (record { from = from; doc = doc; hops = hops })
+asking from hops (Err e) = Err e
+
+abbrev pub request_if : Option Asked → Result Request Misread
+request_if None = Err shape
+request_if (Some a) = asking a.from a.hops (doc_of a.sent)
+
+-- the request of a value, whose shape comes before the balance of its events
+abbrev pub request_of : Data → Result Request Misread
+request_of d = request_if (asked_of d)
 
 -- the value that the bytes are
 abbrev pub json_of : List ℕ → Option Data
 json_of bytes = if is_utf8 bytes then read bytes else None
 
+abbrev pub request_from : Option Data → Result Request Misread
+request_from None = Err not_json
+request_from (Some d) = request_of d
+
 -- the one request that the bytes are
-abbrev pub request_in : List ℕ → Option Request
-request_in bytes = json_of bytes >>= request_of
+abbrev pub request_in : List ℕ → Result Request Misread
+request_in bytes = request_from (json_of bytes)

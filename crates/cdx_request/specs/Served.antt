@@ -1,20 +1,24 @@
--- What the answer to a request holds.
-use Rattle.std.specs.Prelude.{◌≡◌, ℕ, ◌≤◌, List, length, true, false, Some, Ok}
-use Rattle.serde_json.specs.Written.{has_float}
+-- What the answers of status 0 hold, and what is owed to which request.
+use Rattle.std.specs.Prelude.{◌≡◌, ℕ, ◌≤◌, List, [], ◌∷◌, length, true, false, Ok}
+use Rattle.serde_json.specs.Data.{Data, depth}
+use Rattle.serde_json.specs.Written.{has_float, compact_text}
+use Rattle.cdx_events.specs.Nodes.{Node, document}
 use Rattle.cdx_models.specs.declared.bom.SpecVersion.{SpecVersion}
 use Rattle.cdx_models.specs.Trees.{Tree}
 use Rattle.cdx_schema.specs.Trips.{Hop}
-use Rattle.cdx_schema.specs.Roads.{Doc, denotes, fits_all, road}
+use Rattle.cdx_schema.specs.Roads.{Doc, json, xml, Refusal, denotes, fits_all, road}
 use Rattle.cdx_schema.specs.Laws.{LeadsFrom}
 use Rattle.cdx_request.specs.Requests.{Request, request_in}
+use Rattle.cdx_request.specs.Refusals.{refused_answer}
 use Rattle.cdx_request.specs.Replies.{line_of, documents_answer, limit, reply_to}
+use Rattle.cdx_request.specs.Made.{made_road, made_counts, made_answer}
 
 -- The bytes are one request, whose document denotes one bill in its version. The documents are those of the road:
 -- one for each hop, in the hop's form, which denotes in the hop's version the same as the bill after the hops up to it.
 pub record Serves (bytes : List ℕ) (docs : List Doc) : Type 0 where
   pub request : Request
   pub the_bill : Tree
-  pub asks : request_in bytes ≡ Some request
+  pub asks : request_in bytes ≡ Ok request
   pub denoted : denotes request.doc request.from ≡ Ok the_bill
   pub led : road request.doc request.from request.hops ≡ Ok docs
   pub leads : LeadsFrom the_bill request.hops docs
@@ -25,13 +29,13 @@ pub record IsValid (r : Request) : Type 0 where
   pub denoted : denotes r.doc r.from ≡ Ok the_bill
   pub fit : fits_all r.hops the_bill ≡ true
 
--- Each request of the first form is valid.
-abbrev pub FormLaw : Type 0
-FormLaw = (bytes : List ℕ) (r : Request) → request_in bytes ≡ Some r → IsValid r
-
 -- No answer of documents holds a float.
 abbrev pub NoFloats : Type 0
 NoFloats = (x : Doc) (v : SpecVersion) (hops : List Hop) (docs : List Doc) → road x v hops ≡ Ok docs → has_float (documents_answer docs) ≡ false
+
+-- No answer to a refused document holds one.
+abbrev pub NoFloatRefused : Type 0
+NoFloatRefused = (r : Refusal) → has_float (refused_answer r) ≡ false
 
 -- A reply of status 0 holds the documents of one served request.
 abbrev pub ReplyLaw : Type 0
@@ -39,4 +43,19 @@ ReplyLaw = (bytes : List ℕ) → (reply_to bytes).status ≡ 0 → (docs : List
 
 -- A valid request of no more bytes than the limit is owed such a reply.
 abbrev pub ValidLaw : Type 0
-ValidLaw = (bytes : List ℕ) (r : Request) → length bytes ≤ limit → request_in bytes ≡ Some r → IsValid r → (reply_to bytes).status ≡ 0
+ValidLaw = (bytes : List ℕ) (r : Request) → length bytes ≤ limit → request_in bytes ≡ Ok r → IsValid r → (reply_to bytes).status ≡ 0
+
+-- The answer of the documents of a road nests no deeper than 107 arrays and objects.
+abbrev pub AnswersNest : Type 0
+AnswersNest = (x : Doc) (v : SpecVersion) (hops : List Hop) (docs : List Doc) → road x v hops ≡ Ok docs → depth (documents_answer docs) ≤ 107
+
+-- The road of a made bill is an XML document and then a JSON document. The answer counts the events of the first and
+-- the bytes of the second one's text.
+pub record IsMade (n : ℕ) : Type 0 where
+  pub root : Node
+  pub value : Data
+  pub led : made_road n ≡ Ok (xml root ∷ json value ∷ [])
+  pub counted : made_answer n ≡ made_counts (length (compact_text value)) n (length (document root))
+
+abbrev pub MadeLaw : Type 0
+MadeLaw = (n : ℕ) → IsMade n

@@ -1,23 +1,37 @@
 //! The laws of requests and replies. Each is the contract of a function that does nothing.
 
-ghost use Rattle.cdx_request.specs.Served.{FormLaw, NoFloats, ReplyLaw, ValidLaw};
+ghost use Rattle.cdx_request.specs.Breaks.{BreaksLaw};
+ghost use Rattle.cdx_request.specs.Served.{AnswersNest, MadeLaw, NoFloatRefused, NoFloats, ReplyLaw, ValidLaw};
 
-/// A request of the first form has a document that denotes a bill that fits every hop.
-pub fn form_law()
-    ensures { FormLaw }
+/// The events of a request that have no root break at one place: the first that no balanced list goes on with, or
+/// their number where each of them goes on. That is the place of an answer that they are unbalanced.
+pub fn breaks()
+    ensures { BreaksLaw }
 {}
 
-/// No answer of documents holds a float.
+/// No answer holds a float.
 pub fn no_floats()
-    ensures { NoFloats }
+    ensures documents { NoFloats }
+    ensures refused { NoFloatRefused }
 {}
 
-/// A reply of status 0 serves one request.
+/// A reply of status 0 serves one request: it holds the documents of its road.
 pub fn reply_law()
     ensures { ReplyLaw }
 {}
 
-/// A valid request that isn't too long is owed such a reply.
+/// A valid request that isn't too long is owed such a reply. A request is valid where its document denotes a bill that
+/// fits every hop.
 pub fn valid_law()
     ensures { ValidLaw }
+{}
+
+/// An answer of documents nests no deeper than 107 arrays and objects, so that `serde_json` reads it again.
+pub fn answers_nest()
+    ensures { AnswersNest }
+{}
+
+/// The road of a made bill is an XML document and then a JSON document, whose events and bytes its answer counts.
+pub fn made_law()
+    ensures { MadeLaw }
 {}

@@ -8,7 +8,7 @@ use Rattle.cdx_models.specs.declared.bom.SpecVersion.{SpecVersion}
 use Rattle.cdx_models.specs.Trees.{Tree}
 use Rattle.cdx_schema.specs.Trips.{Hop}
 use Rattle.cdx_schema.specs.Roads.{Doc, json}
-use Rattle.cdx_request.specs.Requests.{Request, member_count, recent_at, plain_bill, if_plain, doc_of, request_of}
+use Rattle.cdx_request.specs.FirstRequests.{Request, member_count, recent_at, plain_bill, if_plain, doc_of, request_of}
 use Rattle.cdx_tool.specs.Asked.{inner_of, doc_in, hops_in, shown}
 
 abbrev docs_in : Data → Option Doc

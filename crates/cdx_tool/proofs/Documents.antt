@@ -8,9 +8,9 @@ use Rattle.cdx_models.specs.declared.bom.UrnUuid.{UrnUuid}
 use Rattle.cdx_models.specs.Trees.{Tree, number, fields, more}
 use Rattle.cdx_schema.specs.Trips.{Hop}
 use Rattle.cdx_schema.specs.Roads.{Doc, json, xml, from_json, denotes, road}
-use Rattle.cdx_request.specs.Requests.{Request as Asked, plain_bill, json_hop}
-use Rattle.cdx_request.specs.Replies.{line_of, documents_answer, reply_to_request}
-use Rattle.cdx_request.specs.Served.{NoFloats}
+use Rattle.cdx_request.specs.FirstRequests.{Request as Asked, plain_bill, json_hop}
+use Rattle.cdx_request.specs.FirstReplies.{line_of, documents_answer, reply_to_request}
+use Rattle.cdx_request.specs.FirstServed.{NoFloats}
 use Rattle.cdx_request.proofs.PlainBills.{IsSerial, no_serial, a_serial, parts, plain_denotes}
 use Rattle.cdx_request.proofs.PlainRoads.{doc_under, under_denotes, plain_road}
 use Rattle.cdx_tool.specs.declared.bill.Bill.{Bill}

@@ -4,9 +4,9 @@ use Rattle.std.specs.Io.KnownBytes.{Appends, Keeps, Consumes, IsAtEnd}
 use Rattle.std.proofs.lemmas.Bool.{lt-ltb}
 use Rattle.std.proofs.lemmas.List.{length-append}
 use Rattle.cdx_schema.specs.Roads.{Doc, road}
-use Rattle.cdx_request.specs.Requests.{Request, request_in}
-use Rattle.cdx_request.specs.Replies.{Reply, line_of, documents_answer, refused, reply_to, limit}
-use Rattle.cdx_request.specs.Served.{Serves, FormLaw, ReplyLaw, ValidLaw}
+use Rattle.cdx_request.specs.FirstRequests.{Request, request_in}
+use Rattle.cdx_request.specs.FirstReplies.{Reply, line_of, documents_answer, refused, reply_to, limit}
+use Rattle.cdx_request.specs.FirstServed.{Serves, FormLaw, ReplyLaw, ValidLaw}
 use Rattle.cdx_tool.specs.Run.{Tells, Ends, reply_for}
 
 reply_is : (bytes : List ℕ) → limit < length bytes → refused 6 (codes "too long") ≡ reply_to bytes

@@ -6,7 +6,7 @@ use Rattle.cdx_models.specs.declared.bom.UrnUuid.{UrnUuid}
 use Rattle.cdx_schema.specs.Kinds.{a_bill}
 use Rattle.cdx_schema.specs.Table.{rows}
 use Rattle.cdx_schema.specs.JsonSpelling.{jspell}
-use Rattle.cdx_request.specs.Requests.{plain}
+use Rattle.cdx_request.specs.FirstRequests.{plain}
 use Rattle.cdx_tool.specs.declared.bill.Bill.{Bill}
 use Rattle.cdx_tool.specs.Bill.{serial_tree, spelled}
 

@@ -5,7 +5,7 @@ use Rattle.serde_json.specs.Find.{get, as_array}
 use Rattle.cdx_models.specs.Trees.{Tree}
 use Rattle.cdx_schema.specs.Trips.{Hop}
 use Rattle.cdx_schema.specs.Roads.{Doc, json, xml}
-use Rattle.cdx_request.specs.Requests.{◌>>=◌, Request as Asked, member_count, hops_of, plain_bill, json_hop}
+use Rattle.cdx_request.specs.FirstRequests.{◌>>=◌, Request as Asked, member_count, hops_of, plain_bill, json_hop}
 use Rattle.cdx_tool.specs.declared.request.Request.{Request}
 use Rattle.cdx_tool.specs.Bill.{tree_of}
 

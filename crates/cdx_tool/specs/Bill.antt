@@ -6,7 +6,7 @@ use Rattle.cdx_models.specs.declared.bom.SpecVersion.{SpecVersion}
 use Rattle.cdx_models.specs.declared.bom.UrnUuid.{UrnUuid}
 use Rattle.cdx_models.specs.Trees.{Tree, absent, text}
 use Rattle.cdx_models.specs.Versions.{label}
-use Rattle.cdx_request.specs.Requests.{plain}
+use Rattle.cdx_request.specs.FirstRequests.{plain}
 use Rattle.cdx_tool.specs.declared.bill.Bill.{Bill}
 
 abbrev pub serial_tree : Option UrnUuid → Tree

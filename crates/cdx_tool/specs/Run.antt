@@ -2,7 +2,7 @@
 use Rattle.std.specs.Prelude.{◌≡◌, ◌≤◌, ◌⊎◌, ℕ, List, [], ◌∷◌, Bool, true, false, codes, length, take, Option, Some, None, IfSome, ⊤, String, string_bytes, bytes_eq}
 use Rattle.std.specs.declared.alloc.Global.{Global}
 use Rattle.std.specs.Io.KnownBytes.{Appends, Keeps}
-use Rattle.cdx_request.specs.Replies.{Reply, refused, reply_to}
+use Rattle.cdx_request.specs.FirstReplies.{Reply, refused, reply_to}
 use Rattle.cdx_tool.specs.declared.answer.Answer.{Answer}
 
 abbrev pub reply_of : Answer → Reply

@@ -2,7 +2,7 @@
 
 ghost use Rattle.std.specs.Prelude.{◌≡◌, option_map};
 ghost use Rattle.serde_json.specs.View.{view};
-ghost use Rattle.cdx_request.specs.Requests.{member_count, text_at as text_in, has_text as holds_text, version_at as version_in, recent_at as recent_in, u32_at as u32_in};
+ghost use Rattle.cdx_request.specs.FirstRequests.{member_count, text_at as text_in, has_text as holds_text, version_at as version_in, recent_at as recent_in, u32_at as u32_in};
 
 use cdx_models::SpecVersion;
 use serde_json::Value;

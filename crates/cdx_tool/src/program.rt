@@ -4,9 +4,9 @@ ghost use Rattle.std.specs.Prelude.{◌≡◌, ◌≤◌, ◌<◌, ◌+◌, ◌�
 ghost use Rattle.std.specs.Io.KnownBytes.{Consumes, Appends, IsAtEnd};
 ghost use Rattle.cdx_events.specs.Causes.{Rose};
 ghost use Rattle.cdx_schema.specs.Roads.{Doc};
-ghost use Rattle.cdx_request.specs.Requests.{Request, request_in};
-ghost use Rattle.cdx_request.specs.Replies.{line_of, documents_answer, limit};
-ghost use Rattle.cdx_request.specs.Served.{Serves};
+ghost use Rattle.cdx_request.specs.FirstRequests.{Request, request_in};
+ghost use Rattle.cdx_request.specs.FirstReplies.{line_of, documents_answer, limit};
+ghost use Rattle.cdx_request.specs.FirstServed.{Serves};
 ghost use Rattle.cdx_tool.specs.Run.{reply_of, reply_for, is_road, Tells, Ends};
 
 use crate::answer::{Answer, LIMIT, TOO_LONG, UNUSABLE, answer_bytes, refuse};
@@ -111,8 +111,8 @@ pub fn run<S: Source, K: Sink>(alloc: Global, words: &[String], source: &mut S, 
     ensures taken { (taken : List ℕ) × Consumes (S.left source.old) (S.left source.new) taken × (length taken ≤ limit + 1) }
 {
     cdx_request::form_law();
-    cdx_request::reply_law();
-    cdx_request::valid_law();
+    cdx_request::first_reply_law();
+    cdx_request::first_valid_law();
     match owed(alloc, words, source) {
         Err(status) => status,
         Ok(answer) => match put_answer(&answer.text, sink) {

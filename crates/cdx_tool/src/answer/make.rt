@@ -2,8 +2,8 @@ ghost use Rattle.std.specs.Prelude.{◌≡◌, false, map, option_map, IfOk, Som
 ghost use Rattle.serde_json.specs.View.{view};
 ghost use Rattle.serde_json.specs.Written.{has_float};
 ghost use Rattle.cdx_schema.specs.Roads.{json};
-ghost use Rattle.cdx_request.specs.Requests.{json_of};
-ghost use Rattle.cdx_request.specs.Replies.{refusal, refused, line_of, documents_answer as documents_in, reply_to, reply_to_value};
+ghost use Rattle.cdx_request.specs.FirstRequests.{json_of};
+ghost use Rattle.cdx_request.specs.FirstReplies.{refusal, refused, line_of, documents_answer as documents_in, reply_to, reply_to_value};
 ghost use Rattle.cdx_tool.specs.Bill.{spelled};
 ghost use Rattle.cdx_tool.specs.Run.{reply_of};
 
@@ -71,7 +71,7 @@ fn answer_value(alloc: Global, value: &Value) -> Result<Answer, AllocError>
         return refuse(alloc, UNUSABLE, "not built");
     };
     let value = documents(alloc, &request.bill, request.hops.as_slice())?;
-    cdx_request::no_floats();
+    cdx_request::first_no_floats();
     let text = line(alloc, &value)?;
     Ok(Answer { status: 0, text })
 }

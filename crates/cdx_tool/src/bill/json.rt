@@ -1,6 +1,6 @@
 ghost use Rattle.std.specs.Prelude.{◌≡◌, option_map, IfOk};
 ghost use Rattle.serde_json.specs.View.{view};
-ghost use Rattle.cdx_request.specs.Requests.{plain_bill, serial_read};
+ghost use Rattle.cdx_request.specs.FirstRequests.{plain_bill, serial_read};
 ghost use Rattle.cdx_tool.specs.Bill.{tree_of, serial_tree, spelled};
 
 use super::Bill;

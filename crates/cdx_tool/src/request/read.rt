@@ -1,7 +1,7 @@
 ghost use Rattle.std.specs.Prelude.{◌≡◌, map, option_map, IfOk};
 ghost use Rattle.serde_json.specs.View.{view, items_view};
 ghost use Rattle.cdx_schema.specs.Roads.{json};
-ghost use Rattle.cdx_request.specs.Requests.{request_of, hops_of, hop_of, json_hop};
+ghost use Rattle.cdx_request.specs.FirstRequests.{request_of, hops_of, hop_of, json_hop};
 ghost use Rattle.cdx_tool.specs.Asked.{inner_of, doc_in, hops_in, seen, shown};
 
 use super::Request;

@@ -1,5 +1,5 @@
-use Rattle.cdx_request.proofs.AnswerFloats.{no_floats}
+use Rattle.cdx_request.proofs.AnswerFloats.{no_floats, refused_clear}
 use Rattle.cdx_request.proofs.laws.no_floats.Goals as goal
 
 pub returns : goal.returns
-returns c = no_floats
+returns c = record { documents = no_floats; refused = refused_clear }

@@ -1,8 +1,8 @@
 use Rattle.std.proofs.Common.{ℕ, List, ap, ◌∙◌}
 use Rattle.serde_json.specs.View.{view}
 use Rattle.cdx_models.specs.declared.bom.SpecVersion.{SpecVersion}
-use Rattle.cdx_request.specs.Requests.{request_of}
-use Rattle.cdx_request.specs.Replies.{Reply, line_of, documents_answer}
+use Rattle.cdx_request.specs.FirstRequests.{request_of}
+use Rattle.cdx_request.specs.FirstReplies.{Reply, line_of, documents_answer}
 use Rattle.cdx_tool.proofs.Documents.{documents, documents_clear, answered}
 use Rattle.cdx_tool.proofs.answer.make.answer_value.Goals as goal
 
@@ -10,7 +10,7 @@ pub line-requires : goal.line-requires
 line-requires c =
     let b = c.in-Some.request.bill in
     let read = rw c.in-Some.is at c.in_ok-request.ensures in
-    rw (c.in_ok-value.ensures, c.as_slice.ensures.value) (documents_clear (request_of (view c.args.value.now)) b c.in-Some.request.hops.items read c.no_floats.ensures)
+    rw (c.in_ok-value.ensures, c.as_slice.ensures.value) (documents_clear (request_of (view c.args.value.now)) b c.in-Some.request.hops.items read c.first_no_floats.ensures)
 
 pub returns : goal.returns
 returns c =

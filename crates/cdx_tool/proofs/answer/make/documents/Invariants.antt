@@ -1,7 +1,7 @@
 use Rattle.std.proofs.Common.{◌≡◌, map, take}
 use Rattle.serde_json.specs.View.{view}
 use Rattle.cdx_schema.specs.Roads.{json}
-use Rattle.cdx_request.specs.Replies.{doc_value}
+use Rattle.cdx_request.specs.FirstReplies.{doc_value}
 use Rattle.cdx_tool.specs.Bill.{spelled}
 use Rattle.cdx_tool.proofs.answer.make.documents.Given as goal
 

@@ -1,5 +1,5 @@
 use Rattle.std.proofs.Common.{ℕ, List, ap, ◌∙◌}
-use Rattle.cdx_request.specs.Replies.{Reply, line_of}
+use Rattle.cdx_request.specs.FirstReplies.{Reply, line_of}
 use Rattle.cdx_tool.proofs.answer.make.refuse.Goals as goal
 
 pub returns : goal.returns

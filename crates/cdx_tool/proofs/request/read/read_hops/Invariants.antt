@@ -1,6 +1,6 @@
 use Rattle.std.proofs.Common.{◌≡◌, ◌++◌, map, option_map, drop}
 use Rattle.serde_json.specs.View.{items_view}
-use Rattle.cdx_request.specs.Requests.{hops_of, json_hop}
+use Rattle.cdx_request.specs.FirstRequests.{hops_of, json_hop}
 use Rattle.cdx_tool.proofs.request.read.read_hops.Given as goal
 
 -- the hops so far, and then those of the rest

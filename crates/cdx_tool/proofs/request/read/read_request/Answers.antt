@@ -1,6 +1,6 @@
 use Rattle.std.proofs.Common.{is_some, not, map, option_map, sym, ap, ◌∙◌}
 use Rattle.serde_json.specs.View.{view}
-use Rattle.cdx_request.specs.Requests.{json_hop}
+use Rattle.cdx_request.specs.FirstRequests.{json_hop}
 use Rattle.cdx_tool.specs.Bill.{tree_of}
 use Rattle.cdx_tool.proofs.Asking.{read_is, no_hops}
 use Rattle.cdx_tool.proofs.request.read.read_request.Goals as goal
