@@ -12,8 +12,8 @@ mod compared;
 mod copied;
 pub(crate) mod parts;
 
-use cdx_component::{Component, component_row_has_versions};
 use crate::tools::Tools;
+use cdx_component::{Component, component_row_has_versions};
 use cdx_events::{List, Text};
 use cdx_license::Licenses;
 use cdx_models::{HasTree, OrganizationalContact, OrganizationalEntity, Properties, SpecVersion};

@@ -5,9 +5,9 @@ ghost use Rattle.cdx_models.specs.SameLaws.{same_laws};
 ghost use Rattle.cdx_nest.specs.Trees.{tools_tree, tools_there};
 
 use cdx_component::Components;
-use cdx_service::Services;
 use cdx_events::List;
 use cdx_models::{HasTree, Tool, copy_row, same_row};
+use cdx_service::Services;
 use std::alloc::{AllocError, Global};
 
 /// The tools that made a bill: each by its name, or the services and components that they are.

@@ -16,15 +16,15 @@ ghost use Rattle.cdx_json.specs.KeptRows.{parts, rows_put};
 ghost use Rattle.cdx_nest.specs.Trees.{tools_tree, object_tree};
 ghost use Rattle.cdx_nest.specs.Stays.{tools_stay};
 
-use cdx_component::Components;
-use cdx_service::Services;
 use crate::tools::Tools;
+use cdx_component::Components;
 use cdx_events::List;
 use cdx_json::{
     Depth, FromJson, Kept, Kinded, ToJson, here, keep_list, keep_row, list_from_items,
     list_to_value, optional_row, put_row,
 };
 use cdx_models::{JsonKind, JsonReadError, SpecVersion};
+use cdx_service::Services;
 use serde_json::{Map, Value};
 use std::alloc::{AllocError, Global};
 

@@ -5,9 +5,9 @@ ghost use Rattle.cdx_models.specs.Trees.{metadata, fields, ◌⧺◌};
 ghost use Rattle.cdx_nest.specs.Trees.{metadata_tree};
 ghost use Rattle.cdx_nest.specs.PartTrees.{makers_trees, terms_trees};
 
-use cdx_component::Component;
 use crate::metadata::Metadata;
 use crate::tools::Tools;
+use cdx_component::Component;
 use cdx_events::{List, Text};
 use cdx_license::Licenses;
 use cdx_models::{OrganizationalContact, OrganizationalEntity, Properties};
