@@ -1,0 +1,86 @@
+//! A whole bill.
+
+ghost use Rattle.std.specs.Prelude.{◌≡◌, refl, None};
+ghost use Rattle.cdx_models.specs.Same.{same};
+ghost use Rattle.cdx_models.specs.SameLaws.{same_laws};
+ghost use Rattle.cdx_bom.specs.Trees.{bom_tree};
+
+mod compared;
+mod copied;
+pub(crate) mod parts;
+
+use cdx_models::{ExternalReferences, HasTree, Properties, SpecVersion, UrnUuid};
+use cdx_nest::{Components, Metadata, Services};
+use cdx_relations::{Compositions, Dependencies};
+use cdx_signature::Signature;
+use compared::same_bom;
+use copied::copy_bom;
+use std::alloc::{AllocError, Global};
+
+/// A bill of materials.
+#[derive(Debug, Drop)]
+pub struct Bom {
+    /// The bill's label: the version of the format that it names.
+    pub spec_version: SpecVersion,
+    /// How often this bill was issued, from 1 on by CycloneDX.
+    pub version: u32,
+    pub serial_number: Option<UrnUuid>,
+    /// What the bill says of itself.
+    pub metadata: Option<Metadata>,
+    pub components: Option<Components>,
+    pub services: Option<Services>,
+    pub external_references: Option<ExternalReferences>,
+    /// Which parts need which.
+    pub dependencies: Option<Dependencies>,
+    /// How complete the lists of parts are.
+    pub compositions: Option<Compositions>,
+    /// Known from 1.5 on.
+    pub properties: Option<Properties>,
+    /// Known from 1.4 on.
+    pub signature: Option<Signature>,
+}
+
+impl Bom {
+    /// The bill of version 1 under this label, without any other field. It takes no memory.
+    pub fn new(spec_version: SpecVersion) -> Bom
+        ensures { result ≡ record { spec_version = spec_version; version = 1; serial_number = None; metadata = None; components = None; services = None; external_references = None; dependencies = None; compositions = None; properties = None; signature = None } }
+    {
+        Bom {
+            spec_version,
+            version: 1,
+            serial_number: None,
+            metadata: None,
+            components: None,
+            services: None,
+            external_references: None,
+            dependencies: None,
+            compositions: None,
+            properties: None,
+            signature: None,
+        }
+    }
+}
+
+impl HasTree for Bom {
+    ghost tree = { bom_tree };
+
+    ghost there = { λ x. refl };
+
+    fn copy(&self, alloc: Global) -> Result<Bom, AllocError> {
+        copy_bom(self, alloc)
+    }
+
+    fn same(&self, other: &Bom) -> bool {
+        same_bom(self, other)
+    }
+}
+
+impl PartialEq for Bom {
+    ghost eq = { λ a b. same (bom_tree a) (bom_tree b) };
+
+    ghost laws = { same_laws bom_tree };
+
+    fn eq(&self, other: &Bom) -> bool {
+        self.same(other)
+    }
+}
