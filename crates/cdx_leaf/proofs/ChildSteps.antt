@@ -1,44 +1,35 @@
 -- The steps of what is read by a plan.
-use Rattle.std.proofs.Common.{◌≡◌, ℕ, suc, ◌+◌, ◌≤◌, List, [], ◌∷◌, ◌++◌, Bool, true, false, Option, Some, None, Result, Ok, Err, refl, sym, ap, ◌∙◌, subst, arith}
+use Rattle.std.proofs.Common.{◌≡◌, ℕ, ◌+◌, List, [], ◌∷◌, ◌++◌, Bool, true, false, Option, Some, None, Result, Ok, Err, refl, sym, ap, ◌∙◌, subst}
 use Rattle.std.specs.Prelude.{unwrap_or, map, bytes_eq, if◌then◌else◌}
-use Rattle.std.specs.declared.alloc.AllocError.{AllocError}
 use Rattle.std.proofs.lemmas.Slice.Eq.{bytes_eq-Decides}
 use Rattle.std.proofs.lemmas.List.{map_push}
 use Rattle.cdx_events.specs.declared.name.OwnedName.{OwnedName}
 use Rattle.cdx_events.specs.declared.name.OwnedAttribute.{OwnedAttribute}
 use Rattle.cdx_events.specs.declared.name.Namespace.{Namespace}
-use Rattle.cdx_events.specs.declared.event.XmlEvent.{XmlEvent}
-use Rattle.cdx_events.specs.declared.event.XmlEvent.TheVariants.{StartDocument, EndDocument, StartElement, EndElement, Characters, CData}
 use Rattle.cdx_events.specs.declared.event.EventKind.TheVariants as kinds
-use Rattle.cdx_events.specs.Event.{kind_of}
 use Rattle.cdx_events.specs.Nodes.{Node, Nodes, characters, cdata, element, no_nodes, node}
 use Rattle.cdx_events.specs.Cursor.{Cursor}
 use Rattle.cdx_models.specs.declared.errors.XmlReadError.{XmlReadError}
-use Rattle.cdx_models.specs.declared.errors.XmlReadError.TheVariants.{Memory}
 use Rattle.cdx_models.specs.declared.bom.SpecVersion.{SpecVersion}
-use Rattle.cdx_models.specs.Trees.{Tree, Trees, items, fields, trees, field, with_field, one, ◌⧺◌}
+use Rattle.cdx_models.specs.Trees.{Tree, Trees, items, trees, field, with_field, one, ◌⧺◌}
 use Rattle.cdx_models.specs.Trees as tree
 use Rattle.cdx_schema.specs.Faults.{unexpected}
 use Rattle.cdx_schema.specs.Results.{◌>>=◌}
 use Rattle.cdx_schema.specs.Depth.{Depth}
 use Rattle.cdx_schema.specs.Kinds.{Kind}
 use Rattle.cdx_schema.specs.Kinds as sorts
-use Rattle.cdx_schema.specs.Nodes.{places, places_of}
-use Rattle.cdx_schema.specs.XmlReading.{Reading, Plan, Child, find_child, child_read, unknown, stray, is_second, stored, appended, last, all, xread, nodes_read, node_read}
+use Rattle.cdx_schema.specs.Nodes.{places}
+use Rattle.cdx_schema.specs.XmlReading.{Reading, Plan, Child, find_child, child_read, unknown, is_second, stored, appended, all, xread, nodes_read, node_read}
 use Rattle.cdx_leaf.specs.declared.taken.Taken.{Taken}
 use Rattle.cdx_leaf.specs.declared.taken.Taken.TheVariants as answers
 use Rattle.cdx_leaf.specs.declared.rule.Rule.{Rule}
 use Rattle.cdx_leaf.specs.declared.rule.Rule.TheVariants.{Lax, Strict, Passing}
-use Rattle.cdx_leaf.specs.Fault.{Fails}
 use Rattle.cdx_leaf.specs.Rules.{skips, passes, as_rule}
 use Rattle.cdx_leaf.specs.Each.{each, plan_step}
-use Rattle.cdx_leaf.specs.Reading.{kind_of_node, after, Stands, Reads}
-use Rattle.cdx_leaf.specs.Children.{Met, nothing, second, found, meet, met, ReadsChild, TakesChild, Refuses, Took, TakesOne, TakesMore}
+use Rattle.cdx_leaf.specs.Reading.{kind_of_node, after}
+use Rattle.cdx_leaf.specs.Children.{Met, nothing, second, found, meet, met, ReadsChild, TakesChild, Took, TakesOne, TakesMore}
 use Rattle.cdx_leaf.specs.Trees.{collected}
 use Rattle.cdx_models.specs.Trees.{list_tree, present}
-use Rattle.cdx_leaf.proofs.Steps as steps
-use Rattle.cdx_leaf.proofs.Steps.{Begins, at_text, at_cdata, at_document, at_document_end}
-use Rattle.cdx_leaf.proofs.Loop.{InLoop, loop_text}
 use Rattle.cdx_leaf.proofs.Records.{first_fails}
 
 -- ---- the definition, node by node
@@ -69,36 +60,17 @@ module _ (plan : Plan) (v : SpecVersion) (d : Depth) (el : List ℕ) where
   pub child_step : (n : OwnedName) (a : List OwnedAttribute) (ns : Namespace) (kids : Nodes) (q : ℕ) (s : Trees) (m : Met) → met plan v d n a ns q kids s ≡ m → plan_step plan v d el (element n a ns kids) q s ≡ then_read m plan.rule el q s
   child_step n a ns kids q s m e = meet_is (find_child v n.local_name plan.children) plan.rule (xread (element n a ns kids)) el v d q s ∙ ap (λ x. then_read x plan.rule el q s) e
 
-  unknown_passes : (r : Rule) (q : ℕ) (s : Trees) → skips r ≡ true → unknown (as_rule r) el q s ≡ Ok s
+  pub unknown_passes : (r : Rule) (q : ℕ) (s : Trees) → skips r ≡ true → unknown (as_rule r) el q s ≡ Ok s
   unknown_passes Lax q s e = refl
   unknown_passes Strict q s e = absurd cc
   unknown_passes Passing q s e = refl
 
-  unknown_fails : (r : Rule) (q : ℕ) (s : Trees) → skips r ≡ false → unknown (as_rule r) el q s ≡ Err (unexpected q el kinds.StartElement)
+  pub unknown_fails : (r : Rule) (q : ℕ) (s : Trees) → skips r ≡ false → unknown (as_rule r) el q s ≡ Err (unexpected q el kinds.StartElement)
   unknown_fails Lax q s e = absurd cc
   unknown_fails Strict q s e = refl
   unknown_fails Passing q s e = absurd cc
 
-  pub child_skipped : (r : Rule) (n : OwnedName) (a : List OwnedAttribute) (ns : Namespace) (kids : Nodes) (q : ℕ) (s : Trees) → plan.rule ≡ as_rule r → skips r ≡ true → met plan v d n a ns q kids s ≡ nothing → plan_step plan v d el (element n a ns kids) q s ≡ Ok s
-  child_skipped r n a ns kids q s is does e = child_step n a ns kids q s nothing e ∙ ap (λ x. unknown x el q s) is ∙ unknown_passes r q s does
-
-  -- the node that begins with a start
-  begun_is : (event : XmlEvent) (left : Nodes) (q : ℕ) (s : Trees) (m : OwnedName) (a : List OwnedAttribute) (ns : Namespace) (kids others : Nodes) → event ≡ StartElement m a ns → left ≡ node (element m a ns kids) others → plan_step plan v d el (element m a ns kids) q s ≡ Err (unexpected q el kinds.StartElement) → (b : Begins event left) → plan_step plan v d el b.item q s ≡ Err (unexpected q el (kind_of event))
-  begun_is event left q s m a ns kids others is left_is e b =
-      let same : b.item ≡ element m a ns kids = let two : node b.item b.others ≡ node (element m a ns kids) others = sym b.nodes_are ∙ left_is in cc in
-      ap (λ k. plan_step plan v d el k q s) same ∙ e ∙ ap (λ x. Err (unexpected q el (kind_of x))) (sym is)
-
-  -- an unknown child of a strict record
-  pub child_refused : (r : Rule) (event : XmlEvent) (left : Nodes) (q : ℕ) (s : Trees) (m : OwnedName) (a : List OwnedAttribute) (ns : Namespace) (kids others : Nodes) → plan.rule ≡ as_rule r → skips r ≡ false → event ≡ StartElement m a ns → left ≡ node (element m a ns kids) others → met plan v d m a ns q kids s ≡ nothing → (b : Begins event left) → plan_step plan v d el b.item q s ≡ Err (unexpected q el (kind_of event))
-  child_refused r event left q s m a ns kids others rule_is never is left_is e b =
-      begun_is event left q s m a ns kids others is left_is (child_step m a ns kids q s nothing e ∙ ap (λ x. unknown x el q s) rule_is ∙ unknown_fails r q s never) b
-
-  -- a second child where one may stand
-  pub second_refused : (event : XmlEvent) (left : Nodes) (q : ℕ) (s : Trees) (m : OwnedName) (a : List OwnedAttribute) (ns : Namespace) (kids others : Nodes) → event ≡ StartElement m a ns → left ≡ node (element m a ns kids) others → met plan v d m a ns q kids s ≡ second → (b : Begins event left) → plan_step plan v d el b.item q s ≡ Err (unexpected q el (kind_of event))
-  second_refused event left q s m a ns kids others is left_is e b =
-      begun_is event left q s m a ns kids others is left_is (child_step m a ns kids q s second e) b
-
-  stray_fails : (r : Rule) (k : Node) (q : ℕ) (s : Trees) → plan.rule ≡ as_rule r → passes r ≡ false → ((n : OwnedName) (a : List OwnedAttribute) (ns : Namespace) (kids : Nodes) → k ≡ element n a ns kids → ⊥) → plan_step plan v d el k q s ≡ Err (unexpected q el (kind_of_node k))
+  pub stray_fails : (r : Rule) (k : Node) (q : ℕ) (s : Trees) → plan.rule ≡ as_rule r → passes r ≡ false → ((n : OwnedName) (a : List OwnedAttribute) (ns : Namespace) (kids : Nodes) → k ≡ element n a ns kids → ⊥) → plan_step plan v d el k q s ≡ Err (unexpected q el (kind_of_node k))
   stray_fails Lax (characters t) q s is never other = rw is refl
   stray_fails Lax (cdata t) q s is never other = rw is refl
   stray_fails Strict (characters t) q s is never other = rw is refl
@@ -107,35 +79,16 @@ module _ (plan : Plan) (v : SpecVersion) (d : Depth) (el : List ℕ) where
   stray_fails Passing (cdata t) q s is never other = absurd cc
   stray_fails r (element n a ns kids) q s is never other = absurd (other n a ns kids refl)
 
-  pub begins_stray : (r : Rule) (event : XmlEvent) (left : Nodes) (q : ℕ) (s : Trees) → plan.rule ≡ as_rule r → passes r ≡ false → ((n : OwnedName) (a : List OwnedAttribute) (ns : Namespace) → event ≡ StartElement n a ns → ⊥) → (b : Begins event left) → plan_step plan v d el b.item q s ≡ Err (unexpected q el (kind_of event))
-  begins_stray r event left q s is never other b =
-      stray_fails r b.item q s is never (λ n a ns kids x. other n a ns (b.started n a ns kids x)) ∙ ap (λ k. Err (unexpected q el k)) b.kind_is
-
   -- a text of a passing record
-  text_passes : (r : Rule) (t : List ℕ) (q : ℕ) (s : Trees) → plan.rule ≡ as_rule r → passes r ≡ true → plan_step plan v d el (characters t) q s ≡ Ok s
+  pub text_passes : (r : Rule) (t : List ℕ) (q : ℕ) (s : Trees) → plan.rule ≡ as_rule r → passes r ≡ true → plan_step plan v d el (characters t) q s ≡ Ok s
   text_passes Lax t q s is does = absurd cc
   text_passes Strict t q s is does = absurd cc
   text_passes Passing t q s is does = rw is refl
 
-  cdata_passes : (r : Rule) (t : List ℕ) (q : ℕ) (s : Trees) → plan.rule ≡ as_rule r → passes r ≡ true → plan_step plan v d el (cdata t) q s ≡ Ok s
+  pub cdata_passes : (r : Rule) (t : List ℕ) (q : ℕ) (s : Trees) → plan.rule ≡ as_rule r → passes r ≡ true → plan_step plan v d el (cdata t) q s ≡ Ok s
   cdata_passes Lax t q s is does = absurd cc
   cdata_passes Strict t q s is does = absurd cc
   cdata_passes Passing t q s is does = rw is refl
-
-  -- what is neither start nor end is passed over
-  pub goes_past : (r : Rule) (old mid new : Cursor) (event : XmlEvent) (name : OwnedName) (nodes : Nodes) (rest : List XmlEvent) (start s : Trees) → plan.rule ≡ as_rule r → passes r ≡ true → ((n : OwnedName) (a : List OwnedAttribute) (ns : Namespace) → event ≡ StartElement n a ns → ⊥) → ((m : OwnedName) → event ≡ EndElement m → ⊥) → steps.Took mid new event
-      → InLoop (plan_step plan v d el) old mid name nodes rest start s → InLoop (plan_step plan v d el) old new name nodes rest start s
-  goes_past r old mid new StartDocument name nodes rest start s is does x y took l = absurd (at_document mid new name l.left rest l.at took)
-  goes_past r old mid new EndDocument name nodes rest start s is does x y took l = absurd (at_document_end mid new name l.left rest l.at took)
-  goes_past r old mid new (StartElement n a ns) name nodes rest start s is does x y took l = absurd (x n a ns refl)
-  goes_past r old mid new (EndElement m) name nodes rest start s is does x y took l = absurd (y m refl)
-  goes_past r old mid new (Characters t) name nodes rest start s is does x y took l =
-      loop_text (plan_step plan v d el) old name start mid new nodes rest s s (characters t) l (at_text mid new (Characters t) name t l.left rest refl l.at took) took.1 refl (text_passes r t mid.place s is does)
-  goes_past r old mid new (CData t) name nodes rest start s is does x y took l =
-      loop_text (plan_step plan v d el) old name start mid new nodes rest s s (cdata t) l (at_cdata mid new (CData t) name t l.left rest refl l.at took) took.1 refl (cdata_passes r t mid.place s is does)
-
-pub not_end : (n m : OwnedName) (a : List OwnedAttribute) (ns : Namespace) (event : XmlEvent) → event ≡ StartElement n a ns → event ≡ EndElement m → ⊥
-not_end n m a ns event x y = absurd cc
 
 -- ---- a field that collects its children
 
@@ -199,20 +152,10 @@ differs x y h = go (bytes_eq x y) refl
 pub kept_takes : (f g : Plan) (h k : Depth → Depth) (before now : Trees) (old new : Cursor) (v : SpecVersion) (n : OwnedName) (a : List OwnedAttribute) (r : Result Taken XmlReadError) → f ≡ g → h ≡ k → TakesChild before now old new v f h n a r → TakesChild before now old new v g k n a r
 kept_takes f g h k before now old new v n a r x y t = subst (λ z. TakesChild before now old new v g z n a r) y (subst (λ z. TakesChild before now old new v z h n a r) x t)
 
-pub was_read : (b : Taken) (before now : Trees) (old new end : Cursor) (child : Met) → b ≡ answers.Read → ReadsChild before now old new end child (Ok b) → (child ≡ found (Ok now)) × (new ≡ end)
-was_read answers.Read before now old new end child e h = h
-was_read answers.Unknown before now old new end child e h = absurd cc
-was_read answers.Second before now old new end child e h = absurd cc
-
 pub was_unknown : (b : Taken) (before now : Trees) (old new end : Cursor) (child : Met) → b ≡ answers.Unknown → ReadsChild before now old new end child (Ok b) → (child ≡ nothing) × (now ≡ before) × (new ≡ old)
 was_unknown answers.Read before now old new end child e h = absurd cc
 was_unknown answers.Unknown before now old new end child e h = h
 was_unknown answers.Second before now old new end child e h = absurd cc
-
-pub was_second : (b : Taken) (before now : Trees) (old new end : Cursor) (child : Met) → b ≡ answers.Second → ReadsChild before now old new end child (Ok b) → (child ≡ second) × (now ≡ before) × (new ≡ old)
-was_second answers.Read before now old new end child e h = absurd cc
-was_second answers.Unknown before now old new end child e h = absurd cc
-was_second answers.Second before now old new end child e h = h
 
 -- ---- the same for a whole arm
 

@@ -12,3 +12,4 @@ pub mod Digits
 pub mod Roots
 pub mod Groups
 pub mod Nested
+pub mod NextChild

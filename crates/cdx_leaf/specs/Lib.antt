@@ -15,3 +15,4 @@ pub mod Plain
 pub mod Parts
 pub mod Whole
 pub mod Groups
+pub mod NextChild

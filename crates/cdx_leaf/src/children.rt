@@ -2,8 +2,20 @@
 //!
 //! What is read may hold in its state what its children need, as a depth: `depth` tells contracts of it. A reader that
 //! leads back to itself can't be such a target, though: the checker gives a cycle of calls through a bound no proof. A
-//! crate of records that stand in themselves writes the loop of `read_children` once for its own enum of targets, and
-//! cites the lemmas that prove it here.
+//! crate of records that stand in themselves writes the loop of `read_children` once more, in the cycle and over its own
+//! reader of a child:
+//!
+//! ```text
+//! 'nodes: while let Some(child) = next_child(alloc, reader, element, Rule::Lax)? {
+//!     let taken = read_part_child(alloc, reader, v, child.name, child.attributes, part, depth)?;
+//!     after_child(alloc, reader, element, Rule::Lax, &child, taken)?;
+//! }
+//! ```
+//!
+//! The loop's invariant is `InLoop` of `proofs/Loop.antt`, for every `nodes` and `rest` that the reader may have been at;
+//! the length of what is ahead is its measure, by `nearer`. Each of its goals is one lemma of `proofs/NextChild.antt`, over
+//! the plan, the depth and what was read so far: `next_fails`, `is_in`, `child_fails`, `still_open`, `leaving_fails`,
+//! `nearer`, `goes_on` and at the end `no_child_left`, as `proofs/children/read_children/Answers.antt` shows.
 
 ghost use Rattle.cdx_events.specs.Nodes.{Nodes};
 ghost use Rattle.cdx_events.specs.declared.event.XmlEvent.{XmlEvent};
@@ -13,11 +25,10 @@ ghost use Rattle.cdx_leaf.specs.Reading.{IsAt, IsIn, At, after, Reads};
 ghost use Rattle.cdx_leaf.specs.Each.{each, plan_step};
 ghost use Rattle.cdx_leaf.specs.Begun.{ReadsBegun};
 
-use crate::error::refuse;
+use crate::child::{after_child, next_child};
 use crate::rule::Rule;
-use crate::tags::read_lax_validation_tag;
 use crate::taken::Taken;
-use cdx_events::{EventReader, List, OwnedAttribute, OwnedName, XmlEvent};
+use cdx_events::{EventReader, List, OwnedAttribute, OwnedName};
 use cdx_models::{SpecVersion, XmlReadError};
 use std::alloc::Global;
 
@@ -74,34 +85,12 @@ fn read_children<R: Children>(
     ensures { (d : Depth) (nodes : Nodes) (rest : List XmlEvent) → At reader.old element.now nodes rest
         → Reads (λ _. R.slots target.new) reader.old reader.new (after reader.old nodes rest) (each (plan_step (R.plan target.old) v (R.depth target.old d) element.now.local_name) nodes reader.old.place (R.slots target.old)) result }
 {
-    'nodes: loop {
-        let place = reader.place();
-        let Some(event) = reader.next() else {
-            unreachable!()
-        };
-        match event {
-            XmlEvent::EndElement { .. } => return Ok(()),
-            XmlEvent::StartElement {
-                name,
-                attributes,
-                ..
-            } => match target.read_child(alloc, reader, v, name, attributes)? {
-                Taken::Read => {}
-                Taken::Unknown => {
-                    if !target.rule().skips() {
-                        return refuse(alloc, place, element, event);
-                    }
-                    read_lax_validation_tag(reader, name);
-                }
-                Taken::Second => return refuse(alloc, place, element, event),
-            },
-            _ => {
-                if !target.rule().passes() {
-                    return refuse(alloc, place, element, event);
-                }
-            }
-        }
+    let rule = target.rule();
+    'nodes: while let Some(child) = next_child(alloc, reader, element, rule)? {
+        let taken = target.read_child(alloc, reader, v, child.name, child.attributes)?;
+        after_child(alloc, reader, element, rule, &child, taken)?;
     }
+    Ok(())
 }
 
 /// What was begun by the element's attributes, read to the element's end; or else the fault that it was begun with, or the
