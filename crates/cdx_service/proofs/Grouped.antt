@@ -27,7 +27,7 @@ use Rattle.cdx_json.specs.Groups.{group, group_read}
 use Rattle.cdx_service.specs.Groups.{service_by_groups}
 use Rattle.cdx_json.proofs.Groups.{held_three, three_equal, put_split, tree_spelled}
 
-service_rows : rows service ≡ group 0 service ++ (group 1 service ++ group 2 service)
+pub service_rows : rows service ≡ group 0 service ++ (group 1 service ++ group 2 service)
 unfolding rows
 service_rows = refl
 

@@ -3,5 +3,6 @@
 
 mod json;
 pub mod service;
+mod writing;
 
 pub use service::{Service, Services};
