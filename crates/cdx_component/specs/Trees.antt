@@ -1,6 +1,6 @@
 -- The trees of components, pedigrees and lists of components, a field for each row of the schema and in its order.
 use Rattle.std.specs.Prelude.{List, [], ◌∷◌}
-use Rattle.cdx_models.specs.Trees.{component, pedigree as pedigree_record, Tree, text, boolean, items, fields, Trees, ◌⧺◌, trees, present}
+use Rattle.cdx_models.specs.Trees.{component, pedigree as pedigree_record, as_is, Tree, text, boolean, items, fields, Trees, ◌⧺◌, trees, present}
 use Rattle.cdx_models.specs.Records.{entity_tree, hashes_tree, references_tree, properties_tree}
 use Rattle.cdx_license.specs.Records.{licenses_tree}
 use Rattle.cdx_signature.specs.Records.{signature_tree}
