@@ -1,2 +1,4 @@
 pub mod Trees
 pub mod PartTrees
+pub mod Docs
+pub mod Refused
