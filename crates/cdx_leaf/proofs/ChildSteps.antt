@@ -1,8 +1,9 @@
 -- The steps of what is read by a plan.
-use Rattle.std.proofs.Common.{◌≡◌, ℕ, ◌+◌, List, [], ◌∷◌, ◌++◌, Bool, true, false, Option, Some, None, Result, Ok, Err, refl, sym, ap, ◌∙◌, subst}
+use Rattle.std.proofs.Common.{◌≡◌, ℕ, ◌+◌, List, [], ◌∷◌, ◌++◌, Bool, true, false, Option, Some, None, Result, Ok, Err, refl, sym, ap, ◌∙◌, subst, arith}
 use Rattle.std.specs.Prelude.{unwrap_or, map, bytes_eq, if◌then◌else◌}
 use Rattle.std.proofs.lemmas.Slice.Eq.{bytes_eq-Decides}
 use Rattle.std.proofs.lemmas.List.{map_push}
+use Rattle.std.specs.declared.alloc.AllocError.{AllocError}
 use Rattle.cdx_events.specs.declared.name.OwnedName.{OwnedName}
 use Rattle.cdx_events.specs.declared.name.OwnedAttribute.{OwnedAttribute}
 use Rattle.cdx_events.specs.declared.name.Namespace.{Namespace}
@@ -10,6 +11,7 @@ use Rattle.cdx_events.specs.declared.event.EventKind.TheVariants as kinds
 use Rattle.cdx_events.specs.Nodes.{Node, Nodes, characters, cdata, element, no_nodes, node}
 use Rattle.cdx_events.specs.Cursor.{Cursor}
 use Rattle.cdx_models.specs.declared.errors.XmlReadError.{XmlReadError}
+use Rattle.cdx_models.specs.declared.errors.XmlReadError.TheVariants.{Memory}
 use Rattle.cdx_models.specs.declared.bom.SpecVersion.{SpecVersion}
 use Rattle.cdx_models.specs.Trees.{Tree, Trees, items, trees, field, with_field, one, ◌⧺◌}
 use Rattle.cdx_models.specs.Trees as tree
@@ -18,7 +20,7 @@ use Rattle.cdx_schema.specs.Results.{◌>>=◌}
 use Rattle.cdx_schema.specs.Depth.{Depth}
 use Rattle.cdx_schema.specs.Kinds.{Kind}
 use Rattle.cdx_schema.specs.Kinds as sorts
-use Rattle.cdx_schema.specs.Nodes.{places}
+use Rattle.cdx_schema.specs.Nodes.{places, places_of}
 use Rattle.cdx_schema.specs.XmlReading.{Reading, Plan, Child, find_child, child_read, unknown, is_second, stored, appended, all, xread, nodes_read, node_read}
 use Rattle.cdx_leaf.specs.declared.taken.Taken.{Taken}
 use Rattle.cdx_leaf.specs.declared.taken.Taken.TheVariants as answers
@@ -26,7 +28,7 @@ use Rattle.cdx_leaf.specs.declared.rule.Rule.{Rule}
 use Rattle.cdx_leaf.specs.declared.rule.Rule.TheVariants.{Lax, Strict, Passing}
 use Rattle.cdx_leaf.specs.Rules.{skips, passes, as_rule}
 use Rattle.cdx_leaf.specs.Each.{each, plan_step}
-use Rattle.cdx_leaf.specs.Reading.{kind_of_node, after}
+use Rattle.cdx_leaf.specs.Reading.{kind_of_node, after, ReadsAs}
 use Rattle.cdx_leaf.specs.Children.{Met, nothing, second, found, meet, met, ReadsChild, TakesChild, Took, TakesOne, TakesMore}
 use Rattle.cdx_leaf.specs.Trees.{collected}
 use Rattle.cdx_models.specs.Trees.{list_tree, present}
@@ -180,3 +182,31 @@ pub takes_second : (plan : Plan) (v : SpecVersion) (n : OwnedName) (a : List Own
 takes_second plan v n a s old depth c is found_is it_is d ns p nodes rest st =
     let read : Kind → Result Tree XmlReadError = λ k. xread (element n a ns nodes) v k p (depth d) in
     (ap (λ x. meet (find_child v x plan.children) read s) is ∙ ap (λ x. meet x read s) found_is ∙ ap (λ b. if b then second else found (read c.kind >>= λ t. Ok (stored c.place c.field t s))) it_is, refl, refl)
+
+-- ---- a child that was read as a kind
+
+-- into a field that holds it alone
+pub reads_one : {X : Type 0} (f : X → Tree) (x : X) (old new : Cursor) (v : SpecVersion) (K : Kind) (depth : Depth → Depth) (n : OwnedName) (a : List OwnedAttribute) → ReadsAs f old new n a v K depth (Ok x) → TakesOne (f x) old new v K depth n a (Ok answers.Read)
+reads_one f x old new v K depth n a reads d ns p nodes rest st =
+    let h = reads d ns p nodes rest st in
+    (refl, h.0, h.1)
+
+-- to the end of a list
+pub reads_more : {X : Type 0} (f : X → Tree) (xs ys : List X) (x : X) (old new : Cursor) (v : SpecVersion) (K : Kind) (depth : Depth → Depth) (n : OwnedName) (a : List OwnedAttribute) → ys ≡ xs ++ x ∷ [] → ReadsAs f old new n a v K depth (Ok x)
+    → TakesMore (collected f xs) (collected f ys) old new v K depth n a (Ok answers.Read)
+reads_more f xs ys x old new v K depth n a pushed_is reads d ns p nodes rest st =
+    let h = reads d ns p nodes rest st in
+    (refl, ap (λ r. r >>= λ t. Ok (appended (collected f xs) t)) h.0 ∙ ap (λ t. Ok t) (collected_more f xs x ∙ ap (λ o. collected f o) (sym pushed_is)), h.1)
+
+-- where it was refused
+pub more_fails : {X : Type 0} (f : X → Tree) (before now : Tree) (e : XmlReadError) (old new : Cursor) (v : SpecVersion) (K : Kind) (depth : Depth → Depth) (n : OwnedName) (a : List OwnedAttribute) → ReadsAs f old new n a v K depth (Err e) → TakesMore before now old new v K depth n a (Err e)
+more_fails f before now e old new v K depth n a reads d ns p nodes rest st =
+    let h = reads d ns p nodes rest st in
+    (h.0, first_fails e new.place (xread (element n a ns nodes) v K p (depth d)) (λ t. Ok (appended before t)) h.1)
+
+-- where there was no memory for it
+pub no_memory : {X : Type 0} (f : X → Tree) (before now : Tree) (x : X) (e : AllocError) (old new : Cursor) (v : SpecVersion) (K : Kind) (depth : Depth → Depth) (n : OwnedName) (a : List OwnedAttribute) → ReadsAs f old new n a v K depth (Ok x) → TakesMore before now old new v K depth n a (Err (Memory e))
+no_memory f before now x e old new v K depth n a reads d ns p nodes rest st =
+    let h = reads d ns p nodes rest st in
+    let placed : new.place ≡ old.place + places_of nodes + 1 = ap (λ (c : Cursor). c.place) h.1 in
+    (omega arith, tt)

@@ -58,6 +58,11 @@ Meets r old new el nodes rest (Ok None) = (past_texts r nodes ≡ no_nodes) × (
 Meets r old new el nodes rest (Ok (Some child)) = MeetsChild old new el nodes (past_texts r nodes) rest child
 Meets r old new el nodes rest (Err e) = MeetsText old new el nodes (past_texts r nodes) e
 
+abbrev pub is_unknown : Taken → Bool
+is_unknown answers.Read = false
+is_unknown answers.Unknown = true
+is_unknown answers.Second = false
+
 -- whether a child is refused that was taken like this
 abbrev pub refuses : Rule → Taken → Bool
 refuses r answers.Read = false

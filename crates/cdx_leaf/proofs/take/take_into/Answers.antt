@@ -1,24 +1,14 @@
-use Rattle.std.proofs.Common.{Ok, refl, sym, ap, ◌∙◌}
 use Rattle.std.proofs.lemmas.Result.{err_from_is_err_and}
-use Rattle.cdx_events.specs.Nodes.{element}
-use Rattle.cdx_schema.specs.Results.{◌>>=◌}
-use Rattle.cdx_schema.specs.XmlReading.{appended, xread}
 use Rattle.cdx_leaf.specs.Trees.{collected}
-use Rattle.cdx_leaf.proofs.Records.{first_fails}
-use Rattle.cdx_leaf.proofs.ChildSteps.{collected_more}
+use Rattle.cdx_leaf.proofs.ChildSteps.{reads_more, more_fails}
 use Rattle.cdx_leaf.proofs.take.take_into.Goals as goal
 
 pub returns-in_err-item : goal.returns-in_err-item
-returns-in_err-item g c = λ d ns p nodes rest st.
+returns-in_err-item g c =
     let q = err_from_is_err_and c.from_residual.result c.from_residual.ensures.1 in
-    let read = c.in_err-item.ensures d ns p nodes rest st in
     let before = collected g.X.HasTree.tree c.args.field.now in
-    rw (q.1, q.2) (read.0, first_fails c.in_err-item.field-0.0 c.read_xml_element.new.reader.place (xread (element c.args.element.now c.args.attributes.now ns nodes) c.args.v g.X.FromXml.kind p (g.X.FromXml.depth d)) (λ t. Ok (appended before t)) read.1)
+    rw (q.1, q.2) (more_fails g.X.HasTree.tree before before c.in_err-item.field-0.0 c.args.reader.now c.read_xml_element.new.reader c.args.v g.X.FromXml.kind g.X.FromXml.depth c.args.element.now c.args.attributes.now c.in_err-item.ensures)
 
 pub returns : goal.returns
-returns g c = λ d ns p nodes rest st.
-    let tree = g.X.HasTree.tree in
-    let x = c.in_ok-item.item in
-    let read = c.in_ok-item.ensures d ns p nodes rest st in
-    let before = collected tree c.args.field.now in
-    (refl, ap (λ r. r >>= λ t. Ok (appended before t)) read.0 ∙ ap (λ t. Ok t) (collected_more tree c.args.field.now x ∙ ap (λ o. collected tree o) (sym c.in_ok-push.ensures.ok)), read.1)
+returns g c =
+    reads_more g.X.HasTree.tree c.args.field.now c.push.new.self c.in_ok-item.item c.args.reader.now c.read_xml_element.new.reader c.args.v g.X.FromXml.kind g.X.FromXml.depth c.args.element.now c.args.attributes.now c.in_ok-push.ensures.ok c.in_ok-item.ensures
