@@ -1,5 +1,6 @@
 pub mod AnswerFloats
 pub mod Breaking
+pub mod EventsBack
 pub mod RepliesOwed
 pub mod AnswerDepth
 pub mod MadeRoad

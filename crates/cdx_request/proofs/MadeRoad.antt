@@ -56,7 +56,7 @@ unfolding made_components items_kept
 components_kept i zero = refl
 components_kept i (suc n) = rw (component_kept i, components_kept (suc i) n) refl
 
-bill_kept : (n : ℕ) → keep V1_5 (made_bill n) a_bill ≡ made_bill n
+pub bill_kept : (n : ℕ) → keep V1_5 (made_bill n) a_bill ≡ made_bill n
 unfolding kept rows list
 bill_kept n = rw (components_kept 0 n) refl
 

@@ -1,13 +1,13 @@
 -- Events of JSON values: the events of a document in a request. Each object has the members that are named, and no other.
-use Rattle.std.specs.Prelude.{ℕ, ◌+◌, ◌==◌, List, [], ◌∷◌, codes, if◌then◌else◌, Option, Some, None, option_map}
+use Rattle.std.specs.Prelude.{ℕ, ◌+◌, ◌==◌, List, [], codes, if◌then◌else◌, Option, Some, None, option_map}
 use Rattle.std.specs.Str.{bytes_eq}
-use Rattle.serde_json.specs.Data.{Data, Items, no_items, item}
+use Rattle.serde_json.specs.Data.{Data}
 use Rattle.serde_json.specs.Find.{get, as_array}
 use Rattle.cdx_events.specs.declared.name.OwnedName.{OwnedName}
 use Rattle.cdx_events.specs.declared.name.OwnedAttribute.{OwnedAttribute}
 use Rattle.cdx_events.specs.declared.event.XmlEvent.{XmlEvent}
 use Rattle.cdx_events.specs.declared.event.XmlEvent.TheVariants.{StartDocument, EndDocument, StartElement, EndElement, Characters, CData}
-use Rattle.cdx_request.specs.Parts.{◌>>=◌, member_count, has, text_at, how_many, if_text}
+use Rattle.cdx_request.specs.Parts.{◌>>=◌, member_count, has, text_at, how_many, if_text, all_in}
 
 -- A name: its local part under the member given, and perhaps its namespace under `uri` and its prefix, which are texts.
 abbrev pub name_at : List ℕ → Data → Option OwnedName
@@ -33,17 +33,10 @@ attribute_parts d = do
 abbrev pub attribute_of : Data → Option OwnedAttribute
 attribute_of d = if member_count d == name_count d + 1 then attribute_parts d else None
 
-abbrev pub attributes_in : Items → Option (List OwnedAttribute)
-attributes_in no_items = Some []
-attributes_in (item d ds) = do
-  a ← attribute_of d
-  more ← attributes_in ds
-  Some (a ∷ more)
-
 -- no attributes, or an array of them, which may be empty
 abbrev pub if_attributes : Option Data → Option (List OwnedAttribute)
 if_attributes None = Some []
-if_attributes (Some d) = as_array d >>= attributes_in
+if_attributes (Some d) = as_array d >>= all_in attribute_of
 
 -- ---- events
 
@@ -86,13 +79,6 @@ event_of d =
     (if has (codes "cdata") d then text_event (codes "cdata") (λ s. CData s) d else
     None))))
 
-abbrev pub events_in : Items → Option (List XmlEvent)
-events_in no_items = Some []
-events_in (item d ds) = do
-  event ← event_of d
-  more ← events_in ds
-  Some (event ∷ more)
-
 -- the events of an array
 abbrev pub events_of : Data → Option (List XmlEvent)
-events_of d = as_array d >>= events_in
+events_of d = as_array d >>= all_in event_of

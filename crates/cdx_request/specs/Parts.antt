@@ -1,6 +1,6 @@
 -- What an object has.
-use Rattle.std.specs.Prelude.{ℕ, List, Bool, Option, Some, None, option_and_then, is_some}
-use Rattle.serde_json.specs.Data.{Data, string, object}
+use Rattle.std.specs.Prelude.{ℕ, List, [], ◌∷◌, Bool, Option, Some, None, option_and_then, is_some}
+use Rattle.serde_json.specs.Data.{Data, string, object, Items, no_items, item}
 use Rattle.serde_json.specs.Find.{get, as_str}
 use Rattle.serde_json.specs.Events.{members_len}
 use Rattle.cdx_models.specs.declared.bom.SpecVersion.{SpecVersion}
@@ -34,3 +34,11 @@ abbrev pub if_text : Option Data → Option (Option (List ℕ))
 if_text None = Some None
 if_text (Some (string s)) = Some (Some s)
 if_text (Some _) = None
+
+-- all items of an array, where each is what f asks for
+abbrev pub all_in : {A : Type 0} → (Data → Option A) → Items → Option (List A)
+all_in f no_items = Some []
+all_in f (item d ds) = do
+  x ← f d
+  xs ← all_in f ds
+  Some (x ∷ xs)

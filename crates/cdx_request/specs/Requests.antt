@@ -1,7 +1,7 @@
 -- Requests: a document, the version in which it is read, and the hops of its road.
-use Rattle.std.specs.Prelude.{ℕ, ◌==◌, List, [], ◌∷◌, codes, if◌then◌else◌, Option, Some, None, option_map, Result, Ok, Err}
+use Rattle.std.specs.Prelude.{ℕ, ◌==◌, List, codes, if◌then◌else◌, Option, Some, None, option_map, Result, Ok, Err}
 use Rattle.std.specs.Str.{bytes_eq, is_utf8}
-use Rattle.serde_json.specs.Data.{Data, Items, no_items, item}
+use Rattle.serde_json.specs.Data.{Data}
 use Rattle.serde_json.specs.Read.{read}
 use Rattle.serde_json.specs.Find.{get, as_array}
 use Rattle.cdx_events.specs.declared.event.XmlEvent.{XmlEvent}
@@ -10,7 +10,7 @@ use Rattle.cdx_events.specs.Root.{root_of, node_of}
 use Rattle.cdx_models.specs.declared.bom.SpecVersion.{SpecVersion}
 use Rattle.cdx_schema.specs.Trips.{Form, in_json, in_xml, Hop}
 use Rattle.cdx_schema.specs.Roads.{Doc, json, xml}
-use Rattle.cdx_request.specs.Parts.{◌>>=◌, member_count, text_at, version_at}
+use Rattle.cdx_request.specs.Parts.{◌>>=◌, member_count, text_at, version_at, all_in}
 use Rattle.cdx_request.specs.EventReading.{events_of}
 use Rattle.cdx_request.specs.Breaks.{broken}
 
@@ -67,12 +67,8 @@ hop_parts d = do
 abbrev pub hop_of : Data → Option Hop
 hop_of d = if member_count d == 2 then hop_parts d else None
 
-abbrev pub hops_in : Items → Option (List Hop)
-hops_in no_items = Some []
-hops_in (item d ds) = do
-  hop ← hop_of d
-  hops ← hops_in ds
-  Some (hop ∷ hops)
+abbrev pub hops_at : Data → Option (List Hop)
+hops_at d = get (codes "hops") d >>= as_array >>= all_in hop_of
 
 -- ---- requests
 
@@ -91,7 +87,7 @@ abbrev pub asked_parts : Data → Option Asked
 asked_parts d = do
   from ← version_at (codes "from") d
   sent ← get (codes "doc") d >>= sent_of
-  hops ← get (codes "hops") d >>= as_array >>= hops_in
+  hops ← hops_at d
   Some (record { from = from; sent = sent; hops = hops })
 
 -- an object with `from`, `doc` and `hops`, and no other member

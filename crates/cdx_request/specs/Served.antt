@@ -1,13 +1,16 @@
 -- What the answers of status 0 hold, and what is owed to which request.
-use Rattle.std.specs.Prelude.{◌≡◌, ℕ, ◌≤◌, List, [], ◌∷◌, length, true, false, Ok}
+use Rattle.std.specs.Prelude.{◌≡◌, ℕ, ◌≤◌, List, [], ◌∷◌, length, true, false, Some, Ok}
 use Rattle.serde_json.specs.Data.{Data, depth}
 use Rattle.serde_json.specs.Written.{has_float, compact_text}
 use Rattle.cdx_events.specs.Nodes.{Node, document}
+use Rattle.cdx_events.specs.declared.event.XmlEvent.{XmlEvent}
 use Rattle.cdx_models.specs.declared.bom.SpecVersion.{SpecVersion}
 use Rattle.cdx_models.specs.Trees.{Tree}
 use Rattle.cdx_schema.specs.Trips.{Hop}
 use Rattle.cdx_schema.specs.Roads.{Doc, json, xml, Refusal, denotes, fits_all, road}
 use Rattle.cdx_schema.specs.Laws.{LeadsFrom}
+use Rattle.cdx_request.specs.EventValues.{events_value}
+use Rattle.cdx_request.specs.EventReading.{events_of}
 use Rattle.cdx_request.specs.Requests.{Request, request_in}
 use Rattle.cdx_request.specs.Refusals.{refused_answer}
 use Rattle.cdx_request.specs.Replies.{line_of, documents_answer, limit, reply_to}
@@ -28,6 +31,10 @@ pub record IsValid (r : Request) : Type 0 where
   pub the_bill : Tree
   pub denoted : denotes r.doc r.from ≡ Ok the_bill
   pub fit : fits_all r.hops the_bill ≡ true
+
+-- Events that are written in an answer are read back from a request.
+abbrev pub EventsBack : Type 0
+EventsBack = (events : List XmlEvent) → events_of (events_value events) ≡ Some events
 
 -- No answer of documents holds a float.
 abbrev pub NoFloats : Type 0

@@ -1,12 +1,17 @@
 //! The laws of requests and replies. Each is the contract of a function that does nothing.
 
 ghost use Rattle.cdx_request.specs.Breaks.{BreaksLaw};
-ghost use Rattle.cdx_request.specs.Served.{AnswersNest, MadeLaw, NoFloatRefused, NoFloats, ReplyLaw, ValidLaw};
+ghost use Rattle.cdx_request.specs.Served.{AnswersNest, EventsBack, MadeLaw, NoFloatRefused, NoFloats, ReplyLaw, ValidLaw};
 
 /// The events of a request that have no root break at one place: the first that no balanced list goes on with, or
 /// their number where each of them goes on. That is the place of an answer that they are unbalanced.
 pub fn breaks()
     ensures { BreaksLaw }
+{}
+
+/// The events of a document in an answer are read back from a request.
+pub fn events_back()
+    ensures { EventsBack }
 {}
 
 /// No answer holds a float.
