@@ -28,7 +28,7 @@ use Rattle.cdx_json.specs.Groups.{group, group_read}
 use Rattle.cdx_component.specs.Groups.{component_by_groups}
 use Rattle.cdx_json.proofs.Groups.{held_four, four_equal, put_split, tree_spelled}
 
-component_rows : rows component ≡ group 0 component ++ (group 1 component ++ (group 2 component ++ group 3 component))
+pub component_rows : rows component ≡ group 0 component ++ (group 1 component ++ (group 2 component ++ group 3 component))
 unfolding rows
 component_rows = refl
 

@@ -4,3 +4,4 @@ pub mod Copied
 pub mod Fitting
 pub mod Grouped
 pub mod Deep
+pub mod Written

@@ -3,5 +3,6 @@
 
 pub mod component;
 mod json;
+mod writing;
 
 pub use component::{Component, Components, Pedigree, component_row_has_versions};
