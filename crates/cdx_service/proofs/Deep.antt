@@ -20,13 +20,13 @@ use Rattle.cdx_json.proofs.Groups.{one_more}
 abbrev pub in_service : Depth → Depth
 in_service d = record { components = d.components; services = d.services + 1 }
 
-service_is_deep : (d : Depth) → 32 ≤ d.services → name_too_deep service d ≡ true
+pub service_is_deep : (d : Depth) → 32 ≤ d.services → name_too_deep service d ≡ true
 service_is_deep d h = grind arith
 
-service_is_shallow : (d : Depth) → d.services < 32 → name_too_deep service d ≡ false
+pub service_is_shallow : (d : Depth) → d.services < 32 → name_too_deep service d ≡ false
 service_is_shallow d h = grind arith
 
-inside_service : (d : Depth) → in_service d ≡ inside service d
+pub inside_service : (d : Depth) → in_service d ≡ inside service d
 inside_service d = ap (λ n. record { components = d.components; services = n }) (one_more d.services)
 
 pub service_deep : (e : JsonReadError) (x : Data) (v : SpecVersion) (d : Depth) → 32 ≤ d.services → IsFaultAt [] TooDeep e → Fails e (jread x v (a_record service) d)

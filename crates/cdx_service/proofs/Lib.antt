@@ -2,4 +2,5 @@ pub mod Compared
 pub mod Copied
 pub mod Grouped
 pub mod Deep
+pub mod ReadGroups
 pub mod Written

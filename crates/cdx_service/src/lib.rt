@@ -1,7 +1,8 @@
-//! Services: types and trees, copies, `==`, and JSON.
+//! Services: types and trees, copies, `==`, JSON and XML.
 #![tactic(auto)]
 
 mod json;
+mod reading;
 pub mod service;
 mod writing;
 
