@@ -233,13 +233,12 @@ pub(crate) fn read_services_element(
     reader: &mut EventReader<'_>,
     v: SpecVersion,
     element: &OwnedName,
-    attributes: &List<OwnedAttribute>,
+    _attributes: &List<OwnedAttribute>,
     depth: Depth,
 ) -> Result<Services, XmlReadError>
     requires { IsIn reader.old element.now }
-    ensures { ReadsAs services_tree reader.old reader.new element.now attributes.now v (a_list services) (λ _. depth_of depth) result }
+    ensures { ReadsAs services_tree reader.old reader.new element.now _attributes.now v (a_list services) (λ _. depth_of depth) result }
 {
-    let _attributes = attributes;
     let mut list = Services::new(alloc);
     read_items(alloc, reader, v, element, depth, &mut list)?;
     Ok(list)

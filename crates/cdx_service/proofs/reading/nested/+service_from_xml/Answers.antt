@@ -1,4 +1,4 @@
-use Rattle.std.proofs.Common.{rules, ◌≡◌, ◌-◌, Ok, Err, refl, sym, ap, ◌∙◌, arith}
+use Rattle.std.proofs.Common.{rules, ◌-◌, Ok, Err, refl, sym, ◌∙◌, arith}
 use Rattle.std.specs.Prelude.{codes}
 use Rattle.std.proofs.lemmas.Result.{err_from_is_err_and}
 use Rattle.std.proofs.lemmas.Slice.Eq.{bytes_eq-Decides}
@@ -243,8 +243,8 @@ read_service_element-returns t c = λ d ns p nodes rest st.
 pub read_services_element-returns-in_err-read_items : goal.read_services_element-returns-in_err-read_items
 read_services_element-returns-in_err-read_items t c = λ d ns p nodes rest st.
     let q = err_from_is_err_and c.from_residual.result c.from_residual.ensures.1 in
-    rw (q.1, q.2) (services_fail c.args.v c.args.element.now c.args.attributes.now ns (depth_of c.args.depth) p nodes rest c.args.reader.now c.read_items.new.reader c.new-list.result c.in_err-read_items.field-0.0 c.new-list.ensures st (c.in_err-read_items.ensures nodes rest st.at))
+    rw (q.1, q.2) (services_fail c.args.v c.args.element.now c.args._attributes.now ns (depth_of c.args.depth) p nodes rest c.args.reader.now c.read_items.new.reader c.new-list.result c.in_err-read_items.field-0.0 c.new-list.ensures st (c.in_err-read_items.ensures nodes rest st.at))
 
 pub read_services_element-returns : goal.read_services_element-returns
 read_services_element-returns t c = λ d ns p nodes rest st.
-    services_read c.args.v c.args.element.now c.args.attributes.now ns (depth_of c.args.depth) p nodes rest c.args.reader.now c.read_items.new.reader c.new-list.result c.read_items.new.list c.new-list.ensures st (c.in_ok-read_items.ensures nodes rest st.at)
+    services_read c.args.v c.args.element.now c.args._attributes.now ns (depth_of c.args.depth) p nodes rest c.args.reader.now c.read_items.new.reader c.new-list.result c.read_items.new.list c.new-list.ensures st (c.in_ok-read_items.ensures nodes rest st.at)

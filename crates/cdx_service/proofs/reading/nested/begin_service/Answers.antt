@@ -1,9 +1,3 @@
-use Rattle.std.proofs.Common.{◌≡◌, List, refl, Ok}
-use Rattle.std.specs.Prelude.{codes}
-use Rattle.cdx_models.specs.declared.bom.SpecVersion.TheVariants.{V1_3}
-use Rattle.cdx_models.specs.Trees.{service}
-use Rattle.cdx_schema.specs.Kinds.{Row, member}
-use Rattle.cdx_schema.specs.Table.{rows}
 use Rattle.cdx_service.proofs.ReadGroups.{service_begins}
 use Rattle.cdx_service.proofs.reading.nested.begin_service.Goals as goal
 

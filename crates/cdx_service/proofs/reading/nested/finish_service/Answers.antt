@@ -1,4 +1,3 @@
-use Rattle.std.proofs.Common.{◌≡◌, Ok, refl, sym, ap, ◌∙◌}
 use Rattle.std.proofs.lemmas.Result.{err_from_is_err_and}
 use Rattle.cdx_service.proofs.ReadGroups.{service_ended, service_lacks}
 use Rattle.cdx_service.proofs.reading.nested.finish_service.Goals as goal
