@@ -14,13 +14,17 @@ use Rattle.cdx_schema.specs.Roads.{Doc, json, xml, Refusal, road}
 use Rattle.cdx_request.specs.Refusals.{only}
 use Rattle.cdx_request.specs.Replies.{Reply, reply}
 
--- the library `c` and the number, whose version is the number
-abbrev pub made_component : ℕ → Tree
-made_component i = fields component (trees (
-    text (codes "library") ∷ absent ∷ absent ∷ absent ∷ absent ∷ absent ∷
-    absent ∷ text (codes "c" ++ decimal i) ∷ text (decimal i) ∷ absent ∷ absent ∷ absent ∷
+-- a component of this type, name and version, and nothing else
+abbrev pub plain_component : List ℕ → List ℕ → List ℕ → Tree
+plain_component type name version = fields component (trees (
+    text type ∷ absent ∷ absent ∷ absent ∷ absent ∷ absent ∷
+    absent ∷ text name ∷ text version ∷ absent ∷ absent ∷ absent ∷
     absent ∷ absent ∷ absent ∷ absent ∷ absent ∷ absent ∷
     absent ∷ absent ∷ absent ∷ absent ∷ absent ∷ absent ∷ []))
+
+-- the library `c` and the number, whose version is the number
+abbrev pub made_component : ℕ → Tree
+made_component i = plain_component (codes "library") (codes "c" ++ decimal i) (decimal i)
 
 -- so many components, numbered on from i
 unfoldable pub made_components : ℕ → ℕ → Trees
