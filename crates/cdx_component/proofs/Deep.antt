@@ -20,13 +20,13 @@ use Rattle.cdx_json.proofs.Groups.{one_more}
 abbrev pub in_component : Depth → Depth
 in_component d = record { components = d.components + 1; services = d.services }
 
-component_is_deep : (d : Depth) → 32 ≤ d.components → name_too_deep component d ≡ true
+pub component_is_deep : (d : Depth) → 32 ≤ d.components → name_too_deep component d ≡ true
 component_is_deep d h = grind arith
 
-component_is_shallow : (d : Depth) → d.components < 32 → name_too_deep component d ≡ false
+pub component_is_shallow : (d : Depth) → d.components < 32 → name_too_deep component d ≡ false
 component_is_shallow d h = grind arith
 
-inside_component : (d : Depth) → in_component d ≡ inside component d
+pub inside_component : (d : Depth) → in_component d ≡ inside component d
 inside_component d = ap (λ n. record { components = n; services = d.services }) (one_more d.components)
 
 pub component_deep : (e : JsonReadError) (x : Data) (v : SpecVersion) (d : Depth) → 32 ≤ d.components → IsFaultAt [] TooDeep e → Fails e (jread x v (a_record component) d)

@@ -4,4 +4,7 @@ pub mod Copied
 pub mod Fitting
 pub mod Grouped
 pub mod Deep
+pub mod Begun
+pub mod Children
+pub mod Nesting
 pub mod Written

@@ -3,3 +3,4 @@ pub mod Laws
 pub mod PartTrees
 pub mod Groups
 pub mod Stays
+pub mod ReadingParts

@@ -1,8 +1,9 @@
-//! Components with their pedigrees: types and trees, copies, `==`, the versions that they fit, and JSON.
+//! Components with their pedigrees: types and trees, copies, `==`, the versions that they fit, and both forms.
 #![tactic(auto)]
 
 pub mod component;
 mod json;
+mod reading;
 mod writing;
 
 pub use component::{Component, Components, Pedigree, component_row_has_versions};

@@ -1,0 +1,91 @@
+//! What an element's attributes begin.
+
+ghost use Rattle.std.specs.Prelude.{◌≡◌, ◌+◌};
+ghost use Rattle.cdx_models.specs.Trees.{component, text, present};
+ghost use Rattle.cdx_models.specs.declared.bom.SpecVersion.{SpecVersion};
+ghost use Rattle.cdx_schema.specs.Table.{rows};
+ghost use Rattle.cdx_schema.specs.XmlReading.{attributes_read};
+ghost use Rattle.cdx_json.specs.Groups.{group};
+ghost use Rattle.cdx_leaf.specs.Attribute.{Gives};
+ghost use Rattle.cdx_parts.specs.Records.{mime_type_tree};
+ghost use Rattle.cdx_component.specs.PartTrees.{origin_trees};
+ghost use Rattle.cdx_component.specs.ReadingParts.{component_part};
+
+use crate::component::parts::{Contents, Marks, Origin};
+use crate::reading::parts::{ComponentPart, NamingPart};
+use cdx_events::{List, OwnedAttribute, OwnedName, Text};
+use cdx_leaf::{attribute_or_error, attribute_or_none};
+use cdx_models::XmlReadError;
+use cdx_parts::MimeType;
+use std::alloc::Global;
+
+fn mime_type_of(held: Option<Text>) -> Option<MimeType>
+    ensures { present mime_type_tree result ≡ present text held }
+{
+    match held {
+        Some(name) => Some(MimeType(name)),
+        None => None,
+    }
+}
+
+/// What the attributes give of the first rows, or the fault that the type is lacking, at `place`, that of the element's
+/// start.
+fn begin_origin(
+    alloc: Global,
+    place: usize,
+    element: &OwnedName,
+    attributes: &List<OwnedAttribute>,
+) -> Result<Origin, XmlReadError>
+    ensures { (v : SpecVersion) → Gives origin_trees (place + 1) (attributes_read (group 0 component) attributes.now v element.now.local_name place) result }
+{
+    let component_type = attribute_or_error(alloc, place, element, attributes, "type")?;
+    let mime_type = attribute_or_none(alloc, attributes, "mime-type")?;
+    let bom_ref = attribute_or_none(alloc, attributes, "bom-ref")?;
+    Ok(Origin {
+        component_type,
+        mime_type: mime_type_of(mime_type),
+        bom_ref,
+        supplier: None,
+        author: None,
+        publisher: None,
+    })
+}
+
+/// The component that the attributes begin, or the fault that the type is lacking, at `place`, that of the element's start.
+pub(crate) fn begin_component(
+    alloc: Global,
+    place: usize,
+    element: &OwnedName,
+    attributes: &List<OwnedAttribute>,
+) -> Result<ComponentPart, XmlReadError>
+    ensures { (v : SpecVersion) → Gives component_part (place + 1) (attributes_read (rows component) attributes.now v element.now.local_name place) result }
+{
+    let origin = begin_origin(alloc, place, element, attributes)?;
+    Ok(ComponentPart {
+        origin,
+        naming: NamingPart {
+            group: None,
+            name: None,
+            version: None,
+            description: None,
+            scope: None,
+            hashes: None,
+        },
+        marks: Marks {
+            licenses: None,
+            copyright: None,
+            cpe: None,
+            purl: None,
+            swid: None,
+            modified: None,
+        },
+        contents: Contents {
+            pedigree: None,
+            external_references: None,
+            properties: None,
+            components: None,
+            evidence: None,
+            signature: None,
+        },
+    })
+}

@@ -1,0 +1,91 @@
+//! What was read, at an element's end.
+
+ghost use Rattle.std.specs.Prelude.{◌≡◌, ◌+◌};
+ghost use Rattle.cdx_models.specs.Trees.{component, pedigree, fields};
+ghost use Rattle.cdx_schema.specs.Faults.{lacking};
+ghost use Rattle.cdx_schema.specs.Table.{rows};
+ghost use Rattle.cdx_schema.specs.XmlReading.{ended};
+ghost use Rattle.cdx_json.specs.Groups.{group};
+ghost use Rattle.cdx_leaf.specs.Attribute.{Gives};
+ghost use Rattle.cdx_leaf.specs.Trees.{fields_of};
+ghost use Rattle.cdx_component.specs.Trees.{component_tree, pedigree_tree};
+ghost use Rattle.cdx_component.specs.PartTrees.{naming_trees};
+ghost use Rattle.cdx_component.specs.ReadingParts.{naming_part, component_part, pedigree_part, in_first};
+
+use crate::component::parts::{Naming, assemble};
+use crate::component::{Component, Pedigree};
+use crate::reading::parts::{ComponentPart, NamingPart, PedigreePart};
+use cdx_events::{OwnedName, Text};
+use cdx_leaf::child_or_error;
+use cdx_models::{SpecVersion, XmlReadError};
+use std::alloc::Global;
+
+/// A child that 1.3 requires. `RequiredDataMissing` at `place`, that of the element's end, where it isn't there in 1.3.
+fn first_child_or_error(
+    alloc: Global,
+    place: usize,
+    v: SpecVersion,
+    element: &OwnedName,
+    child: Option<Text>,
+    expected: &str,
+) -> Result<Option<Text>, XmlReadError>
+    ensures { Gives (λ o. o) (place + 1) (in_first v child (lacking place element.now.local_name expected.now)) result }
+{
+    match v {
+        SpecVersion::V1_3 => Ok(Some(child_or_error(alloc, place, element, child, expected)?)),
+        SpecVersion::V1_4 => Ok(child),
+        SpecVersion::V1_5 => Ok(child),
+    }
+}
+
+/// The rows with the name. `RequiredDataMissing` at `place`, that of the element's end, where the name isn't there, or in
+/// 1.3 the version.
+fn finish_naming(
+    alloc: Global,
+    place: usize,
+    v: SpecVersion,
+    element: &OwnedName,
+    part: NamingPart,
+) -> Result<Naming, XmlReadError>
+    ensures { Gives naming_trees (place + 1) (ended (group 1 component) (naming_part part) v element.now.local_name place) result }
+{
+    let name = child_or_error(alloc, place, element, part.name, "name")?;
+    let version = first_child_or_error(alloc, place, v, element, part.version, "version")?;
+    Ok(Naming {
+        group: part.group,
+        name,
+        version,
+        description: part.description,
+        scope: part.scope,
+        hashes: part.hashes,
+    })
+}
+
+/// The component that was read, or the fault of the first required child that is missing, at `place`, that of the
+/// element's end.
+pub(crate) fn finish_component(
+    alloc: Global,
+    place: usize,
+    v: SpecVersion,
+    element: &OwnedName,
+    part: ComponentPart,
+) -> Result<Component, XmlReadError>
+    ensures { Gives (λ x. fields_of (component_tree x)) (place + 1) (ended (rows component) (component_part part) v element.now.local_name place) result }
+{
+    let naming = finish_naming(alloc, place, v, element, part.naming)?;
+    Ok(assemble(part.origin, naming, part.marks, part.contents))
+}
+
+/// The pedigree that was read.
+pub(crate) fn finish_pedigree(part: PedigreePart) -> Pedigree
+    ensures { pedigree_tree result ≡ fields pedigree (pedigree_part part) }
+{
+    Pedigree {
+        ancestors: part.ancestors,
+        descendants: part.descendants,
+        variants: part.variants,
+        commits: part.commits,
+        patches: part.patches,
+        notes: part.notes,
+    }
+}
