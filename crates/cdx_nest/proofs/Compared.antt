@@ -1,6 +1,5 @@
 -- Metadata compared, by its groups of rows.
-use Rattle.std.proofs.Common.{◌≡◌, ◌&&◌, refl, ◌∙◌}
-use Rattle.cdx_models.specs.Trees.{◌⧺◌}
+use Rattle.std.proofs.Common.{◌≡◌, ◌&&◌, refl}
 use Rattle.cdx_models.specs.Same.{same, same_each}
 use Rattle.cdx_models.proofs.Lists.{same_each-append}
 use Rattle.cdx_nest.specs.declared.metadata.Metadata.{Metadata}

@@ -1,13 +1,11 @@
 -- Metadata, read, kept and written group by group.
-use Rattle.std.proofs.Common.{◌≡◌, ◌∷◌, ◌++◌, length, refl, sym, ap, ◌∙◌}
+use Rattle.std.proofs.Common.{◌≡◌, ◌++◌, length, refl, sym, ap, ◌∙◌}
 use Rattle.serde_json.specs.Data.{Members}
 use Rattle.cdx_models.specs.declared.bom.SpecVersion.{SpecVersion}
 use Rattle.cdx_models.specs.Trees.{metadata, Tree, fields, Trees, ◌⧺◌}
 use Rattle.cdx_models.proofs.Lists.{count}
 use Rattle.cdx_schema.specs.Table.{rows}
 use Rattle.cdx_schema.specs.Depth.{Depth}
-use Rattle.cdx_schema.specs.Results.{◌>>=◌}
-use Rattle.cdx_schema.specs.Keeping.{kept}
 use Rattle.cdx_schema.specs.JsonReading.{Object}
 use Rattle.cdx_json.specs.ByRows.{rows_made, own_made, by_rows, named}
 use Rattle.cdx_json.specs.KeptRows.{rows_held, rows_put}

@@ -2,3 +2,4 @@ pub mod Compared
 pub mod MetadataFits
 pub mod Grouped
 pub mod ToolValues
+pub mod WriteTools

@@ -1,11 +1,11 @@
 -- Which versions metadata fits: the components of its tools are not asked.
-use Rattle.std.proofs.Common.{◌≡◌, ◌<◌, ◌≤◌, ◌+◌, true, not, ◌&&◌, List, refl, ◌∙◌}
+use Rattle.std.proofs.Common.{◌≡◌, true, List, refl}
 use mathlib.Core.Bool.{and-true}
 use Rattle.cdx_models.specs.Trees.{component, metadata, entity, tool, present, list_tree}
 use Rattle.cdx_models.specs.Records.{entity_tree, contact_tree, properties_tree, tool_tree}
 use Rattle.cdx_license.specs.Records.{licenses_tree}
 use Rattle.cdx_models.specs.declared.organization.OrganizationalContact.{OrganizationalContact}
-use Rattle.cdx_schema.specs.Kinds.{components, licenses, properties, authors, a_text, a_list, a_record, a_tools}
+use Rattle.cdx_schema.specs.Kinds.{licenses, properties, authors, a_text, a_list, a_record, a_tools}
 use Rattle.cdx_schema.specs.Table.{rows, list}
 use Rattle.cdx_schema.specs.Keeping.{has_versions}
 use Rattle.cdx_nest.specs.declared.tools.Tools.{Tools}

@@ -1,5 +1,5 @@
 -- Tools are a list of tools, or in 1.5 an object of services and components.
-use Rattle.std.proofs.Common.{◌≡◌, List, [], map, Vec, Global, Option, Some, None, Result, Ok, Err, refl, sym, ap, ◌∙◌, subst}
+use Rattle.std.proofs.Common.{◌≡◌, [], map, Vec, Global, Some, None, Result, Ok, refl, sym, ap, ◌∙◌, subst}
 use Rattle.serde_json.specs.Data.{Data, Items, no_items, array, Members, no_members, object}
 use Rattle.serde_json.specs.Data as json
 use Rattle.serde_json.specs.Find.{as_array, as_object}

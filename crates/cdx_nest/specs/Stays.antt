@@ -1,5 +1,5 @@
 -- What is there of tools stays there in every version.
-use Rattle.std.proofs.Common.{◌≡◌, false, refl, ◌∙◌}
+use Rattle.std.proofs.Common.{◌≡◌, false, refl}
 use Rattle.cdx_models.specs.declared.bom.SpecVersion.{SpecVersion}
 use Rattle.cdx_models.specs.declared.bom.SpecVersion.TheVariants.{V1_3, V1_4, V1_5}
 use Rattle.cdx_models.specs.Trees.{tools_object, Trees, items, fields, is_absent}

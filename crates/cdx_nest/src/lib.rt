@@ -1,10 +1,11 @@
 //! The records in which components and services stand: tools and metadata, their types and trees, copies, `==`, the
-//! versions that metadata fits, and JSON.
+//! versions that metadata fits, JSON, and XML as it is written.
 #![tactic(auto)]
 
 mod json;
 pub mod metadata;
 pub mod tools;
+mod writing;
 
 pub use cdx_component::{Component, Components, Pedigree};
 pub use cdx_service::{Service, Services};

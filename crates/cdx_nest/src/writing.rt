@@ -1,0 +1,4 @@
+//! Tools and metadata as XML events.
+
+mod metadata;
+mod tools;
