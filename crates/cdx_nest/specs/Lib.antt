@@ -2,3 +2,4 @@ pub mod Trees
 pub mod PartTrees
 pub mod Groups
 pub mod Stays
+pub mod Reading

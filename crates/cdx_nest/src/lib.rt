@@ -1,9 +1,10 @@
 //! The records in which components and services stand: tools and metadata, their types and trees, copies, `==`, the
-//! versions that metadata fits, JSON, and XML as it is written.
+//! versions that metadata fits, and both forms.
 #![tactic(auto)]
 
 mod json;
 pub mod metadata;
+mod reading;
 pub mod tools;
 mod writing;
 
