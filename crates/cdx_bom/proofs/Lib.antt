@@ -1,3 +1,13 @@
 pub mod Compared
 pub mod Documents
 pub mod RoadLaws
+pub mod Names
+pub mod Leaves
+pub mod Nested
+pub mod Whole
+pub mod Fitting
+pub mod Grouped
+pub mod Labels
+pub mod Formats
+pub mod Floats
+pub mod Fronts

@@ -3,3 +3,7 @@ pub mod PartTrees
 pub mod Docs
 pub mod Refused
 pub mod Laws
+pub mod Labels
+pub mod Groups
+pub mod Stays
+pub mod Floats
