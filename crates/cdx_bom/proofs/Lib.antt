@@ -11,3 +11,5 @@ pub mod Labels
 pub mod Formats
 pub mod Floats
 pub mod Fronts
+pub mod Settled
+pub mod Outputs

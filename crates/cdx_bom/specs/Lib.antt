@@ -7,3 +7,5 @@ pub mod Labels
 pub mod Groups
 pub mod Stays
 pub mod Floats
+pub mod Outputs
+pub mod SettledBills

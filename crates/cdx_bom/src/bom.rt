@@ -9,8 +9,11 @@ mod compared;
 mod copied;
 mod fitting;
 mod json;
+mod output;
 mod parsing;
 pub(crate) mod parts;
+mod sending;
+pub(crate) mod settled;
 mod shallow;
 
 use cdx_models::{ExternalReferences, HasTree, Properties, SpecVersion, UrnUuid};

@@ -10,6 +10,7 @@ mod refused;
 mod roads;
 
 pub use bom::Bom;
+pub use bom::settled::same;
 pub use doc::{Doc, Form, Hop, RoadError};
 pub use laws::{roads_join, roads_settle};
 pub use putting::{PutError, put_text};
