@@ -13,3 +13,8 @@ pub mod Floats
 pub mod Fronts
 pub mod Settled
 pub mod Outputs
+pub mod BillStart
+pub mod BillRows
+pub mod BillWhole
+pub mod BillWritten
+pub mod Carried

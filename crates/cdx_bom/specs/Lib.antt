@@ -9,3 +9,8 @@ pub mod Stays
 pub mod Floats
 pub mod Outputs
 pub mod SettledBills
+pub mod Reading
+pub mod RootChecks
+pub mod BillReading
+pub mod BillWriting
+pub mod Hops

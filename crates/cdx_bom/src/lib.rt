@@ -6,12 +6,14 @@ pub mod bom;
 mod doc;
 mod laws;
 pub mod putting;
+mod reading;
 mod refused;
 mod roads;
+mod writing;
 
 pub use bom::Bom;
 pub use bom::settled::same;
 pub use doc::{Doc, Form, Hop, RoadError};
 pub use laws::{roads_join, roads_settle};
 pub use putting::{PutError, put_text};
-pub use roads::{is_document, one_document};
+pub use roads::{is_document, one_document, recode, road};
