@@ -2,7 +2,7 @@
 use Rattle.std.specs.Prelude.{Option, Some, None, IfSome, Result, Ok, Err}
 use Rattle.std.specs.Result.{IsErrAnd}
 use Rattle.cdx_events.specs.declared.gathering.GatherError.{GatherError}
-use Rattle.std.proofs.Common.{◌≡◌, ℕ, ◌+◌, ◌<◌, ◌≤◌, Bool, true, false, cond, List, [], ◌∷◌, ◌++◌, ◌||◌, length, take, refl, sym, subst, ap, ◌∙◌, append_assoc, arith, length-append}
+use Rattle.std.proofs.Common.{◌≡◌, ℕ, ◌<◌, ◌≤◌, Bool, true, false, cond, List, [], ◌∷◌, ◌++◌, ◌||◌, length, take, refl, sym, subst, ap, ◌∙◌, append_assoc, arith, length-append}
 use Rattle.std.proofs.lemmas.List.{append-nil, take_all}
 use Rattle.std.proofs.Math.Seq.{take-append_seam}
 use Rattle.cdx_events.specs.declared.event.XmlEvent.{XmlEvent}
@@ -10,7 +10,7 @@ use Rattle.cdx_events.specs.Told.{Keeps, Loses, IsAtEnd, Gives}
 use Rattle.cdx_events.specs.Causes.{Rose}
 use Rattle.cdx_events.specs.declared.gathering.GatherError.TheVariants.{Fault, Budget, Memory}
 use Rattle.std.specs.declared.alloc.AllocError.{AllocError}
-use Rattle.cdx_events.specs.Gather.{is_end, has_end, through_end, cut, IsSpent, Stops, Fails, TakesEvents}
+use Rattle.cdx_events.specs.Gather.{is_end, has_end, through_end, cut, TakesEvents}
 
 -- ---- what is left
 

@@ -2,7 +2,6 @@
 use Rattle.std.proofs.Common.{◌≡◌, ℕ, List, Bool, true, false, refl}
 use Rattle.std.specs.Prelude.{if◌then◌else◌}
 use Rattle.cdx_models.specs.Addresses.{uri_of, uri_text, begins_as_bom_link}
-use Rattle.cdx_models.specs.declared.external_reference.Uri.{Uri}
 use Rattle.cdx_models.specs.declared.external_reference.Uri.TheVariants.{Url, BomLink}
 
 pub text_of_uri : (s : List ℕ) → uri_text (uri_of s) ≡ s

@@ -1,6 +1,6 @@
 -- Trees compared, one part after the other.
-use Rattle.std.proofs.Common.{◌≡◌, ◌&&◌, List, ap, ◌∙◌}
-use Rattle.cdx_models.specs.Trees.{Tree, list_tree, each, ◌⧺◌}
+use Rattle.std.proofs.Common.{◌≡◌, List, ap, ◌∙◌}
+use Rattle.cdx_models.specs.Trees.{Tree, list_tree, each}
 use Rattle.cdx_models.specs.Same.{same, same_each}
 
 pub at_both : (a b t u : Tree) → a ≡ t → b ≡ u → same a b ≡ same t u

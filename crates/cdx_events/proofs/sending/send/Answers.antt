@@ -1,5 +1,4 @@
 use Rattle.std.proofs.Common.{◌∙◌, arith}
-use Rattle.std.specs.VecDeque.{deque_len}
 use Rattle.cdx_events.proofs.Put.{one_put}
 use Rattle.cdx_events.proofs.sending.send.Goals as goal
 

@@ -1,4 +1,4 @@
-use Rattle.std.proofs.Common.{◌≡◌, ◌+◌, ◌<◌, ◌^◌, length}
+use Rattle.std.proofs.Common.{◌≡◌, ◌+◌, ◌<◌, ◌^◌}
 use Rattle.std.specs.VecDeque.{deque_len}
 use Rattle.cdx_events.proofs.Put.{IsPut}
 use Rattle.cdx_events.proofs.sending.send.Given as goal
