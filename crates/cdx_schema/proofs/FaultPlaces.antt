@@ -13,13 +13,14 @@ use Rattle.cdx_schema.specs.Held.{held_kind}
 use Rattle.cdx_schema.specs.Results.{◌>>=◌}
 use Rattle.cdx_events.specs.declared.event.EventKind.{EventKind}
 use Rattle.cdx_models.specs.declared.errors.XmlReadError.{XmlReadError}
+use Rattle.cdx_models.specs.declared.errors.XmlReadError.TheVariants.{ElementReadError, UnexpectedElementReadError, RequiredDataMissing, RequiredAttributeMissing, InvalidParseError, InvalidNamespaceError, TooDeep, Memory}
 use Rattle.cdx_schema.specs.Faults.{unexpected, lacking, unreadable, namespaced, nested}
 use Rattle.cdx_schema.specs.Depth.{Depth, top, inside, name_too_deep}
 use Rattle.cdx_models.specs.Entries.{entry_of}
 use Rattle.cdx_schema.specs.JsonReading.{is_required}
 use Rattle.cdx_schema.specs.XmlTexts.{boolean_of, number_of, boolean_tree, of_text}
 use Rattle.cdx_schema.specs.XmlReading.{Reading, Child, Plan, row_children, children_from, record_plan, plan_of_list, tools_plan, data_plan, signature_plan, no_plan, find_child, stored, stray, unknown, is_second, child_read, node_read, find_attribute, parsed, attribute_read, attribute_or_read, row_attribute, attributes_read, in_force, after_text, text_in, exact_text, Content, no_content, any_text, one_text_alone, content_from, owed, lacks, lacking_row, filled, ended, Element, end_of, text_read, boolean_read, number_alone, number_in, list_of, content_read, record_so_far, record_read, tools_object_of, tools_of, data_of, signature_of, tools_read, signature_read, in_namespace, kind_read, xread, nodes_read, xml_denotes}
-use Rattle.cdx_schema.specs.Locality.{fault_place}
+use Rattle.cdx_schema.specs.Locality.{fault_place, IsDocumentFault, RefusesByFaults}
 use Rattle.cdx_schema.proofs.JsonBack.{and_true}
 use Rattle.cdx_events.specs.declared.event.EventKind.TheVariants as kinds
 use Rattle.cdx_events.specs.declared.name.OwnedAttribute.{OwnedAttribute}
@@ -466,3 +467,19 @@ unfolding xread
 denoted_within (characters t) v f h = of_fault (unexpected 1 [] kinds.Characters) 1 2 f h (omega arith) (omega arith)
 denoted_within (cdata t) v f h = of_fault (unexpected 1 [] kinds.CData) 1 2 f h (omega arith) (omega arith)
 denoted_within (element n as' c xs) v f h = root_within n as' c xs v f h
+
+pub refuses_by_faults : RefusesByFaults
+refuses_by_faults x v f h = by f (denoted_within x v f h).0
+  where
+    none_below : 1 ≤ 0 → ⊥
+    none_below i = omega (arith, i)
+
+    by : (f : XmlReadError) → 1 ≤ fault_place f → IsDocumentFault f
+    by (UnexpectedElementReadError p around found) i = tt
+    by (RequiredDataMissing p around name) i = tt
+    by (InvalidParseError p around value type) i = tt
+    by (InvalidNamespaceError expected actual) i = tt
+    by (TooDeep p) i = tt
+    by (ElementReadError kind p) i = none_below i
+    by (RequiredAttributeMissing p around _) i = none_below i
+    by (Memory e) i = none_below i

@@ -19,6 +19,7 @@ pub mod RecordRows
 mod RuleRows
 pub mod SameTrip
 pub mod NoFloats
+pub mod Clear
 pub mod BillRead
 pub mod Sound
 pub mod KeptOf
@@ -45,4 +46,3 @@ pub mod DroppedLaw
 pub mod DroppedFull
 pub mod DroppedEmpty
 mod DroppedRows
-pub mod OnlyMembers

@@ -15,7 +15,7 @@ use Rattle.cdx_schema.specs.Faults.{to_member, to_item}
 use Rattle.cdx_schema.specs.JsonReading.{first_float, float_of_items, float_of_members, or_else, behind}
 use Rattle.cdx_schema.specs.JsonSpelling.{jspell, items_spelled, members_spelled, own_members, stands, set_member, heading, in_choice}
 
-or_none : {A : Type 0} (x y : Option A) → or_else x y ≡ None → (x ≡ None) × (y ≡ None)
+pub or_none : {A : Type 0} (x y : Option A) → or_else x y ≡ None → (x ≡ None) × (y ≡ None)
 or_none None y h = (refl, h)
 or_none (Some x) y h = absurd (true≢false (ap is_some h))
 

@@ -1,11 +1,12 @@
 -- The laws of bills and roads, as statements.
 use Rattle.serde_json.specs.Data.{depth}
+use Rattle.serde_json.specs.Written.{has_float}
 use Rattle.cdx_models.specs.declared.bom.SpecVersion.TheVariants.{V1_5}
-use Rattle.std.specs.Prelude.{◌≡◌, ◌≤◌, ℕ, zero, suc, ◌⊎◌, ◌↔◌, List, [], ◌∷◌, ◌++◌, length, take, true, Option, Some, None, Ok, Err}
+use Rattle.std.specs.Prelude.{◌≡◌, ◌≤◌, ℕ, zero, suc, ◌⊎◌, ◌↔◌, List, [], ◌∷◌, ◌++◌, length, take, true, false, Option, Some, None, Ok, Err}
 use Rattle.cdx_models.specs.declared.bom.SpecVersion.{SpecVersion}
 use Rattle.cdx_models.specs.Versions.{lowest}
 use Rattle.cdx_models.specs.Trees.{Tree}
-use Rattle.cdx_schema.specs.Kinds.{a_bill}
+use Rattle.cdx_schema.specs.Kinds.{Kind, a_bill}
 use Rattle.cdx_schema.specs.Depth.{top}
 use Rattle.cdx_schema.specs.Membership.{Never, IsOf, HasShape}
 use Rattle.cdx_schema.specs.Keeping.{kept, keep, fits, is_shallow}
@@ -79,6 +80,10 @@ SameOfSame = (b c : Tree) (w : SpecVersion) → IsSame b c → IsSame (keep w b 
 -- The second trip takes the suppliers that have been left without name, url and contact, and a third takes nothing.
 abbrev pub TakesTwice : Type 0
 TakesTwice = (b : Tree) → HasBillShape b → (bare (bare b) ≡ unsupplied (bare b)) × (bare (bare (bare b)) ≡ bare (bare b))
+
+-- No JSON spelling holds a float.
+abbrev pub SpellsNoFloat : Type 0
+SpellsNoFloat = (t : Tree) (w : SpecVersion) (k : Kind) → has_float (jspell t w k) ≡ false
 
 -- The JSON spelling of a bill nests no deeper than 104 arrays and objects.
 abbrev pub Nests : Type 0

@@ -7,12 +7,24 @@ use Rattle.cdx_models.specs.declared.errors.XmlReadError.{XmlReadError}
 use Rattle.cdx_models.specs.declared.errors.XmlReadError.TheVariants.{ElementReadError, UnexpectedElementReadError, RequiredDataMissing, RequiredAttributeMissing, InvalidParseError, InvalidNamespaceError, TooDeep, Memory}
 use Rattle.cdx_schema.specs.XmlReading.{xml_denotes}
 
--- The place of a fault. A namespace is refused at the root's start; want of memory has no place.
+-- Whether an error is a fault of a document. The others are refusals to gather events, an error that is kept for the
+-- crate's sake, and want of memory.
+abbrev pub IsDocumentFault : XmlReadError → Type 0
+IsDocumentFault (UnexpectedElementReadError p around found) = Unit {0}
+IsDocumentFault (RequiredDataMissing p around required_field) = Unit {0}
+IsDocumentFault (InvalidParseError p around value data_type) = Unit {0}
+IsDocumentFault (InvalidNamespaceError expected actual) = Unit {0}
+IsDocumentFault (TooDeep p) = Unit {0}
+IsDocumentFault (ElementReadError kind p) = ⊥
+IsDocumentFault (RequiredAttributeMissing p around attribute) = ⊥
+IsDocumentFault (Memory e) = ⊥
+
+-- The place of a document's fault. A namespace is refused at the root's start.
 abbrev pub fault_place : XmlReadError → ℕ
-fault_place (ElementReadError kind p) = p
+fault_place (ElementReadError kind p) = 0
 fault_place (UnexpectedElementReadError p around found) = p
 fault_place (RequiredDataMissing p around required_field) = p
-fault_place (RequiredAttributeMissing p around attribute) = p
+fault_place (RequiredAttributeMissing p around attribute) = 0
 fault_place (InvalidParseError p around value data_type) = p
 fault_place (InvalidNamespaceError expected actual) = 1
 fault_place (TooDeep p) = p
@@ -33,3 +45,7 @@ IsLocal = (events : List XmlEvent) (b : IsBalanced events) (v : SpecVersion) (f 
 -- The place of a first fault is the place of one of the document's events.
 abbrev pub StandsInside : Type 0
 StandsInside = (events : List XmlEvent) (b : IsBalanced events) (v : SpecVersion) (f : XmlReadError) → xml_denotes (root_of b) v ≡ Err f → fault_place f < length events
+
+-- What a document is refused with is a fault of a document.
+abbrev pub RefusesByFaults : Type 0
+RefusesByFaults = (x : Node) (v : SpecVersion) (f : XmlReadError) → xml_denotes x v ≡ Err f → IsDocumentFault f
