@@ -6,7 +6,7 @@ use Rattle.cdx_models.specs.declared.bom.SpecVersion.{SpecVersion}
 use Rattle.cdx_models.specs.Trees.{Tree, is_absent}
 use Rattle.cdx_schema.specs.Kinds.{Kind}
 use Rattle.cdx_schema.specs.Keeping.{keep}
-use Rattle.cdx_schema.specs.XmlSpelling.{nodes_of, spelled}
+use Rattle.cdx_schema.specs.XmlSpelling.{nodes_of, spelled, xml_document}
 
 -- the element, under a name
 unfoldable pub written : Tree → SpecVersion → List ℕ → Kind → List XmlEvent
@@ -16,15 +16,17 @@ written t w tag k = events_of (spelled (keep w t k) w tag k)
 unfoldable pub inner : Tree → SpecVersion → Kind → List XmlEvent
 inner t w k = events_of_all (nodes_of (keep w t k) w k)
 
--- How a value is written where nothing else names it: under this name, unless its kind has one of its own, or without
--- a tag, which whatever stands around it writes.
+-- How a value is written where nothing else names it: under this name, unless its kind has one of its own; without a
+-- tag, which whatever stands around it writes; or as a document of its own.
 pub data Tag : Type 0 where
   tagged : List ℕ → Tag
   untagged : Tag
+  whole : Tag
 
 abbrev pub spelled_as : Tag → Tree → SpecVersion → Kind → List XmlEvent
 spelled_as (tagged tag) t w k = written t w tag k
 spelled_as untagged t w k = inner t w k
+spelled_as whole t w k = xml_document (keep w t k) w
 
 -- Of what isn't there nothing is written.
 abbrev pub spelling : Tag → Tree → SpecVersion → Kind → List XmlEvent
