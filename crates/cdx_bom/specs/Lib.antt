@@ -3,3 +3,14 @@ pub mod PartTrees
 pub mod Docs
 pub mod Refused
 pub mod Laws
+pub mod Labels
+pub mod Groups
+pub mod Stays
+pub mod Floats
+pub mod Outputs
+pub mod SettledBills
+pub mod Reading
+pub mod RootChecks
+pub mod BillReading
+pub mod BillWriting
+pub mod Hops

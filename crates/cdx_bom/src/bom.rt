@@ -7,7 +7,14 @@ ghost use Rattle.cdx_bom.specs.Trees.{bom_tree};
 
 mod compared;
 mod copied;
+mod fitting;
+mod json;
+mod output;
+mod parsing;
 pub(crate) mod parts;
+mod sending;
+pub(crate) mod settled;
+mod shallow;
 
 use cdx_models::{ExternalReferences, HasTree, Properties, SpecVersion, UrnUuid};
 use cdx_nest::{Components, Metadata, Services};

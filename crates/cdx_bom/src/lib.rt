@@ -1,13 +1,19 @@
-//! Whole bills: their type and tree, copies, and `==`; documents and the laws of roads.
+//! Whole bills: their type and tree, copies, `==`, the versions that they fit, and JSON; documents and the laws of roads;
+//! texts into sinks.
 #![tactic(auto)]
 
 pub mod bom;
 mod doc;
 mod laws;
+pub mod putting;
+mod reading;
 mod refused;
 mod roads;
+mod writing;
 
 pub use bom::Bom;
+pub use bom::settled::same;
 pub use doc::{Doc, Form, Hop, RoadError};
 pub use laws::{roads_join, roads_settle};
-pub use roads::{is_document, one_document};
+pub use putting::{PutError, put_text};
+pub use roads::{is_document, one_document, recode, road};

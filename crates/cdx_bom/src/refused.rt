@@ -1,11 +1,21 @@
-//! The errors of readers as errors of roads.
+//! What is refused: a bill that doesn't fit, and the errors of readers as errors of roads.
 
 ghost use Rattle.std.specs.Prelude.{◌≡◌};
+ghost use Rattle.cdx_models.specs.declared.bom.SpecVersion.{SpecVersion};
+ghost use Rattle.cdx_models.specs.declared.errors.BomError.{BomError};
+ghost use Rattle.cdx_models.specs.declared.errors.Lack.{Lack};
 ghost use Rattle.cdx_bom.specs.Refused.{is_memory};
 
 use crate::doc::RoadError;
-use cdx_models::{JsonReadError, XmlReadError};
+use cdx_models::{BomError, JsonReadError, Lack, SpecVersion, XmlReadError};
 use std::alloc::AllocError;
+
+// Why a bill doesn't fit: 1.3 requires the version of a component, and one has none.
+pub(crate) fn lacks_version() -> BomError
+    ensures { result ≡ BomError.BomSerializationError SpecVersion.V1_3 Lack.VersionMissing }
+{
+    BomError::BomSerializationError(SpecVersion::V1_3, Lack::VersionMissing)
+}
 
 impl From<JsonReadError> for RoadError {
     ghost use Rattle.cdx_bom.specs.Refused.{of_json_error};

@@ -1,11 +1,22 @@
-//! Documents beside those of the schema.
+//! Documents beside those of the schema, and roads.
 
-ghost use Rattle.std.specs.Prelude.{◌≡◌};
+ghost use Rattle.std.specs.Prelude.{◌≡◌, IfOk, Ok, Some};
+ghost use Rattle.cdx_models.specs.declared.bom.SpecVersion.{SpecVersion};
 ghost use Rattle.cdx_schema.specs.Roads as roads;
 ghost use Rattle.cdx_bom.specs.declared.doc.Doc.{Doc};
-ghost use Rattle.cdx_bom.specs.Docs.{IsDoc};
+ghost use Rattle.cdx_bom.specs.Trees.{bom_tree};
+ghost use Rattle.cdx_bom.specs.Docs.{IsDoc, hop_of, hops_of, refusal_of, Answers, AnswersRoad, AnswersHop};
+ghost use Rattle.cdx_bom.specs.Hops.{any_first, Denotes, spelled, rewritten, AnswersDoc};
 
-use crate::doc::Doc;
+use crate::bom::Bom;
+use crate::doc::{Doc, Form, Hop, RoadError};
+use crate::refused::lacks_version;
+use crate::writing::events_of;
+use cdx_events::List;
+use cdx_json::ToJson;
+use cdx_leaf::FromXmlDocument;
+use cdx_models::SpecVersion;
+use std::alloc::{AllocError, Global};
 
 /// The document is one of the schema: the value that it holds, or the root that its events are the document of.
 pub fn is_document(doc: &Doc)
@@ -23,3 +34,113 @@ pub fn is_document(doc: &Doc)
 pub fn one_document()
     ensures { (document : Doc) (x y : roads.Doc) → IsDoc document x → IsDoc document y → x ≡ y }
 {}
+
+// The bill that the document denotes, or its first fault.
+fn bill_of(alloc: Global, doc: &Doc, v: SpecVersion) -> Result<Bom, RoadError>
+    ensures { (x : roads.Doc) → IsDoc doc.now x → Denotes (roads.denotes x v) result }
+{
+    match doc {
+        Doc::Json(value) => Ok(Bom::parse_json(alloc, value, v)?),
+        Doc::Xml(events) => Ok(Bom::read_xml_document(alloc, events, v)?),
+    }
+}
+
+// The document that a hop makes of the bill.
+fn spell(alloc: Global, bill: &Bom, hop: Hop) -> Result<Doc, AllocError>
+    ensures { IfOk result (λ d. IsDoc d (spelled (bom_tree bill.now) (hop_of hop))) }
+{
+    match hop.form {
+        Form::Json => Ok(Doc::Json(bill.to_value(alloc, hop.version)?)),
+        Form::Xml => Ok(Doc::Xml(events_of(bill, alloc, hop.version)?)),
+    }
+}
+
+// The document that a hop makes of the one before it, which stands in the version.
+fn rewrite(alloc: Global, doc: &Doc, v: SpecVersion, hop: Hop) -> Result<Doc, RoadError>
+    ensures { (x : roads.Doc) → IsDoc doc.now x → AnswersDoc (rewritten x v (hop_of hop)) result }
+{
+    let before = bill_of(alloc, doc, v)?;
+    Ok(spell(alloc, &before, hop)?)
+}
+
+// Whether a hop is written in 1.3, which asks each component for a version.
+fn asks_versions(hops: &[Hop]) -> bool
+    ensures { result ≡ any_first (hops_of hops.now) }
+{
+    for hop in hops {
+        if hop.version == SpecVersion::V1_3 {
+            return true;
+        }
+    }
+    false
+}
+
+#[tactic(auto, using(crate::proofs::Carried::asked))]
+fn fits_all(bill: &Bom, hops: &[Hop]) -> bool
+    ensures { result ≡ roads.fits_all (hops_of hops.now) (bom_tree bill.now) }
+{
+    !asks_versions(hops) || bill.fits(SpecVersion::V1_3)
+}
+
+fn version_missing() -> RoadError
+    ensures { refusal_of result ≡ Some roads.version_missing }
+{
+    RoadError::Bom(lacks_version())
+}
+
+// The documents of the hops, each of the document before it, the first of which is one that denotes the bill.
+fn along(alloc: Global, bill: Bom, hops: &[Hop]) -> Result<List<Doc>, RoadError>
+    ensures { (x : roads.Doc) (v : SpecVersion) → roads.denotes x v ≡ Ok (bom_tree bill) → Answers (roads.hops_from x v (hops_of hops.now)) result }
+{
+    let mut docs = List::new(alloc);
+    let Some((first, rest)) = hops.split_first() else {
+        return Ok(docs);
+    };
+    let mut last = spell(alloc, &bill, *first)?;
+    let mut version = first.version;
+    for hop in rest {
+        let next = rewrite(alloc, &last, version, *hop)?;
+        docs.push(last)?;
+        last = next;
+        version = hop.version;
+    }
+    docs.push(last)?;
+    Ok(docs)
+}
+
+/// The documents of a road: each hop reads the document before it, in the version in which that was written, and
+/// writes what its own version keeps of the bill, in its form. No hops make no documents.
+///
+/// `Json` or `Xml` is the first fault of `doc`, read in `v`. Else `Bom(BomSerializationError(V1_3, VersionMissing))`
+/// comes exactly where a hop is in 1.3 and a component of the bill, outside of tools, has no version. Want of memory
+/// comes only as `Memory`. A refused road gives no document.
+pub fn road(alloc: Global, doc: &Doc, v: SpecVersion, hops: &[Hop]) -> Result<List<Doc>, RoadError>
+    ensures { AnswersRoad doc.now v hops.now result }
+{
+    let bill = bill_of(alloc, doc, v)?;
+    if !fits_all(&bill, hops) {
+        return Err(version_missing());
+    }
+    along(alloc, bill, hops)
+}
+
+/// The road of one hop.
+pub fn recode(
+    alloc: Global,
+    doc: &Doc,
+    v: SpecVersion,
+    to: Form,
+    w: SpecVersion,
+) -> Result<Doc, RoadError>
+    ensures { AnswersHop doc.now v (record { form = to; version = w }) result }
+{
+    let read = bill_of(alloc, doc, v)?;
+    if !read.fits(w) {
+        return Err(version_missing());
+    }
+    let hop = Hop {
+        form: to,
+        version: w,
+    };
+    Ok(spell(alloc, &read, hop)?)
+}

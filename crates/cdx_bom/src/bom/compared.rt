@@ -7,7 +7,7 @@ ghost use Rattle.cdx_bom.specs.Trees.{bom_tree, identity, contents, inventory, r
 use crate::bom::Bom;
 use cdx_models::{SpecVersion, same_row};
 
-fn same_label(one: SpecVersion, other: SpecVersion) -> bool
+pub(crate) fn same_label(one: SpecVersion, other: SpecVersion) -> bool
     ensures { result ≡ same (label_tree one) (label_tree other) }
 {
     one.as_str() == other.as_str()

@@ -1,0 +1,203 @@
+-- Steps of a road.
+use Rattle.std.proofs.Common.{◌≡◌, refl, sym, ap, subst, ◌∙◌, List, [], ◌∷◌, ◌++◌, map, Bool, true, false, Some, Result, Ok, Err}
+use Rattle.std.specs.Prelude.{not, ◌&&◌, ◌||◌, if◌then◌else◌}
+use Rattle.serde_json.specs.View.{view}
+use Rattle.serde_json.specs.declared.value.Value.{Value}
+use Rattle.cdx_events.specs.declared.events.Events.{Events}
+use Rattle.cdx_events.specs.Nodes.{Node, document}
+use Rattle.cdx_models.specs.declared.bom.SpecVersion.{SpecVersion}
+use Rattle.cdx_models.specs.declared.bom.SpecVersion.TheVariants.{V1_3, V1_4, V1_5}
+use Rattle.cdx_models.specs.declared.errors.JsonReadError.{JsonReadError}
+use Rattle.cdx_models.specs.declared.errors.JsonReadError.TheVariants as in_json
+use Rattle.cdx_models.specs.declared.errors.XmlReadError.{XmlReadError}
+use Rattle.cdx_models.specs.declared.errors.XmlReadError.TheVariants.{ElementReadError, UnexpectedElementReadError, RequiredDataMissing, RequiredAttributeMissing, InvalidParseError, InvalidNamespaceError, TooDeep, Memory}
+use Rattle.cdx_models.specs.Trees.{Tree}
+use Rattle.cdx_models.specs.Versions.{is_first}
+use Rattle.cdx_schema.specs.Faults.{JsonFault}
+use Rattle.cdx_schema.specs.Kinds.{a_bill}
+use Rattle.cdx_schema.specs.Keeping.{fits, has_versions}
+use Rattle.cdx_schema.specs.JsonReading.{json_denotes}
+use Rattle.cdx_schema.specs.XmlReading.{xml_denotes}
+use Rattle.cdx_schema.specs.Results.{◌>>=◌}
+use Rattle.cdx_schema.specs.Trips as trips
+use Rattle.cdx_schema.specs.Roads as roads
+use Rattle.cdx_schema.specs.Roads.{Refusal, of_json, of_xml, version_missing, from_json, from_xml, denotes, fits_all, hops_from, road}
+use Rattle.cdx_leaf.specs.Reading.{ReadsDocument}
+use Rattle.cdx_json.specs.Gives.{Gives, Fails}
+use Rattle.cdx_leaf.specs.Fault as leaf
+use Rattle.cdx_bom.specs.declared.bom.Bom.{Bom}
+use Rattle.cdx_bom.specs.declared.doc.Doc.{Doc}
+use Rattle.cdx_bom.specs.declared.doc.Doc.TheVariants as doc
+use Rattle.cdx_bom.specs.declared.doc.Hop.{Hop}
+use Rattle.cdx_bom.specs.declared.doc.RoadError.{RoadError}
+use Rattle.cdx_bom.specs.declared.doc.RoadError.TheVariants as error
+use Rattle.cdx_bom.specs.Trees.{bom_tree}
+use Rattle.cdx_bom.specs.Docs.{IsDoc, AreDocs, refusal_of, Refuses, Answers, alone, hop_of, hops_of}
+use Rattle.cdx_bom.specs.Refused.{of_json_error, of_xml_error}
+use Rattle.cdx_bom.specs.Hops.{any_first, Denotes, spelled, rewritten, AnswersDoc}
+
+-- ---- refusals
+
+-- what is refused in a first step is refused in all
+pub refused_on : {A B : Type 0} (e : RoadError) (r : Result A Refusal) (f : A → Result B Refusal) → Refuses r e → Refuses (r >>= f) e
+refused_on (error.Memory m) r f h = tt
+refused_on (error.Json e) r f h = (h.0, h.1, ap (λ q. q >>= f) h.2)
+refused_on (error.Xml e) r f h = (h.0, h.1, ap (λ q. q >>= f) h.2)
+refused_on (error.Bom e) r f h = (h.0, h.1, ap (λ q. q >>= f) h.2)
+
+-- and what is equal to that is refused as well
+pub refused_as : {A B : Type 0} (e : RoadError) (r : Result A Refusal) (q : Result B Refusal) → ((f : Refusal) → r ≡ Err f → q ≡ Err f) → Refuses r e → Refuses q e
+refused_as (error.Memory m) r q g h = tt
+refused_as (error.Json e) r q g h = (h.0, h.1, g h.0 h.2)
+refused_as (error.Xml e) r q g h = (h.0, h.1, g h.0 h.2)
+refused_as (error.Bom e) r q g h = (h.0, h.1, g h.0 h.2)
+
+-- ---- readers
+
+json_refuses : {A : Type 0} (e : JsonReadError) (owed : Result A JsonFault) → Fails e owed → Refuses (from_json owed) (of_json_error e)
+json_refuses (in_json.Memory m) owed h = tt
+json_refuses (in_json.BomError b) owed h = absurd h
+json_refuses (in_json.JsonElementReadError path kind) owed h = (of_json (record { path = path.0; cause = kind }), refl, ap from_json h)
+
+xml_refuses : (e : XmlReadError) (owed : Result Tree XmlReadError) → leaf.Denotes bom_tree owed (Err e) → Refuses (from_xml owed) (of_xml_error e)
+xml_refuses (Memory m) owed h = tt
+xml_refuses (ElementReadError k p) owed h = (of_xml (ElementReadError k p), refl, ap from_xml h)
+xml_refuses (UnexpectedElementReadError p el k) owed h = (of_xml (UnexpectedElementReadError p el k), refl, ap from_xml h)
+xml_refuses (RequiredDataMissing p el k) owed h = (of_xml (RequiredDataMissing p el k), refl, ap from_xml h)
+xml_refuses (RequiredAttributeMissing p el k) owed h = (of_xml (RequiredAttributeMissing p el k), refl, ap from_xml h)
+xml_refuses (InvalidParseError p el k t) owed h = (of_xml (InvalidParseError p el k t), refl, ap from_xml h)
+xml_refuses (InvalidNamespaceError x y) owed h = (of_xml (InvalidNamespaceError x y), refl, ap from_xml h)
+xml_refuses (TooDeep p) owed h = (of_xml (TooDeep p), refl, ap from_xml h)
+
+-- The error that a reader has answered is the document's refusal.
+pub json_fault : (d : Doc) (value : Value) (x : roads.Doc) (v : SpecVersion) (e : JsonReadError) → d ≡ doc.Json value → IsDoc d x → Fails e (json_denotes (view value) v) → Refuses (denotes x v) (of_json_error e)
+json_fault d value x v e is p h = by x (subst (λ z. IsDoc z x) is p)
+  where
+    by : (y : roads.Doc) → IsDoc (doc.Json value) y → Refuses (denotes y v) (of_json_error e)
+    by (roads.json y) q = subst (λ z. Refuses (from_json (json_denotes z v)) (of_json_error e)) q (json_refuses e (json_denotes (view value) v) h)
+    by (roads.xml y) q = absurd q
+
+pub xml_fault : (d : Doc) (events : Events) (x : roads.Doc) (v : SpecVersion) (e : XmlReadError) → d ≡ doc.Xml events → IsDoc d x → ReadsDocument bom_tree events.list v a_bill (Err e) → Refuses (denotes x v) (of_xml_error e)
+xml_fault d events x v e is p h = by x (subst (λ z. IsDoc z x) is p)
+  where
+    by : (y : roads.Doc) → IsDoc (doc.Xml events) y → Refuses (denotes y v) (of_xml_error e)
+    by (roads.json y) q = absurd q
+    by (roads.xml y) q = xml_refuses e (xml_denotes y v) (h y q)
+
+-- ---- the documents of a road
+
+-- These documents and then the last one, in its version, stand for the road so far; the rest of the hops goes on from there.
+pub record IsAlong (bill : Bom) (hops rest : List Hop) (docs : List Doc) (final : Doc) (version : SpecVersion) : Type 0 where
+  pub ys : List roads.Doc
+  pub z : roads.Doc
+  pub are : AreDocs docs ys
+  pub is : IsDoc final z
+  pub whole : (x : roads.Doc) (v : SpecVersion) → denotes x v ≡ Ok (bom_tree bill) → hops_from x v (hops_of hops) ≡ (hops_from z version (hops_of rest) >>= λ more. Ok (ys ++ z ∷ more))
+
+append_again : {A : Type 0} (xs : List A) (y : A) (ys : List A) → xs ++ y ∷ ys ≡ (xs ++ y ∷ []) ++ ys
+append_again [] y ys = refl
+append_again (x ∷ xs) y ys = ap (x ∷◌) (append_again xs y ys)
+
+one_more_doc : (ds : List Doc) (ys : List roads.Doc) (d : Doc) (y : roads.Doc) → AreDocs ds ys → IsDoc d y → AreDocs (ds ++ d ∷ []) (ys ++ y ∷ [])
+one_more_doc [] [] d y a i = (i, tt)
+one_more_doc [] (z ∷ ys) d y a i = absurd a
+one_more_doc (e ∷ ds) [] d y a i = absurd a
+one_more_doc (e ∷ ds) (z ∷ ys) d y a i = (a.0, one_more_doc ds ys d y a.1 i)
+
+module _ (bill : Bom) (hops : List Hop) where
+  -- the first hop
+  pub begins : (h : Hop) (rest : List Hop) (d : Doc) → hops ≡ h ∷ rest → IsDoc d (spelled (bom_tree bill) (hop_of h)) → IsAlong bill hops rest [] d h.version
+  begins h rest d is p = record {
+    ys = [];
+    z = spelled (bom_tree bill) (hop_of h);
+    are = tt;
+    is = p;
+    whole = λ x v e. ap (λ hs. hops_from x v (hops_of hs)) is ∙ ap (λ r. r >>= λ b. hops_from (spelled b (hop_of h)) h.version (hops_of rest) >>= λ more. Ok (spelled b (hop_of h) ∷ more)) e;
+  }
+
+  -- one more
+  pub goes_on : (h : Hop) (rest : List Hop) (docs : List Doc) (final next : Doc) (v : SpecVersion) (a : IsAlong bill hops (h ∷ rest) docs final v) (y : roads.Doc) → rewritten a.z v (hop_of h) ≡ Ok y → IsDoc next y → IsAlong bill hops rest (docs ++ final ∷ []) next h.version
+  goes_on h rest docs final next v a y e p = record {
+    ys = a.ys ++ a.z ∷ [];
+    z = y;
+    are = one_more_doc docs a.ys final a.z a.are a.is;
+    is = p;
+    whole = λ x w d. a.whole x w d ∙ by (denotes a.z v) e;
+  }
+    where
+      by : (r : Result Tree Refusal) → (r >>= λ b. Ok (spelled b (hop_of h))) ≡ Ok y
+          → ((r >>= λ b. hops_from (spelled b (hop_of h)) h.version (hops_of rest) >>= λ more. Ok (spelled b (hop_of h) ∷ more)) >>= λ more. Ok (a.ys ++ a.z ∷ more)) ≡ (hops_from y h.version (hops_of rest) >>= λ more. Ok ((a.ys ++ a.z ∷ []) ++ y ∷ more))
+      by (Ok b) i =
+          let same : spelled b (hop_of h) ≡ y = cc in
+          ap (λ u. (hops_from u h.version (hops_of rest) >>= λ more. Ok (u ∷ more)) >>= λ more. Ok (a.ys ++ a.z ∷ more)) same ∙ joined (hops_from y h.version (hops_of rest))
+        where
+          joined : (r : Result (List roads.Doc) Refusal) → ((r >>= λ more. Ok (y ∷ more)) >>= λ more. Ok (a.ys ++ a.z ∷ more)) ≡ (r >>= λ more. Ok ((a.ys ++ a.z ∷ []) ++ y ∷ more))
+          joined (Ok more) = ap Ok (append_again a.ys a.z (y ∷ more))
+          joined (Err f) = refl
+      by (Err f) i = absurd cc
+
+  -- a hop is refused
+  pub stops : (h : Hop) (rest : List Hop) (docs : List Doc) (final : Doc) (v : SpecVersion) (a : IsAlong bill hops (h ∷ rest) docs final v) (e : RoadError) → Refuses (rewritten a.z v (hop_of h)) e
+      → (x : roads.Doc) (w : SpecVersion) → denotes x w ≡ Ok (bom_tree bill) → Refuses (hops_from x w (hops_of hops)) e
+  stops h rest docs final v a e r x w d = refused_as e (rewritten a.z v (hop_of h)) (hops_from x w (hops_of hops)) (λ f is. a.whole x w d ∙ by (denotes a.z v) f is) r
+    where
+      by : (r : Result Tree Refusal) (f : Refusal) → (r >>= λ b. Ok (spelled b (hop_of h))) ≡ Err f
+          → ((r >>= λ b. hops_from (spelled b (hop_of h)) h.version (hops_of rest) >>= λ more. Ok (spelled b (hop_of h) ∷ more)) >>= λ more. Ok (a.ys ++ a.z ∷ more)) ≡ Err f
+      by (Ok b) f i = absurd cc
+      by (Err g) f i = cc
+
+  -- no hop is left
+  pub ends : (docs : List Doc) (final : Doc) (v : SpecVersion) (a : IsAlong bill hops [] docs final v) (x : roads.Doc) (w : SpecVersion) → denotes x w ≡ Ok (bom_tree bill) → Answers (hops_from x w (hops_of hops)) (Ok (docs ++ final ∷ []))
+  ends docs final v a x w d = (a.ys ++ a.z ∷ [], a.whole x w d, one_more_doc docs a.ys final a.z a.are a.is)
+
+-- ---- versions
+
+pub asked : (hops : List trips.Hop) (b : Tree) → fits_all hops b ≡ (not (any_first hops) || has_versions b a_bill)
+asked [] b = refl
+asked (h ∷ hs) b = by (is_first h.version) (has_versions b a_bill) (any_first hs) (fits_all hs b) (asked hs b)
+  where
+    by : (f g r a : Bool) → a ≡ (not r || g) → ((not f || g) && a) ≡ (not (f || r) || g)
+    by true true r a e = e ∙ all r
+      where
+        all : (s : Bool) → (not s || true) ≡ true
+        all true = refl
+        all false = refl
+    by true false r a e = refl
+    by false g r a e = e
+
+-- ---- whole roads
+
+this_refusal : {A : Type 0} (e : RoadError) (r : Refusal) (owed : Result A Refusal) → refusal_of e ≡ Some r → owed ≡ Err r → Refuses owed e
+this_refusal (error.Memory m) r owed h i = tt
+this_refusal (error.Json e) r owed h i = (r, h, i)
+this_refusal (error.Xml e) r owed h i = (r, h, i)
+this_refusal (error.Bom e) r owed h i = (r, h, i)
+
+abbrev after_bill : roads.Doc → SpecVersion → List trips.Hop → Tree → Result (List roads.Doc) Refusal
+after_bill x v hs b = if fits_all hs b then hops_from x v hs else Err version_missing
+
+-- the document is refused
+pub fault_first : (e : RoadError) (x : roads.Doc) (v : SpecVersion) (hs : List trips.Hop) → Refuses (denotes x v) e → Refuses (road x v hs) e
+fault_first e x v hs h = refused_on e (denotes x v) (after_bill x v hs) h
+
+-- a version is missing
+pub missing_then : (e : RoadError) (x : roads.Doc) (v : SpecVersion) (hs : List trips.Hop) (b : Tree) → denotes x v ≡ Ok b → fits_all hs b ≡ false → refusal_of e ≡ Some version_missing → Refuses (road x v hs) e
+missing_then e x v hs b d f r = this_refusal e version_missing (road x v hs) r (ap (λ q. q >>= after_bill x v hs) d ∙ ap (λ (c : Bool). if c then hops_from x v hs else Err version_missing) f)
+
+-- the hops make the documents
+pub hops_then : (result : Result (List Doc) RoadError) (x : roads.Doc) (v : SpecVersion) (hs : List trips.Hop) (b : Tree) → denotes x v ≡ Ok b → fits_all hs b ≡ true → Answers (hops_from x v hs) result → Answers (road x v hs) result
+hops_then result x v hs b d f h =
+    let same : road x v hs ≡ hops_from x v hs = ap (λ q. q >>= after_bill x v hs) d ∙ ap (λ (c : Bool). if c then hops_from x v hs else Err version_missing) f in
+    subst (λ r. Answers r result) (sym same) h
+
+-- ---- roads of one hop
+
+pub fits_one : (h : trips.Hop) (b : Tree) (c : Bool) → fits h.version b a_bill ≡ c → fits_all (h ∷ []) b ≡ c
+fits_one h b c e = alone_and (fits h.version b a_bill) ∙ e
+  where
+    alone_and : (f : Bool) → (f && true) ≡ f
+    alone_and true = refl
+    alone_and false = refl
+
+pub one_hop : (d : Doc) (x : roads.Doc) (v : SpecVersion) (h : trips.Hop) (b : Tree) → denotes x v ≡ Ok b → fits h.version b a_bill ≡ true → IsDoc d (spelled b h) → Answers (road x v (h ∷ [])) (alone (Ok d))
+one_hop d x v h b e f i = hops_then (Ok (d ∷ [])) x v (h ∷ []) b e (fits_one h b true f) (spelled b h ∷ [], ap (λ r. r >>= λ c. Ok (spelled c h ∷ [])) e, (i, tt))

@@ -1,0 +1,117 @@
+//! Bills in JSON.
+
+ghost use Rattle.std.specs.Prelude.{◌≡◌, OnOk};
+ghost use Rattle.serde_json.specs.Data.{no_members};
+ghost use Rattle.serde_json.specs.View.{members_view};
+ghost use Rattle.cdx_models.specs.Trees.{bill};
+ghost use Rattle.cdx_schema.specs.Kinds.{a_bill};
+ghost use Rattle.cdx_schema.specs.JsonReading.{seen};
+ghost use Rattle.cdx_schema.specs.JsonSpelling.{heading};
+ghost use Rattle.cdx_json.specs.Depths.{depth_of};
+ghost use Rattle.cdx_json.specs.Gives.{Gives};
+ghost use Rattle.cdx_bom.specs.Trees.{bom_tree};
+ghost use Rattle.cdx_bom.specs.Groups.{format_text, format_of, bill_by_groups};
+ghost use Rattle.cdx_bom.specs.Stays.{bill_stays};
+
+mod floats;
+mod keeping;
+mod label;
+mod reading;
+mod writing;
+
+use crate::bom::Bom;
+use crate::bom::parts::assemble;
+use cdx_events::Text;
+use cdx_json::{Depth, FromJson, Kept, Kinded, ToJson, at_member, here, required_row};
+use cdx_models::{JsonKind, JsonReadError, SpecVersion};
+pub(crate) use floats::refuse_floats;
+use keeping::{keep_inventory, keep_relations};
+use reading::{read_inventory, read_relations};
+use serde_json::{Map, Value};
+use std::alloc::{AllocError, Global};
+use writing::{put_inventory, put_relations};
+
+impl Kinded for Bom {
+    ghost kind = { a_bill };
+}
+
+impl FromJson for Bom {
+    fn from_json_at(
+        alloc: Global,
+        value: &Value,
+        version: SpecVersion,
+        depth: Depth,
+    ) -> Result<Bom, JsonReadError> {
+        match value.as_object() {
+            None => Err(here(alloc, JsonKind::WrongKind)),
+            Some(map) => bom_from_members(alloc, map, version, depth),
+        }
+    }
+}
+
+impl Kept for Bom {
+    ghost stays = { bill_stays };
+
+    fn kept_as(
+        &self,
+        alloc: Global,
+        version: SpecVersion,
+        label: SpecVersion,
+    ) -> Result<Bom, AllocError> {
+        let inventory = keep_inventory(self, alloc, version, label)?;
+        let relations = keep_relations(self, alloc, version, label)?;
+        Ok(assemble(inventory, relations))
+    }
+}
+
+impl ToJson for Bom {
+    fn to_value(&self, alloc: Global, version: SpecVersion) -> Result<Value, AllocError> {
+        let mut map = Map::new(alloc);
+        put_format(alloc, &mut map)?;
+        put_inventory(self, alloc, &mut map, version)?;
+        put_relations(self, alloc, &mut map, version)?;
+        Ok(Value::Object(map))
+    }
+}
+
+// The bill whose members these are, or the first fault.
+fn bom_from_members(
+    alloc: Global,
+    map: &Map<String, Value>,
+    version: SpecVersion,
+    depth: Depth,
+) -> Result<Bom, JsonReadError>
+    ensures { Gives bom_tree result
+        (bill_by_groups (seen (members_view map.now.entries)) version (depth_of depth)) }
+{
+    read_format(alloc, map, version, depth)?;
+    let inventory = read_inventory(alloc, map, version, depth)?;
+    let relations = read_relations(alloc, map, version, depth)?;
+    Ok(assemble(inventory, relations))
+}
+
+// The format's name, which each bill in JSON tells.
+const FORMAT: &str = "CycloneDX";
+
+fn read_format(
+    alloc: Global,
+    map: &Map<String, Value>,
+    version: SpecVersion,
+    depth: Depth,
+) -> Result<(), JsonReadError>
+    ensures { Gives format_text result (format_of (seen (members_view map.now.entries)) version (depth_of depth)) }
+{
+    let format: Text = required_row(alloc, map, "bomFormat", version, depth)?;
+    if format.is(FORMAT) {
+        Ok(())
+    } else {
+        Err(at_member(alloc, "bomFormat", here(alloc, JsonKind::BadFormat)))
+    }
+}
+
+fn put_format(alloc: Global, map: &mut Map<String, Value>) -> Result<(), AllocError>
+    requires { members_view map.now.entries ≡ no_members }
+    ensures { OnOk result (members_view map.new.entries ≡ heading bill) }
+{
+    serde_json::put(map, alloc, "bomFormat", Value::try_from_str(alloc, FORMAT)?)
+}

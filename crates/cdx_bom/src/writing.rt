@@ -1,0 +1,7 @@
+//! Bills as XML events.
+
+mod calls;
+mod document;
+mod rows;
+
+pub(crate) use document::events_of;

@@ -1,0 +1,128 @@
+//! Whole documents of bills.
+
+ghost use Rattle.std.specs.Prelude.{◌≡◌, [], ◌∷◌, true, IfOk};
+ghost use Rattle.cdx_models.specs.Trees.{bill};
+ghost use Rattle.cdx_schema.specs.Kinds.{a_bill};
+ghost use Rattle.cdx_schema.specs.Keeping.{keep};
+ghost use Rattle.cdx_schema.specs.Table.{rows};
+ghost use Rattle.cdx_schema.specs.XmlSpelling.{xml_document};
+ghost use Rattle.cdx_write.specs.Spelling.{whole};
+ghost use Rattle.cdx_write.specs.WrittenRows.{parts, rows_written};
+ghost use Rattle.cdx_write.specs.Writing.{Appends};
+ghost use Rattle.cdx_bom.specs.Trees.{bom_tree};
+ghost use Rattle.cdx_bom.specs.BillWriting.{root_start};
+
+use crate::bom::Bom;
+use crate::writing::rows::{root_attributes, write_inventory_rows, write_relations_rows};
+use cdx_events::{EventWriter, Events, EventsError, Namespace, OwnedName, Text, XmlEvent};
+use cdx_leaf::namespace_of;
+use cdx_models::{SpecVersion, XmlWriteError};
+use cdx_write::{ToXml, write_close_tag};
+use std::alloc::{AllocError, Global};
+
+fn write_start(writer: &mut EventWriter) -> Result<(), XmlWriteError>
+    ensures { Appends writer.old writer.new (XmlEvent.StartDocument ∷ []) result }
+{
+    writer.write(XmlEvent::StartDocument)?;
+    Ok(())
+}
+
+fn write_end(writer: &mut EventWriter) -> Result<(), XmlWriteError>
+    ensures { Appends writer.old writer.new (XmlEvent.EndDocument ∷ []) result }
+{
+    writer.write(XmlEvent::EndDocument)?;
+    Ok(())
+}
+
+// The version's namespace is the root's default.
+fn write_root_start(
+    held: &Bom,
+    alloc: Global,
+    writer: &mut EventWriter,
+    w: SpecVersion,
+) -> Result<(), XmlWriteError>
+    ensures { Appends writer.old writer.new (root_start (bom_tree held.now) w ∷ []) result }
+{
+    let attributes = root_attributes(held, alloc, w)?;
+    let name = OwnedName::local(alloc, "bom")?;
+    let default = Text::new(alloc, namespace_of(w))?;
+    writer.write(XmlEvent::StartElement {
+        name,
+        attributes,
+        namespace: Namespace {
+            default: Some(default),
+        },
+    })?;
+    Ok(())
+}
+
+// What stands between the root's tags.
+fn write_rows(
+    held: &Bom,
+    alloc: Global,
+    writer: &mut EventWriter,
+    w: SpecVersion,
+) -> Result<(), XmlWriteError>
+    ensures { Appends writer.old writer.new (rows_written (parts (bom_tree held.now)) w (rows bill)) result }
+{
+    write_inventory_rows(held, alloc, writer, w)?;
+    write_relations_rows(held, alloc, writer, w)
+}
+
+// The document of what the version keeps. Only want of memory is refused; the writer then has a prefix of that.
+fn write_document(
+    held: &Bom,
+    alloc: Global,
+    writer: &mut EventWriter,
+    w: SpecVersion,
+) -> Result<(), XmlWriteError>
+    ensures { Appends writer.old writer.new (xml_document (keep w (bom_tree held.now) a_bill) w) result }
+{
+    write_start(writer)?;
+    write_root_start(held, alloc, writer, w)?;
+    write_rows(held, alloc, writer, w)?;
+    write_close_tag(alloc, writer, "bom")?;
+    write_end(writer)
+}
+
+impl ToXml for Bom {
+    ghost shown = { bom_tree };
+
+    ghost kind = { a_bill };
+
+    ghost tag = { whole };
+
+    ghost counts = { λ _. true };
+
+    /// The whole document: its start, the root with the version's namespace, and its end.
+    fn write_xml_element(
+        &self,
+        alloc: Global,
+        writer: &mut EventWriter,
+        w: SpecVersion,
+    ) -> Result<(), XmlWriteError> {
+        write_document(self, alloc, writer, w)
+    }
+
+    fn will_write(&self) -> bool {
+        true
+    }
+}
+
+/// The events of the document of what the version keeps. Only want of memory is refused.
+pub(crate) fn events_of(held: &Bom, alloc: Global, w: SpecVersion) -> Result<Events, AllocError>
+    ensures { IfOk result (λ e. e.list ≡ xml_document (keep w (bom_tree held.now) a_bill) w) }
+{
+    let mut writer = EventWriter::new(alloc);
+    match write_document(held, alloc, &mut writer, w) {
+        Ok(()) => {}
+        Err(XmlWriteError::Memory(error)) => return Err(error),
+        Err(XmlWriteError::BomError(_)) => unreachable!(),
+        Err(XmlWriteError::XmlElementWriteError { .. }) => unreachable!(),
+    }
+    match writer.finish() {
+        Ok(events) => Ok(events),
+        Err(EventsError::Memory(error)) => Err(error),
+        Err(EventsError::Unbalanced { .. }) => unreachable!(),
+    }
+}
