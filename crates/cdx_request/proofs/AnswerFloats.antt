@@ -1,9 +1,8 @@
 -- No answer of documents holds a float.
-use Rattle.std.proofs.Common.{◌≡◌, ℕ, suc, List, [], ◌∷◌, map, codes, Bool, true, false, ◌||◌, cond, Option, Some, None, Result, Ok, Err, Ordering, Less, Equal, Greater, refl, sym, ap, subst}
+use Rattle.std.proofs.Common.{◌≡◌, ℕ, List, [], ◌∷◌, map, codes, Bool, true, false, ◌||◌, cond, Option, Some, None, Result, Ok, Err, Ordering, Less, Equal, Greater, refl, sym, ap, subst}
 use Rattle.std.specs.Ordering.{nat_cmp, match_ordering}
 use Rattle.std.specs.Cmp.Lexicographic.{slice_cmp}
-use Rattle.std.proofs.lemmas.Option.{none-some}
-use Rattle.serde_json.specs.Data.{unsigned, negative, float, Data, null, boolean, number, string, array, object, Items, no_items, item, Members, no_members, member, put}
+use Rattle.serde_json.specs.Data.{Data, string, Members, no_members, member, put}
 use Rattle.serde_json.specs.View.{items_of}
 use Rattle.serde_json.specs.Written.{has_float, items_have_float, members_have_float}
 use Rattle.cdx_events.specs.Nodes.{document}
@@ -12,12 +11,9 @@ use Rattle.cdx_events.specs.declared.name.OwnedAttribute.{OwnedAttribute}
 use Rattle.cdx_events.specs.declared.event.XmlEvent.{XmlEvent}
 use Rattle.cdx_events.specs.declared.event.XmlEvent.TheVariants.{StartDocument, EndDocument, StartElement, EndElement, Characters, CData}
 use Rattle.cdx_models.specs.declared.bom.SpecVersion.{SpecVersion}
-use Rattle.cdx_models.specs.declared.errors.Step.{Step}
 use Rattle.cdx_models.specs.Trees.{Tree}
-use Rattle.cdx_schema.specs.Faults.{to_member, to_item}
 use Rattle.cdx_schema.specs.Kinds.{a_bill}
 use Rattle.cdx_schema.specs.Results.{◌>>=◌}
-use Rattle.cdx_schema.specs.JsonReading.{first_float, float_of_items, float_of_members, or_else, behind}
 use Rattle.cdx_schema.specs.JsonSpelling.{jspell}
 use Rattle.cdx_schema.specs.XmlSpelling.{root}
 use Rattle.cdx_schema.specs.Keeping.{keep}
@@ -27,45 +23,7 @@ use Rattle.cdx_schema.specs.Roads.{Doc, of_json, of_xml, version_missing, denote
 use Rattle.cdx_request.specs.EventValues.{with_text, named, attribute_value, with_attributes, event_value}
 use Rattle.cdx_request.specs.Replies.{doc_value}
 use Rattle.cdx_request.specs.Served.{NoFloats, NoFloatRefused}
-use Rattle.cdx_schema.proofs.NoFloats.{no_float}
-
-neither : (a b : Bool) → a ≡ false → b ≡ false → (a || b) ≡ false
-neither a b p q = rw (p, q) refl
-
--- ---- a value without a first float has none
-
-nor : {A : Type 0} (x y : Option A) → or_else x y ≡ None → (x ≡ None) × (y ≡ None)
-nor None y h = (refl, h)
-nor (Some x) y h = absurd (none-some x (sym h))
-
-not_behind : (s : Step) (o : Option (List Step)) → behind s o ≡ None → o ≡ None
-not_behind s None h = refl
-not_behind s (Some p) h = absurd (none-some (s ∷ p) (sym h))
-
-mutual
-  unfolding first_float
-
-  pub clear : (d : Data) → first_float d ≡ None → has_float d ≡ false
-  clear null h = refl
-  clear (boolean b) h = refl
-  clear (number (unsigned n)) h = refl
-  clear (number (negative z)) h = refl
-  clear (number (float x)) h = absurd (none-some {A = List Step} [] (sym h))
-  clear (string s) h = refl
-  clear (array ds) h = items_clear ds 0 h
-  clear (object ms) h = members_clear ms h
-
-  items_clear : (ds : Items) (n : ℕ) → float_of_items n ds ≡ None → items_have_float ds ≡ false
-  items_clear no_items n h = refl
-  items_clear (item d ds) n h =
-      let p = nor (behind (to_item n) (first_float d)) (float_of_items (suc n) ds) h in
-      neither (has_float d) (items_have_float ds) (clear d (not_behind (to_item n) (first_float d) p.0)) (items_clear ds (suc n) p.1)
-
-  members_clear : (ms : Members) → float_of_members ms ≡ None → members_have_float ms ≡ false
-  members_clear no_members h = refl
-  members_clear (member l d ms) h =
-      let p = nor (behind (to_member l) (first_float d)) (float_of_members ms) h in
-      neither (has_float d) (members_have_float ms) (clear d (not_behind (to_member l) (first_float d) p.0)) (members_clear ms p.1)
+use Rattle.cdx_schema.proofs.Clear.{neither, spelling_clear}
 
 -- ---- events
 
@@ -119,7 +77,7 @@ events_clear (e ∷ es) = neither (has_float (event_value e)) _ (event_clear e) 
 -- ---- documents
 
 doc_clear : (f : Form) (w : SpecVersion) (b : Tree) → has_float (doc_value (written f w b)) ≡ false
-doc_clear in_json w b = neither (has_float (jspell b w a_bill)) false (clear (jspell b w a_bill) (no_float b w a_bill)) refl
+doc_clear in_json w b = neither (has_float (jspell b w a_bill)) false (spelling_clear b w a_bill) refl
 doc_clear in_xml w b = neither _ false (events_clear (document (root b w))) refl
 
 pub bound : {A B F : Type 0} (r : Result A F) (f : A → Result B F) (y : B) → (r >>= f) ≡ Ok y → (x : A) × (r ≡ Ok x) × (f x ≡ Ok y)

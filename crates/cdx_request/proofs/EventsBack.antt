@@ -1,16 +1,13 @@
 -- Events that are written as JSON values are read back.
-use Rattle.std.proofs.Common.{◌≡◌, ℕ, List, [], ◌∷◌, map, codes, Option, Some, None, refl, ap, ◌∙◌}
-use Rattle.std.specs.Option.{option_and_then}
+use Rattle.std.proofs.Common.{◌≡◌, ℕ, List, [], ◌∷◌, map, Option, Some, None, refl}
 use Rattle.serde_json.specs.Data.{Data}
 use Rattle.serde_json.specs.View.{items_of}
-use Rattle.cdx_events.specs.declared.name.OwnedName.{OwnedName}
 use Rattle.cdx_events.specs.declared.name.OwnedAttribute.{OwnedAttribute}
-use Rattle.cdx_events.specs.declared.name.Namespace.{Namespace}
 use Rattle.cdx_events.specs.declared.event.XmlEvent.{XmlEvent}
 use Rattle.cdx_events.specs.declared.event.XmlEvent.TheVariants.{StartDocument, EndDocument, StartElement, EndElement, Characters, CData}
 use Rattle.cdx_request.specs.Parts.{all_in}
-use Rattle.cdx_request.specs.EventValues.{attribute_value, event_value, events_value}
-use Rattle.cdx_request.specs.EventReading.{attribute_of, event_of, events_of}
+use Rattle.cdx_request.specs.EventValues.{attribute_value, event_value}
+use Rattle.cdx_request.specs.EventReading.{attribute_of, event_of}
 use Rattle.cdx_request.specs.Served.{EventsBack}
 
 -- items that are each read back

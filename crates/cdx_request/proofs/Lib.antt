@@ -4,6 +4,3 @@ pub mod EventsBack
 pub mod RepliesOwed
 pub mod AnswerDepth
 pub mod MadeRoad
-pub mod PlainBills
-pub mod PlainRoads
-pub mod FirstReplies

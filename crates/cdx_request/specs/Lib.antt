@@ -7,6 +7,3 @@ pub mod Refusals
 pub mod Replies
 pub mod Made
 pub mod Served
-pub mod FirstRequests
-pub mod FirstReplies
-pub mod FirstServed

@@ -1,5 +1,7 @@
 pub mod Streams
-pub mod Replies
-pub mod Documents
-pub mod Spellings
-pub mod Asking
+pub mod Reading
+pub mod Answering
+pub mod Counting
+pub mod Runs
+pub mod MadeRoads
+pub mod MadeBills

@@ -1,3 +1,5 @@
-pub mod Bill
-pub mod Asked
+pub mod Reads
+pub mod Shows
+pub mod Words
+pub mod Commands
 pub mod Run

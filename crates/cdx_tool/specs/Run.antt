@@ -1,23 +1,19 @@
 -- What `run` answers.
-use Rattle.std.specs.Prelude.{◌≡◌, ◌≤◌, ◌⊎◌, ℕ, List, [], ◌∷◌, Bool, true, false, codes, length, take, Option, Some, None, IfSome, ⊤, String, string_bytes, bytes_eq}
+use Rattle.std.specs.Prelude.{◌≡◌, ◌≤◌, ◌⊎◌, ℕ, List, codes, length, take, Option, Some, None, IfSome, ⊤, String}
 use Rattle.std.specs.declared.alloc.Global.{Global}
 use Rattle.std.specs.Io.KnownBytes.{Appends, Keeps}
-use Rattle.cdx_request.specs.FirstReplies.{Reply, refused, reply_to}
-use Rattle.cdx_tool.specs.declared.answer.Answer.{Answer}
+use Rattle.cdx_request.specs.Replies.{Reply, reply, no_request, reply_to}
+use Rattle.cdx_request.specs.Made.{made_reply}
+use Rattle.cdx_tool.specs.Words.{Command, a_road, a_make, command_of}
 
-abbrev pub reply_of : Answer → Reply
-reply_of a = record { status = a.status; text = a.text }
-
--- the one word `road`
-abbrev pub is_road : List (String Global) → Bool
-is_road [] = false
-is_road (word ∷ []) = bytes_eq (string_bytes word) (codes "road")
-is_road (word ∷ next ∷ words) = false
+abbrev pub reply_if : Option Command → List ℕ → Reply
+reply_if None bytes = reply 2 (no_request (codes "words"))
+reply_if (Some a_road) bytes = reply_to bytes
+reply_if (Some (a_make n)) bytes = made_reply n
 
 -- the answer to these words and bytes
-abbrev pub reply_for : Bool → List ℕ → Reply
-reply_for false bytes = refused 2 (codes "words")
-reply_for true bytes = reply_to bytes
+abbrev pub reply_for : List (String Global) → List ℕ → Reply
+reply_for words bytes = reply_if (command_of words) bytes
 
 -- The bytes are those that are told, or any where none are told.
 abbrev pub Tells : Option (List ℕ) → List ℕ → Type 0

@@ -11,11 +11,19 @@ pub struct Answer {
 
 pub(crate) const LIMIT: usize = 67_108_864;
 
+pub(crate) const SERVED: u8 = 0;
+
+pub(crate) const REFUSED: u8 = 1;
+
 pub(crate) const UNUSABLE: u8 = 2;
 
 pub(crate) const TOO_LONG: u8 = 6;
 
+mod documents;
 mod make;
+mod refused;
 
+pub use documents::documents_answer;
 pub use make::answer_bytes;
-pub(crate) use make::refuse;
+pub(crate) use make::{answer, refuse};
+pub use refused::refused_answer;

@@ -4,13 +4,9 @@ ghost use Rattle.std.specs.Prelude.{◌≡◌, ◌≤◌, length, take, IfErr, I
 ghost use Rattle.std.specs.Io.KnownBytes.{Appends};
 ghost use Rattle.cdx_events.specs.Causes.{HasCause};
 
-use cdx_events::{Failed, Sink, Text};
-
-/// The sink failed. So many of the text's first bytes went out.
-#[derive(Debug, Drop)]
-pub struct PutError {
-    pub written: usize,
-}
+pub use cdx_bom::PutError;
+use cdx_bom::put_text;
+use cdx_events::{Sink, Text};
 
 /// Puts the text's bytes and then flushes. `Ok` comes only where the sink's count of faults stayed: then the whole
 /// text went out, and all that was written is flushed. `PutError` comes only where the count rose.
@@ -20,16 +16,5 @@ pub fn put_answer<K: Sink>(text: &Text, sink: &mut K) -> Result<(), PutError>
     ensures err { IfErr result (λ e. (e.written ≤ length text.now) × Appends (K.written sink.old) (K.written sink.new) (take e.written text.now)) }
     ensures cause { HasCause (K.faults sink.old) (K.faults sink.new) result }
 {
-    let bytes = text.as_str().as_bytes();
-    let mut at = 0;
-    while at < bytes.len() {
-        match sink.put(&bytes[at..]) {
-            Ok(count) => at += count,
-            Err(Failed) => return Err(PutError { written: at }),
-        }
-    }
-    match sink.flush() {
-        Ok(()) => Ok(()),
-        Err(Failed) => Err(PutError { written: at }),
-    }
+    put_text(text, sink)
 }

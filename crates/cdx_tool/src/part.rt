@@ -1,13 +1,15 @@
 //! Parts of a JSON value.
 
-ghost use Rattle.std.specs.Prelude.{◌≡◌, option_map};
-ghost use Rattle.serde_json.specs.View.{view};
-ghost use Rattle.cdx_request.specs.FirstRequests.{member_count, text_at as text_in, has_text as holds_text, version_at as version_in, recent_at as recent_in, u32_at as u32_in};
+ghost use Rattle.std.specs.Prelude.{◌≡◌, List, Option, option_map, option_and_then, IfOk};
+ghost use Rattle.serde_json.specs.Data.{Data};
+ghost use Rattle.serde_json.specs.Find.{get, as_array};
+ghost use Rattle.serde_json.specs.View.{view, items_view};
+ghost use Rattle.cdx_request.specs.Parts.{member_count, has, how_many, text_at as text_in, version_at as version_in, if_text, all_in};
 
+use cdx_events::{List as Items, Text};
 use cdx_models::SpecVersion;
 use serde_json::Value;
-
-const MOST: u64 = 1 << 32;
+use std::alloc::{AllocError, Global};
 
 pub(crate) fn count_members(value: &Value) -> usize
     ensures { result ≡ member_count (view value.now) }
@@ -18,19 +20,32 @@ pub(crate) fn count_members(value: &Value) -> usize
     }
 }
 
+pub(crate) fn has_member(value: &Value, name: &str) -> bool
+    ensures { result ≡ has name.now (view value.now) }
+{
+    value.get(name).is_some()
+}
+
+// How many members have the name: one or none.
+pub(crate) fn count_named(value: &Value, name: &str) -> usize
+    ensures { result ≡ how_many (get name.now (view value.now)) }
+{
+    match value.get(name) {
+        Some(_) => 1,
+        None => 0,
+    }
+}
+
 pub(crate) fn text_at<'v>(value: &'v Value, name: &str) -> Option<&'v str>
     ensures { option_map (λ s. s.now) result ≡ text_in name.now (view value.now) }
 {
     value.get(name)?.as_str()
 }
 
-pub(crate) fn has_text(value: &Value, name: &str, text: &str) -> bool
-    ensures { result ≡ holds_text name.now text.now (view value.now) }
+pub(crate) fn array_at<'v>(value: &'v Value, name: &str) -> Option<&'v Vec<Value>>
+    ensures { option_map (λ v. items_view v.now.items) result ≡ option_and_then as_array (get name.now (view value.now)) }
 {
-    match text_at(value, name) {
-        Some(found) => found == text,
-        None => false,
-    }
+    value.get(name)?.as_array()
 }
 
 pub(crate) fn version_at(value: &Value, name: &str) -> Option<SpecVersion>
@@ -39,23 +54,44 @@ pub(crate) fn version_at(value: &Value, name: &str) -> Option<SpecVersion>
     SpecVersion::from_text(text_at(value, name)?)
 }
 
-pub(crate) fn recent_at(value: &Value, name: &str) -> Option<SpecVersion>
-    ensures { result ≡ recent_in name.now (view value.now) }
+// No text, or one that is there.
+pub(crate) fn read_text_if(
+    alloc: Global,
+    value: Option<&Value>,
+) -> Result<Option<Option<Text>>, AllocError>
+    ensures { IfOk result (λ o. o ≡ if_text (option_map (λ v. view v.now) value.entry)) }
 {
-    match version_at(value, name)? {
-        SpecVersion::V1_3 => None,
-        SpecVersion::V1_4 => Some(SpecVersion::V1_4),
-        SpecVersion::V1_5 => Some(SpecVersion::V1_5),
+    let Some(value) = value else {
+        return Ok(Some(None));
+    };
+    match value.as_str() {
+        None => Ok(None),
+        Some(text) => Ok(Some(Some(Text::new(alloc, text)?))),
     }
 }
 
-pub(crate) fn u32_at(value: &Value, name: &str) -> Option<u32>
-    ensures { result ≡ u32_in name.now (view value.now) }
+/// What stands in an array.
+pub(crate) trait Part: Sized {
+    ghost part_of: { Data → Option Self };
+
+    /// The part that a value is, if it is one.
+    fn from_value(alloc: Global, value: &Value) -> Result<Option<Self>, AllocError>
+        ensures { IfOk result (λ o. o ≡ part_of (view value.now)) };
+}
+
+/// The parts that the values are, if each is one.
+pub(crate) fn read_items<P: Part + Drop>(
+    alloc: Global,
+    values: &[Value],
+) -> Result<Option<Items<P>>, AllocError>
+    ensures { IfOk result (λ o. o ≡ all_in P.part_of (items_view values.now)) }
 {
-    let number = value.get(name)?.as_u64()?;
-    if number < MOST {
-        Some(number as u32)
-    } else {
-        None
+    let mut items = Items::new(alloc);
+    for value in values {
+        let Some(item) = P::from_value(alloc, value)? else {
+            return Ok(None);
+        };
+        items.push(item)?;
     }
+    Ok(Some(items))
 }

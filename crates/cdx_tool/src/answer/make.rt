@@ -1,17 +1,20 @@
-ghost use Rattle.std.specs.Prelude.{◌≡◌, false, map, option_map, IfOk, Some};
+ghost use Rattle.std.specs.Prelude.{◌≡◌, List, false, option_map, IfOk, Result as Owed};
 ghost use Rattle.serde_json.specs.View.{view};
 ghost use Rattle.serde_json.specs.Written.{has_float};
-ghost use Rattle.cdx_schema.specs.Roads.{json};
-ghost use Rattle.cdx_request.specs.FirstRequests.{json_of};
-ghost use Rattle.cdx_request.specs.FirstReplies.{refusal, refused, line_of, documents_answer as documents_in, reply_to, reply_to_value};
-ghost use Rattle.cdx_tool.specs.Bill.{spelled};
-ghost use Rattle.cdx_tool.specs.Run.{reply_of};
+ghost use Rattle.cdx_schema.specs.Roads.{Doc as SchemaDoc, Refusal, road as road_of};
+ghost use Rattle.cdx_bom.specs.Docs.{AreDocs, Refuses};
+ghost use Rattle.cdx_request.specs.Requests.{Request as Asked, json_of, request_of};
+ghost use Rattle.cdx_request.specs.Refusals.{unbalanced_answer as unbalanced_at};
+ghost use Rattle.cdx_request.specs.Replies.{line_of, reply, no_request, reply_to, reply_to_request, reply_to_road, documents_answer as documents_in};
+ghost use Rattle.cdx_tool.specs.Reads.{IsRequest};
+ghost use Rattle.cdx_tool.specs.Shows.{reply_of};
 
-use super::{Answer, LIMIT, TOO_LONG, UNUSABLE};
-use crate::bill::{Bill, write_bill};
-use crate::request::read_request;
-use cdx_events::Text;
-use cdx_models::SpecVersion;
+use super::documents::documents_answer;
+use super::refused::{refused_answer, unbalanced_answer};
+use super::{Answer, LIMIT, REFUSED, SERVED, TOO_LONG, UNUSABLE};
+use crate::request::{Request, RequestError, read_request};
+use cdx_bom::{Doc, RoadError, road};
+use cdx_events::{List as Items, Text};
 use serde_json::{Category, Value, json};
 use std::alloc::{AllocError, Global};
 
@@ -28,57 +31,98 @@ fn read_json(alloc: Global, bytes: &[u8]) -> Result<Option<Value>, AllocError>
     }
 }
 
-// The value's text and a line feed.
+// The value's text and a line feed, where it holds no float.
 fn line(alloc: Global, value: &Value) -> Result<Text, AllocError>
-    requires { has_float (view value.now) ≡ false }
-    ensures { IfOk result (λ t. t ≡ line_of (view value.now)) }
+    ensures { IfOk result (λ t. has_float (view value.now) ≡ false → t ≡ line_of (view value.now)) }
 {
     let mut text = value.to_string(alloc)?;
     text.push('\n')?;
     Ok(Text::from_string(text))
 }
 
-fn refusal_value(alloc: Global, reason: &str) -> Result<Value, AllocError>
-    ensures { IfOk result (λ v. view v ≡ refusal reason.now) }
+/// The answer of the value, where it holds no float.
+pub(crate) fn answer(alloc: Global, status: u8, value: &Value) -> Result<Answer, AllocError>
+    ensures { IfOk result (λ a. has_float (view value.now) ≡ false → reply_of a ≡ reply status (view value.now)) }
+{
+    let text = line(alloc, value)?;
+    Ok(Answer { status, text })
+}
+
+fn no_request_value(alloc: Global, reason: &str) -> Result<Value, AllocError>
+    ensures { IfOk result (λ v. view v ≡ no_request reason.now) }
 {
     json!(in alloc; {"request": reason})
 }
 
+/// The answer that something is no request, for a reason.
 pub(crate) fn refuse(alloc: Global, status: u8, reason: &str) -> Result<Answer, AllocError>
-    ensures { IfOk result (λ a. reply_of a ≡ refused status reason.now) }
+    ensures { IfOk result (λ a. reply_of a ≡ reply status (no_request reason.now)) }
 {
-    let value = refusal_value(alloc, reason)?;
-    let text = line(alloc, &value)?;
-    Ok(Answer { status, text })
+    let value = no_request_value(alloc, reason)?;
+    answer(alloc, status, &value)
 }
 
-// A document for each hop, under the label of the hop.
-fn documents(alloc: Global, bill: &Bill, hops: &[SpecVersion]) -> Result<Value, AllocError>
-    ensures { IfOk result (λ v. view v ≡ documents_in (map (λ w. json (spelled bill.now w)) hops.now)) }
+// The refusal that the error of a road is.
+fn answer_refused(alloc: Global, error: RoadError) -> Result<Answer, AllocError>
+    requires { (owed : Owed (List SchemaDoc) Refusal) × Refuses owed error }
+    ensures { (owed : Owed (List SchemaDoc) Refusal) → Refuses owed error → IfOk result (λ a. reply_of a ≡ reply_to_road owed) }
 {
-    let mut documents = Vec::new(alloc);
-    for hop in hops {
-        let document = write_bill(alloc, bill, *hop)?;
-        documents.push(json!(in alloc; {"json": document})?)?;
+    cdx_request::no_floats();
+    match error {
+        RoadError::Memory(error) => Err(error),
+        error => {
+            let value = refused_answer(alloc, &error)?;
+            answer(alloc, REFUSED, &value)
+        }
     }
-    json!(in alloc; {"documents": Value::Array(documents)})
+}
+
+fn answer_documents(alloc: Global, docs: &Items<Doc>) -> Result<Answer, AllocError>
+    ensures { (xs : List SchemaDoc) → AreDocs docs.now xs → has_float (documents_in xs) ≡ false → IfOk result (λ a. reply_of a ≡ reply 0 (documents_in xs)) }
+{
+    let value = documents_answer(alloc, docs)?;
+    answer(alloc, SERVED, &value)
+}
+
+// The documents of the request's road, or its refusal.
+fn answer_request(alloc: Global, request: &Request) -> Result<Answer, AllocError>
+    requires { (q : Asked) × IsRequest request.now q }
+    ensures { (q : Asked) → IsRequest request.now q → IfOk result (λ a. reply_of a ≡ reply_to_road (road_of q.doc q.from q.hops)) }
+{
+    cdx_request::no_floats();
+    match road(alloc, &request.doc, request.from, request.hops.as_slice()) {
+        Ok(docs) => answer_documents(alloc, &docs),
+        Err(error) => answer_refused(alloc, error),
+    }
+}
+
+fn answer_unbalanced(alloc: Global, place: usize) -> Result<Answer, AllocError>
+    ensures { IfOk result (λ a. reply_of a ≡ reply 1 (unbalanced_at place)) }
+{
+    let value = unbalanced_answer(alloc, place)?;
+    answer(alloc, REFUSED, &value)
 }
 
 fn answer_value(alloc: Global, value: &Value) -> Result<Answer, AllocError>
-    ensures { IfOk result (λ a. reply_of a ≡ reply_to_value (Some (view value.now))) }
+    ensures { IfOk result (λ a. reply_of a ≡ reply_to_request (request_of (view value.now))) }
 {
-    let Some(request) = read_request(alloc, value)? else {
-        return refuse(alloc, UNUSABLE, "not built");
-    };
-    let value = documents(alloc, &request.bill, request.hops.as_slice())?;
-    cdx_request::first_no_floats();
-    let text = line(alloc, &value)?;
-    Ok(Answer { status: 0, text })
+    match read_request(alloc, value) {
+        Ok(request) => answer_request(alloc, &request),
+        Err(RequestError::Shape) => refuse(alloc, UNUSABLE, "shape"),
+        Err(RequestError::Unbalanced { place }) => answer_unbalanced(alloc, place),
+        Err(RequestError::Memory(error)) => Err(error),
+    }
 }
 
-/// The answer to these bytes as a request for the word `road`: status 0 and its documents; 2 and `not JSON` where
-/// `serde_json` has no reading of them, or `not built` where they are no request of the first form; 6 and `too long`
-/// where there are more than 67,108,864.
+/// The answer to these bytes as a request for the word `road`, in this order:
+///
+/// - status 6, `{"request":"too long"}`: there are more than 67,108,864 bytes.
+/// - 2, `{"request":"not JSON"}`: `serde_json` has no reading of them, which ends at 127 nested arrays and objects.
+/// - 2, `{"request":"shape"}`: the value is no request by `read_request`.
+/// - 1, `{"refused":{"cause":"unbalanced","place":p}}`: its document's events break at p.
+/// - 1, `{"refused":{..}}` by `refused_answer`: its document has this first fault, or denotes a bill that lacks a version
+///   which a hop asks for.
+/// - 0, `{"documents":[..]}` by `documents_answer`: the documents of its road, one for each hop.
 pub fn answer_bytes(alloc: Global, bytes: &[u8]) -> Result<Answer, AllocError>
     ensures { IfOk result (λ a. reply_of a ≡ reply_to bytes.now) }
 {

@@ -1,80 +1,168 @@
-ghost use Rattle.std.specs.Prelude.{◌≡◌, map, option_map, IfOk};
-ghost use Rattle.serde_json.specs.View.{view, items_view};
-ghost use Rattle.cdx_schema.specs.Roads.{json};
-ghost use Rattle.cdx_request.specs.FirstRequests.{request_of, hops_of, hop_of, json_hop};
-ghost use Rattle.cdx_tool.specs.Asked.{inner_of, doc_in, hops_in, seen, shown};
+ghost use Rattle.std.specs.Prelude.{◌≡◌, option_map, option_and_then, IfOk};
+ghost use Rattle.serde_json.specs.Find.{get};
+ghost use Rattle.serde_json.specs.View.{view};
+ghost use Rattle.std.specs.Prelude.{codes};
+ghost use Rattle.cdx_bom.specs.Docs.{IsDoc, hops_of};
+ghost use Rattle.cdx_request.specs.Requests.{sent_of, sent_under, doc_of, doc_in, hops_at, asked_of, request_of};
+ghost use Rattle.cdx_request.specs.EventReading.{events_of};
+ghost use Rattle.cdx_tool.specs.Reads.{Reads, ReadsIf, IsRequest, sent_in, asked_in, form_read, hop_read};
 
-use super::Request;
-use crate::bill::read_bill;
-use crate::part::{count_members, has_text, recent_at};
-use cdx_models::SpecVersion;
+use super::sent::{Asked, Sent};
+use super::{Request, RequestError};
+use crate::events::events_if;
+use crate::part::{Part, array_at, count_members, read_items, text_at, version_at};
+use cdx_bom::{Doc, Form, Hop};
+use cdx_events::{Events, EventsError, List, XmlEvent};
 use serde_json::Value;
 use std::alloc::{AllocError, Global};
 
-fn read_hop(value: &Value) -> Option<SpecVersion>
-    ensures { option_map json_hop result ≡ hop_of (view value.now) }
+// ---- the hops
+
+fn read_form(text: &str) -> Option<Form>
+    ensures { result ≡ form_read text.now }
 {
-    if count_members(value) == 2 && has_text(value, "form", "json") {
-        recent_at(value, "version")
-    } else {
-        None
+    match text {
+        "json" => Some(Form::Json),
+        "xml" => Some(Form::Xml),
+        _ => None,
     }
 }
 
-fn read_hops(alloc: Global, items: &[Value]) -> Result<Option<Vec<SpecVersion>>, AllocError>
-    ensures { IfOk result (λ o. option_map (λ v. map json_hop v.items) o ≡ hops_of (items_view items.now)) }
+fn read_hop(value: &Value) -> Option<Hop>
+    ensures { result ≡ hop_read (view value.now) }
 {
-    let mut hops = Vec::new(alloc);
-    for item in items {
-        let Some(hop) = read_hop(item) else {
-            return Ok(None);
-        };
-        hops.push(hop)?;
+    if count_members(value) != 2 {
+        return None;
     }
-    Ok(Some(hops))
+    let form = read_form(text_at(value, "form")?)?;
+    let version = version_at(value, "version")?;
+    Some(Hop { form, version })
 }
 
-// The only member of an object, where it is `json`.
-fn inner_doc(value: &Value) -> Option<&Value>
-    ensures { option_map (λ v. view v.now) result ≡ inner_of (view value.now) }
-{
-    if count_members(value) == 1 {
-        value.get("json")
-    } else {
-        None
+impl Part for Hop {
+    ghost part_of = { hop_read };
+
+    fn from_value(alloc: Global, value: &Value) -> Result<Option<Hop>, AllocError> {
+        Ok(read_hop(value))
     }
 }
 
-fn doc_at(value: &Value) -> Option<&Value>
-    ensures { option_map (λ v. view v.now) result ≡ doc_in (view value.now) }
+fn read_hops(alloc: Global, value: &Value) -> Result<Option<List<Hop>>, AllocError>
+    ensures { IfOk result (λ o. option_map hops_of o ≡ hops_at (view value.now)) }
 {
-    value.get("doc").and_then(inner_doc)
-}
-
-fn hops_at(alloc: Global, value: &Value) -> Result<Option<Vec<SpecVersion>>, AllocError>
-    ensures { IfOk result (λ o. option_map (λ v. map json_hop v.items) o ≡ hops_in (view value.now)) }
-{
-    match value.get("hops").and_then(Value::as_array) {
-        Some(items) => read_hops(alloc, items),
+    match array_at(value, "hops") {
         None => Ok(None),
+        Some(values) => read_items(alloc, values.as_slice()),
     }
 }
 
-/// The request that a value is, if it is one of the first form.
-pub(crate) fn read_request(alloc: Global, value: &Value) -> Result<Option<Request>, AllocError>
-    ensures { IfOk result (λ o. option_map seen o ≡ option_map shown (request_of (view value.now))) }
+// ---- the document
+
+fn read_sent(alloc: Global, value: &Value) -> Result<Option<Sent>, AllocError>
+    ensures { IfOk result (λ o. option_map sent_in o ≡ sent_of (view value.now)) }
 {
-    if count_members(value) != 3 || recent_at(value, "from").is_none() {
+    if count_members(value) != 1 {
         return Ok(None);
     }
-    let Some(doc) = doc_at(value) else {
+    if let Some(document) = value.get("json") {
+        return Ok(Some(Sent::Json(document.clone()?)));
+    }
+    match value.get("xml") {
+        None => Ok(None),
+        Some(events) => Ok(events_if(alloc, events)?.map(Sent::Xml)),
+    }
+}
+
+fn balanced(alloc: Global, events: List<XmlEvent>) -> Result<Doc, RequestError>
+    ensures { Reads IsDoc (doc_of (sent_in (Sent.Xml events))) result }
+{
+    cdx_request::breaks();
+    match Events::from_list(alloc, events) {
+        Ok(events) => Ok(Doc::Xml(events)),
+        Err(EventsError::Unbalanced { place }) => Err(RequestError::Unbalanced { place }),
+        Err(EventsError::Memory(error)) => Err(RequestError::Memory(error)),
+    }
+}
+
+fn settle(alloc: Global, sent: Sent) -> Result<Doc, RequestError>
+    ensures { Reads IsDoc (doc_of (sent_in sent)) result }
+{
+    match sent {
+        Sent::Json(value) => Ok(Doc::Json(value)),
+        Sent::Xml(events) => balanced(alloc, events),
+    }
+}
+
+/// The document of a value: an object with exactly one member, which is `json`, any value, or `xml`, an array of event
+/// objects by `events_to_json`, where an empty array of attributes is accepted too.
+///
+/// `Shape` comes exactly where the value is no such object, and else `Unbalanced` exactly where the events aren't
+/// balanced.
+pub fn read_doc(alloc: Global, value: &Value) -> Result<Doc, RequestError>
+    ensures { Reads IsDoc (doc_in (view value.now)) result }
+{
+    match read_sent(alloc, value)? {
+        None => Err(RequestError::Shape),
+        Some(sent) => settle(alloc, sent),
+    }
+}
+
+/// The events of an array of event objects, by `events_to_json`; an empty array of attributes is accepted too. `Shape`
+/// comes exactly where the value is no such array. It doesn't matter whether the events are balanced, so `Unbalanced`
+/// never comes.
+pub fn events_from_json(alloc: Global, value: &Value) -> Result<List<XmlEvent>, RequestError>
+    ensures { ReadsIf (events_of (view value.now)) result }
+{
+    match events_if(alloc, value)? {
+        None => Err(RequestError::Shape),
+        Some(events) => Ok(events),
+    }
+}
+
+// ---- requests
+
+fn sent_at(alloc: Global, value: &Value) -> Result<Option<Sent>, AllocError>
+    ensures { IfOk result (λ o. option_map sent_in o ≡ option_and_then sent_of (get (codes "doc") (view value.now))) }
+{
+    match value.get("doc") {
+        None => Ok(None),
+        Some(document) => read_sent(alloc, document),
+    }
+}
+
+fn read_asked(alloc: Global, value: &Value) -> Result<Option<Asked>, AllocError>
+    ensures { IfOk result (λ o. option_map asked_in o ≡ asked_of (view value.now)) }
+{
+    if count_members(value) != 3 {
+        return Ok(None);
+    }
+    let Some(from) = version_at(value, "from") else {
         return Ok(None);
     };
-    let Some(bill) = read_bill(alloc, doc)? else {
+    let Some(sent) = sent_at(alloc, value)? else {
         return Ok(None);
     };
-    let Some(hops) = hops_at(alloc, value)? else {
+    let Some(hops) = read_hops(alloc, value)? else {
         return Ok(None);
     };
-    Ok(Some(Request { bill, hops }))
+    Ok(Some(Asked { from, sent, hops }))
+}
+
+/// The request of a value: an object with exactly the members `from` (`"1.3"`, `"1.4"` or `"1.5"`), `doc`, a document
+/// by `read_doc`, and `hops`, an array of objects with exactly `form` (`"json"` or `"xml"`) and `version`.
+///
+/// `Shape` comes exactly where the value is no such object, and else `Unbalanced` exactly where the document's events
+/// aren't balanced.
+pub fn read_request(alloc: Global, value: &Value) -> Result<Request, RequestError>
+    ensures { Reads IsRequest (request_of (view value.now)) result }
+{
+    let Some(asked) = read_asked(alloc, value)? else {
+        return Err(RequestError::Shape);
+    };
+    let doc = settle(alloc, asked.sent)?;
+    Ok(Request {
+        from: asked.from,
+        doc,
+        hops: asked.hops,
+    })
 }

@@ -5,7 +5,7 @@ use Rattle.serde_json.specs.Find.{as_object}
 use Rattle.serde_json.specs.Events.{members_len}
 use Rattle.serde_json.specs.View.{members_view}
 use Rattle.serde_json.proofs.Views.{members_len-members_view}
-use Rattle.cdx_request.specs.FirstRequests.{member_count}
+use Rattle.cdx_request.specs.Parts.{member_count}
 use Rattle.cdx_tool.proofs.part.count_members.Goals as goal
 
 counted : (ms : Members) (d : Data) → Some ms ≡ as_object d → member_count d ≡ members_len ms

@@ -1,0 +1,42 @@
+-- What is answered is the reply that is owed.
+use Rattle.std.proofs.Common.{◌≡◌, List, [], ◌∷◌, length, map, Option, Some, IsSome, Result, Err, refl}
+use Rattle.std.specs.declared.alloc.AllocError.{AllocError}
+use Rattle.cdx_schema.specs.Roads as roads
+use Rattle.cdx_schema.specs.Roads.{Refusal}
+use Rattle.cdx_bom.specs.declared.doc.Doc.{Doc}
+use Rattle.cdx_bom.specs.declared.doc.Doc.TheVariants.{Json, Xml}
+use Rattle.cdx_bom.specs.declared.doc.RoadError.{RoadError}
+use Rattle.cdx_bom.specs.declared.doc.RoadError.TheVariants as error
+use Rattle.cdx_bom.specs.Docs.{AreDocs, IsDoc, Refuses, refusal_of}
+use Rattle.cdx_request.specs.Replies.{doc_value}
+use Rattle.cdx_tool.specs.Shows.{doc_shown}
+
+-- a document is written as its like in the schema
+doc_is : (d : Doc) (x : roads.Doc) → IsDoc d x → doc_shown d ≡ doc_value x
+doc_is (Json value) (roads.json x) is = rw is refl
+doc_is (Json value) (roads.xml root) is = absurd is
+doc_is (Xml events) (roads.json x) is = absurd is
+doc_is (Xml events) (roads.xml root) is = rw is refl
+
+pub docs_are : (ds : List Doc) (xs : List roads.Doc) → AreDocs ds xs → map doc_shown ds ≡ map doc_value xs
+docs_are [] [] are = refl
+docs_are [] (x ∷ xs) are = absurd are
+docs_are (d ∷ ds) [] are = absurd are
+docs_are (d ∷ ds) (x ∷ xs) are = rw (doc_is d x are.0, docs_are ds xs are.1) refl
+
+-- an error other than want of memory is the refusal that is owed
+pub refuses : (owed : Result (List roads.Doc) Refusal) (e : RoadError) → ((m : AllocError) → e ≡ error.Memory m → ⊥) → Refuses owed e → (r : Refusal) × (refusal_of e ≡ Some r) × (owed ≡ Err r)
+refuses owed (error.Json f) other h = h
+refuses owed (error.Xml f) other h = h
+refuses owed (error.Bom f) other h = h
+refuses owed (error.Memory m) other h = absurd (other m refl)
+
+pub is_refusal : (o : Option Refusal) (r : Refusal) → o ≡ Some r → IsSome o
+is_refusal o r is = rw is refl
+
+-- documents beside two are two
+pub two_docs : (ds : List Doc) (x y : roads.Doc) → AreDocs ds (x ∷ y ∷ []) → length ds ≡ 2
+two_docs [] x y are = absurd are
+two_docs (d ∷ []) x y are = absurd are.1
+two_docs (d ∷ e ∷ []) x y are = refl
+two_docs (d ∷ e ∷ f ∷ ds) x y are = absurd are.1.1

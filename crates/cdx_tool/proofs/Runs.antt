@@ -1,0 +1,84 @@
+-- How a run ends.
+use Rattle.std.proofs.Common.{◌≡◌, ℕ, ◌≤◌, ◌<◌, List, [], length, codes, true, Option, Some, None, Ok, ◌⊎◌, inl, inr, refl, sym, ap, subst, ◌∙◌, arith}
+use Rattle.std.specs.Io.KnownBytes.{Appends, Keeps, Consumes, IsAtEnd}
+use Rattle.std.proofs.lemmas.Bool.{lt-ltb}
+use Rattle.std.proofs.lemmas.List.{length-append}
+use Rattle.serde_json.specs.Data.{Data, depth}
+use Rattle.cdx_schema.specs.Roads.{Doc}
+use Rattle.cdx_request.specs.Requests.{Request, request_in}
+use Rattle.cdx_request.specs.Replies.{Reply, reply, no_request, line_of, documents_answer, reply_to, limit}
+use Rattle.cdx_request.specs.Made.{made_answer, made_reply}
+use Rattle.cdx_request.specs.Served.{Serves, IsValid, IsMade, ReplyLaw, ValidLaw, AnswersNest, MadeLaw}
+use Rattle.cdx_tool.specs.Words.{Command, a_road, a_make, is_road_or_not}
+use Rattle.cdx_tool.specs.Run.{Tells, Ends, reply_if}
+
+too_long_is : (bytes : List ℕ) → limit < length bytes → reply 6 (no_request (codes "too long")) ≡ reply_to bytes
+too_long_is bytes h = rw (lt-ltb limit (length bytes) h) refl
+
+-- more was taken than may come
+pub too_long : (o n : Option (List ℕ)) (taken : List ℕ) (r : Reply) → Consumes o n taken → limit < length taken → r ≡ reply 6 (no_request (codes "too long")) → (bytes : List ℕ) × Tells o bytes × (r ≡ reply_to bytes)
+too_long None n taken r h lt e = (taken, tt, e ∙ too_long_is taken lt)
+too_long (Some told) None taken r h lt e = absurd h
+too_long (Some told) (Some rest) taken r h lt e =
+    (told, refl, e ∙ too_long_is told (omega (arith, ap length h, length-append taken rest)))
+
+some_told : (o : Option (List ℕ)) → (bytes : List ℕ) × Tells o bytes
+some_told None = ([], tt)
+some_told (Some told) = (told, refl)
+
+keeps_itself : (o : Option (List ℕ)) → Keeps o o
+keeps_itself None = tt
+keeps_itself (Some xs) = refl
+
+pub ends_early : (o w : Option (List ℕ)) (c : Option Command) (flushed : Option ℕ) (status : ℕ) → (status ≡ 3) ⊎ (status ≡ 5) → (bytes : List ℕ) × Tells o bytes × Ends (reply_if c bytes) status w w flushed
+ends_early o w c flushed status h = let t = some_told o in (t.0, t.1, inr (inr (h, keeps_itself w)))
+
+-- what is owed to a command, whatever the bytes are
+pub road_owed : (o : Option (List ℕ)) (c : Option Command) (r : Reply) → Some a_road ≡ c → (bytes : List ℕ) × Tells o bytes × (r ≡ reply_to bytes) → (bytes : List ℕ) × Tells o bytes × (r ≡ reply_if c bytes)
+road_owed o c r is h = (h.0, h.1, h.2 ∙ ap (λ c. reply_if c h.0) is)
+
+pub make_owed : (o : Option (List ℕ)) (c : Option Command) (n : ℕ) (r : Reply) → Some (a_make n) ≡ c → r ≡ made_reply n → (bytes : List ℕ) × Tells o bytes × (r ≡ reply_if c bytes)
+make_owed o c n r is h = let t = some_told o in (t.0, t.1, h ∙ ap (λ c. reply_if c t.0) is)
+
+pub words_owed : (o : Option (List ℕ)) (c : Option Command) (r : Reply) → None ≡ c → r ≡ reply 2 (no_request (codes "words")) → (bytes : List ℕ) × Tells o bytes × (r ≡ reply_if c bytes)
+words_owed o c r is h = let t = some_told o in (t.0, t.1, h ∙ ap (λ c. reply_if c t.0) is)
+
+-- ---- status 0
+
+no_six : ◌≡◌ {A = ℕ} 6 0 → ⊥
+no_six h = omega (arith, h)
+
+-- the one command that reads the source
+the_road : (c : Option Command) → is_road_or_not c ≡ true → c ≡ Some a_road
+the_road None h = cc
+the_road (Some a_road) h = refl
+the_road (Some (a_make n)) h = cc
+
+road_reply : (c : Option Command) (r : Reply) (bytes : List ℕ) → is_road_or_not c ≡ true → r ≡ reply_if c bytes → r ≡ reply_to bytes
+road_reply c r bytes road e = e ∙ ap (λ c. reply_if c bytes) (the_road c road)
+
+-- a reply of status 0 that went out serves one request
+pub served : (o left before now : Option (List ℕ)) (c : Option Command) (r : Reply) (bytes : List ℕ) → ReplyLaw → Tells o bytes → r ≡ reply_if c bytes → (is_road_or_not c ≡ true → (r.status ≡ 6) ⊎ IsAtEnd left) → is_road_or_not c ≡ true → r.status ≡ 0 → Appends before now r.text
+    → (bytes : List ℕ) × (docs : List Doc) × Tells o bytes × IsAtEnd left × Serves bytes docs × Appends before now (line_of (documents_answer docs))
+served o left before now c r bytes law told e end road zero_is put =
+    let is = road_reply c r bytes road e in
+    let l = law bytes (ap (λ (x : Reply). x.status) (sym is) ∙ zero_is) in
+    (bytes, l.0, told, elim (end road) [ inl six ↦ absurd (no_six (sym six ∙ zero_is)) | inr at_end ↦ at_end ], l.1, subst (Appends before now) (ap (λ (x : Reply). x.text) is ∙ l.2) put)
+
+pub shallow : (before now : Option (List ℕ)) (c : Option Command) (r : Reply) (bytes : List ℕ) → ReplyLaw → AnswersNest → r ≡ reply_if c bytes → is_road_or_not c ≡ true → r.status ≡ 0 → Appends before now r.text
+    → (d : Data) × Appends before now (line_of d) × (depth d ≤ 107)
+shallow before now c r bytes law nest e road zero_is put =
+    let is = road_reply c r bytes road e in
+    let l = law bytes (ap (λ (x : Reply). x.status) (sym is) ∙ zero_is) in
+    (documents_answer l.0, subst (Appends before now) (ap (λ (x : Reply). x.text) is ∙ l.2) put, nest l.1.request.doc l.1.request.from l.1.request.hops l.0 l.1.led)
+
+-- a reply to `make` that went out counts the made documents
+pub counted : (before now : Option (List ℕ)) (c : Option Command) (n : ℕ) (r : Reply) (bytes : List ℕ) → MadeLaw → r ≡ reply_if c bytes → c ≡ Some (a_make n) → Appends before now r.text → IsMade n × Appends before now (line_of (made_answer n))
+counted before now c n r bytes law e is put = (law n, subst (Appends before now) (ap (λ (x : Reply). x.text) (e ∙ ap (λ c. reply_if c bytes) is)) put)
+
+-- a valid request is owed status 0
+pub valid_owed : (o : Option (List ℕ)) (told bytes : List ℕ) (c : Option Command) (r : Reply) (request : Request) → ValidLaw → Tells o told → r ≡ reply_if c told → is_road_or_not c ≡ true → o ≡ Some bytes
+    → length bytes ≤ limit → request_in bytes ≡ Ok request → IsValid request → r.status ≡ 0
+valid_owed o told bytes c r request law tells e road said le asks valid =
+    let same : told ≡ bytes = subst (λ (o : Option (List ℕ)). Tells o told) said tells in
+    ap (λ (x : Reply). x.status) (road_reply c r told road e ∙ ap reply_to same) ∙ law bytes request le asks valid

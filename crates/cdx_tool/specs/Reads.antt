@@ -1,0 +1,61 @@
+-- What a value is read as, beside the request that it is.
+use Rattle.std.specs.Prelude.{◌≡◌, ◌==◌, ℕ, List, codes, if◌then◌else◌, Option, Some, None, Result, Ok, Err}
+use Rattle.std.specs.Str.{bytes_eq}
+use Rattle.serde_json.specs.Data.{Data}
+use Rattle.serde_json.specs.View.{view}
+use Rattle.cdx_bom.specs.declared.doc.Form.{Form}
+use Rattle.cdx_bom.specs.declared.doc.Form.TheVariants as form
+use Rattle.cdx_bom.specs.declared.doc.Hop.{Hop}
+use Rattle.cdx_bom.specs.Docs.{IsDoc, hops_of}
+use Rattle.cdx_request.specs.Parts.{◌>>=◌, member_count, text_at, version_at}
+use Rattle.cdx_request.specs.Requests.{Misread, shape, unbalanced}
+use Rattle.cdx_request.specs.Requests as asked
+use Rattle.cdx_tool.specs.declared.request.Request.{Request}
+use Rattle.cdx_tool.specs.declared.request.RequestError.{RequestError}
+use Rattle.cdx_tool.specs.declared.request.RequestError.TheVariants.{Shape, Unbalanced, Memory}
+use Rattle.cdx_tool.specs.declared.request.sent.Sent.{Sent}
+use Rattle.cdx_tool.specs.declared.request.sent.Sent.TheVariants.{Json, Xml}
+use Rattle.cdx_tool.specs.declared.request.sent.Asked.{Asked}
+
+-- The answer is what is owed: a thing that is what is meant, or the reason why there is none. Want of memory alone is
+-- free.
+abbrev pub Reads : {A B : Type 0} → (A → B → Type 0) → Result B Misread → Result A RequestError → Type 0
+Reads Is owed (Ok x) = (y : _) × (owed ≡ Ok y) × Is x y
+Reads Is owed (Err Shape) = owed ≡ Err shape
+Reads Is owed (Err (Unbalanced place)) = owed ≡ Err (unbalanced place)
+Reads Is owed (Err (Memory e)) = Unit {0}
+
+-- the same where nothing but the shape is asked
+abbrev pub ReadsIf : {A : Type 0} → Option A → Result A RequestError → Type 0
+ReadsIf owed (Ok x) = owed ≡ Some x
+ReadsIf owed (Err Shape) = owed ≡ None
+ReadsIf owed (Err (Unbalanced place)) = ⊥
+ReadsIf owed (Err (Memory e)) = Unit {0}
+
+-- a request stands for this one
+abbrev pub IsRequest : Request → asked.Request → Type 0
+IsRequest r q = (r.from ≡ q.from) × IsDoc r.doc q.doc × (hops_of r.hops ≡ q.hops)
+
+-- ---- before the events are balanced
+
+abbrev pub sent_in : Sent → asked.Sent
+sent_in (Json value) = asked.sent_value (view value)
+sent_in (Xml events) = asked.sent_events events
+
+abbrev pub asked_in : Asked → asked.Asked
+asked_in a = record { from = a.from; sent = sent_in a.sent; hops = hops_of a.hops }
+
+-- ---- hops
+
+abbrev pub form_read : List ℕ → Option Form
+form_read s = if bytes_eq s (codes "json") then Some form.Json else (if bytes_eq s (codes "xml") then Some form.Xml else None)
+
+abbrev pub hop_parts : Data → Option Hop
+hop_parts d = do
+  form ← text_at (codes "form") d >>= form_read
+  version ← version_at (codes "version") d
+  Some (record { form = form; version = version })
+
+-- the hop of a value, whose like in the schema is the one that is asked (`Hops.hop_is`)
+abbrev pub hop_read : Data → Option Hop
+hop_read d = if member_count d == 2 then hop_parts d else None

@@ -1,0 +1,179 @@
+ghost use Rattle.std.specs.Prelude.{◌≡◌, ◌+◌, ℕ, List, map, option_map, IfOk};
+ghost use Rattle.serde_json.specs.View.{view};
+ghost use Rattle.cdx_events.specs.declared.event.XmlEvent.{XmlEvent};
+ghost use Rattle.cdx_request.specs.EventReading.{name_at, name_count, attribute_of, if_attributes, mark_of, mark_event, start_count, start_parts, start_event, end_event, text_event, event_of, events_of};
+
+use crate::part::{
+    Part, count_members, count_named, has_member, read_items, read_text_if, text_at,
+};
+use cdx_events::{List as Items, Namespace, OwnedAttribute, OwnedName, Text, XmlEvent as Event};
+use serde_json::Value;
+use std::alloc::{AllocError, Global};
+
+fn read_name(alloc: Global, value: &Value, local: &str) -> Result<Option<OwnedName>, AllocError>
+    ensures { IfOk result (λ o. o ≡ name_at local.now (view value.now)) }
+{
+    let Some(local_name) = text_at(value, local) else {
+        return Ok(None);
+    };
+    let Some(namespace) = read_text_if(alloc, value.get("uri"))? else {
+        return Ok(None);
+    };
+    let Some(prefix) = read_text_if(alloc, value.get("prefix"))? else {
+        return Ok(None);
+    };
+    let local_name = Text::new(alloc, local_name)?;
+    Ok(Some(OwnedName {
+        local_name,
+        namespace,
+        prefix,
+    }))
+}
+
+fn count_name(value: &Value) -> usize
+    ensures { result ≡ name_count (view value.now) }
+{
+    1 + count_named(value, "uri") + count_named(value, "prefix")
+}
+
+impl Part for OwnedAttribute {
+    ghost part_of = { attribute_of };
+
+    fn from_value(alloc: Global, value: &Value) -> Result<Option<OwnedAttribute>, AllocError> {
+        if count_members(value) != count_name(value) + 1 {
+            return Ok(None);
+        }
+        let Some(name) = read_name(alloc, value, "name")? else {
+            return Ok(None);
+        };
+        let Some(text) = text_at(value, "value") else {
+            return Ok(None);
+        };
+        let text = Text::new(alloc, text)?;
+        Ok(Some(OwnedAttribute { name, value: text }))
+    }
+}
+
+// No attributes, or those of an array.
+fn read_attributes(
+    alloc: Global,
+    value: Option<&Value>,
+) -> Result<Option<Items<OwnedAttribute>>, AllocError>
+    ensures { IfOk result (λ o. o ≡ if_attributes (option_map (λ v. view v.now) value.entry)) }
+{
+    let Some(value) = value else {
+        return Ok(Some(Items::new(alloc)));
+    };
+    match value.as_array() {
+        None => Ok(None),
+        Some(items) => read_items(alloc, items.as_slice()),
+    }
+}
+
+fn mark(text: &str) -> Option<Event>
+    ensures { result ≡ mark_of text.now }
+{
+    match text {
+        "start" => Some(Event::StartDocument),
+        "end" => Some(Event::EndDocument),
+        _ => None,
+    }
+}
+
+fn read_mark(value: &Value) -> Option<Event>
+    ensures { result ≡ mark_event (view value.now) }
+{
+    if count_members(value) != 1 {
+        return None;
+    }
+    mark(text_at(value, "document")?)
+}
+
+fn count_start(value: &Value) -> usize
+    ensures { result ≡ start_count (view value.now) }
+{
+    count_name(value) + count_named(value, "default") + count_named(value, "attributes")
+}
+
+fn read_start_parts(alloc: Global, value: &Value) -> Result<Option<Event>, AllocError>
+    ensures { IfOk result (λ o. o ≡ start_parts (view value.now)) }
+{
+    let Some(name) = read_name(alloc, value, "element")? else {
+        return Ok(None);
+    };
+    let Some(default) = read_text_if(alloc, value.get("default"))? else {
+        return Ok(None);
+    };
+    let Some(attributes) = read_attributes(alloc, value.get("attributes"))? else {
+        return Ok(None);
+    };
+    Ok(Some(Event::StartElement {
+        name,
+        attributes,
+        namespace: Namespace { default },
+    }))
+}
+
+fn read_start(alloc: Global, value: &Value) -> Result<Option<Event>, AllocError>
+    ensures { IfOk result (λ o. o ≡ start_event (view value.now)) }
+{
+    if count_members(value) != count_start(value) {
+        return Ok(None);
+    }
+    read_start_parts(alloc, value)
+}
+
+fn read_end(alloc: Global, value: &Value) -> Result<Option<Event>, AllocError>
+    ensures { IfOk result (λ o. o ≡ end_event (view value.now)) }
+{
+    if count_members(value) != count_name(value) {
+        return Ok(None);
+    }
+    match read_name(alloc, value, "end")? {
+        None => Ok(None),
+        Some(name) => Ok(Some(Event::EndElement { name })),
+    }
+}
+
+// The only member of an object, which is a text.
+fn read_only_text(alloc: Global, value: &Value, name: &str) -> Result<Option<Text>, AllocError>
+    ensures { IfOk result (λ o. (event : List ℕ → XmlEvent) → option_map event o ≡ text_event name.now event (view value.now)) }
+{
+    if count_members(value) != 1 {
+        return Ok(None);
+    }
+    match text_at(value, name) {
+        None => Ok(None),
+        Some(text) => Ok(Some(Text::new(alloc, text)?)),
+    }
+}
+
+impl Part for Event {
+    ghost part_of = { event_of };
+
+    fn from_value(alloc: Global, value: &Value) -> Result<Option<Event>, AllocError> {
+        if has_member(value, "document") {
+            Ok(read_mark(value))
+        } else if has_member(value, "element") {
+            read_start(alloc, value)
+        } else if has_member(value, "end") {
+            read_end(alloc, value)
+        } else if has_member(value, "text") {
+            Ok(read_only_text(alloc, value, "text")?.map(Event::Characters))
+        } else if has_member(value, "cdata") {
+            Ok(read_only_text(alloc, value, "cdata")?.map(Event::CData))
+        } else {
+            Ok(None)
+        }
+    }
+}
+
+// The events of an array, if each item is one.
+pub(crate) fn events_if(alloc: Global, value: &Value) -> Result<Option<Items<Event>>, AllocError>
+    ensures { IfOk result (λ o. o ≡ events_of (view value.now)) }
+{
+    match value.as_array() {
+        None => Ok(None),
+        Some(values) => read_items(alloc, values.as_slice()),
+    }
+}

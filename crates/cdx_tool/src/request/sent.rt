@@ -1,0 +1,19 @@
+use cdx_bom::Hop;
+use cdx_events::{List, XmlEvent};
+use cdx_models::SpecVersion;
+use serde_json::Value;
+
+/// A document as it stands in a request, before it is seen whether its events are balanced.
+#[derive(Drop)]
+pub(crate) enum Sent {
+    Json(Value),
+    Xml(List<XmlEvent>),
+}
+
+/// The parts of a request with such a document.
+#[derive(Drop)]
+pub(crate) struct Asked {
+    pub from: SpecVersion,
+    pub sent: Sent,
+    pub hops: List<Hop>,
+}
