@@ -1,0 +1,137 @@
+//! Documents carried along roads, and roads that are refused.
+
+use crate::documents::{document, line_of};
+use crate::faults::of_road;
+use crate::forms::{hop_of, row, whole};
+use cdx_bom::{Doc, Hop, recode, road};
+use cdx_events::List;
+use cdx_models::SpecVersion;
+use serde_json::Value;
+use std::alloc::{AllocError, Global};
+use std::test::Fail;
+
+// The document of the text.
+fn doc(alloc: Global, text: &str) -> Result<Doc, Fail> {
+    if text.starts_with("start|") {
+        return Ok(Doc::Xml(document(alloc, text)?));
+    }
+    Ok(Doc::Json(Value::from_str(alloc, text)?))
+}
+
+fn text_of(alloc: Global, doc: &Doc) -> Result<String, AllocError> {
+    match doc {
+        Doc::Json(value) => value.to_string(alloc),
+        Doc::Xml(events) => line_of(alloc, events.copy(alloc)?.into_list().as_slice()),
+    }
+}
+
+// The documents, each with a space before it.
+fn texts_of(alloc: Global, docs: &List<Doc>) -> Result<String, AllocError> {
+    let mut texts = String::new(alloc);
+    for doc in docs.as_slice() {
+        texts.push(' ')?;
+        texts.push_str(text_of(alloc, doc)?.as_str())?;
+    }
+    Ok(texts)
+}
+
+// The documents of the short ones, each with a space before it, and the hops that write these. What is no short
+// document is taken as it is.
+fn along(alloc: Global, shorts: &str) -> Result<(Vec<Hop>, String), AllocError> {
+    let mut hops = Vec::new(alloc);
+    let mut texts = String::new(alloc);
+    for short in shorts.split(" -> ") {
+        if let Some(hop) = hop_of(short) {
+            hops.push(hop)?;
+            texts.push(' ')?;
+        }
+        texts.push_str(whole(alloc, short)?.as_str())?;
+    }
+    Ok((hops, texts))
+}
+
+// The documents of a road, each with a space before it, or the refusal.
+fn carried(alloc: Global, doc: &Doc, v: SpecVersion, hops: &[Hop]) -> Result<String, AllocError> {
+    match road(alloc, doc, v, hops) {
+        Ok(docs) => texts_of(alloc, &docs),
+        Err(error) => of_road(alloc, &error),
+    }
+}
+
+// The same of the road of one hop.
+fn recoded(alloc: Global, doc: &Doc, v: SpecVersion, hop: Hop) -> Result<String, AllocError> {
+    match recode(alloc, doc, v, hop.form, hop.version) {
+        Ok(doc) => format!(in alloc; " {}", text_of(alloc, &doc)?.as_str()),
+        Err(error) => of_road(alloc, &error),
+    }
+}
+
+// What comes of the row's document on the road of the documents after it; empty where that is these documents.
+fn other(alloc: Global, line: &str) -> Result<String, Fail> {
+    let Some((v, given, shorts)) = row(line) else {
+        return Ok(String::from_str(alloc, "no row")?);
+    };
+    let (hops, texts) = along(alloc, shorts)?;
+    let doc = doc(alloc, whole(alloc, given)?.as_str())?;
+    let found = carried(alloc, &doc, v, hops.as_slice())?;
+    if let [hop] = hops.as_slice() {
+        if recoded(alloc, &doc, v, *hop)? != found {
+            return Ok(String::from_str(alloc, "recoded otherwise")?);
+        }
+    }
+    if found == texts {
+        return Ok(String::new(alloc));
+    }
+    Ok(found)
+}
+
+// A supplier without a name stays for one writing as XML, and is gone with the next.
+#[test]
+fn documents(rt: HostRuntime) -> Result<(), Fail> {
+    for line in [
+        r#"1.5 json 1.5 "serialNumber":"U", -> "#,
+        r#"1.5 json 1.5 "serialNumber":"U", -> json 1.4 "serialNumber":"U","#,
+        r#"1.5 json 1.3 -> json 1.5"#,
+        r#"1.5 json 1.5 "services":[], -> xml 1.4 <services|>services| -> xml 1.5 <services|>services| -> json 1.3 "services":[],"#,
+        r#"1.4 xml 1.4 <services|<service|<name|=s|>name|>service|>services| -> json 1.3 "services":[{"name":"s"}],"#,
+        r#"1.3 json 1.5 "serialNumber":null,"services":[], -> xml 1.5 <services|>services|"#,
+        r#"1.5 json 1.5 "metadata":{"tools":[{"name":"my_tool"}]}, -> xml 1.5 <metadata|<tools|<tool|<name|=my_tool|>name|>tool|>tools|>metadata| -> json 1.5 "metadata":{"tools":[{"name":"my_tool"}]},"#,
+        r#"1.5 json 1.5 "signature":[{"algorithm":"ES256","value":"a"}], -> json 1.5 "signature":{"signers":[{"algorithm":"ES256","value":"a"}]}, -> xml 1.5 -> json 1.5"#,
+        r#"1.5 json 1.5 "signature":{"chain":[{"algorithm":"ES256","value":"a"}]}, -> json 1.4 "signature":{"chain":[{"algorithm":"ES256","value":"a"}]}, -> json 1.3 -> json 1.4"#,
+        r#"1.5 json 1.5 "components":[{"name":"a","supplier":{"url":[]},"type":"library"}], -> xml 1.5 <components|<component type=library|<supplier|>supplier|<name|=a|>name|>component|>components| -> xml 1.5 <components|<component type=library|<name|=a|>name|>component|>components| -> xml 1.5 <components|<component type=library|<name|=a|>name|>component|>components|"#,
+        r#"1.5 json 1.5 "metadata":{"tools":[]}, -> xml 1.5 <metadata|<tools|>tools|>metadata| -> json 1.5 "metadata":{"tools":{}},"#,
+        r#"1.5 json 1.5 "metadata":{"tools":[]}, -> xml 1.4 <metadata|<tools|>tools|>metadata| -> json 1.5 "metadata":{"tools":[]},"#,
+        r#"1.5 json 1.5 "metadata":{"tools":{"components":[{"name":"a","type":"library"}]}}, -> json 1.3 "metadata":{"tools":[]}, -> json 1.5 "metadata":{"tools":[]},"#,
+        r#"1.5 json 1.5 "components":[{"name":"a","type":"library"}], -> json 1.4 "components":[{"name":"a","type":"library"}],"#,
+    ] {
+        assert_eq!(rt; other(rt.alloc(), line)?.as_str(), "", "{line}");
+    }
+    Ok(())
+}
+
+// The document's fault comes before a version that is missing, whichever hop asks for it.
+#[test]
+fn refused(rt: HostRuntime) -> Result<(), Fail> {
+    for (line, fault) in [
+        (
+            r#"1.5 json 1.5 "components":[{"name":"a","type":"library"}], -> json 1.4 -> json 1.3"#,
+            "version missing in 1.3",
+        ),
+        (
+            r#"1.4 xml 1.4 <components|<component type=a|<name|=a|>name|>component|>components| -> xml 1.3 -> json 1.5"#,
+            "version missing in 1.3",
+        ),
+        (
+            r#"1.5 json 1.5 "components":[{"name":"a","type":"library"}],"dependencies":1, -> json 1.3"#,
+            "wrong kind at /dependencies",
+        ),
+        (
+            r#"1.5 json 1.5 "dependencies":[{"ref":"a","dependsOn":null}], -> "#,
+            "wrong kind at /dependencies/0/dependsOn",
+        ),
+        (r#"1.5 start|<foo|>foo|end -> json 1.3"#, "start in bom 1"),
+    ] {
+        assert_eq!(rt; other(rt.alloc(), line)?.as_str(), fault, "{line}");
+    }
+    Ok(())
+}
