@@ -1,0 +1,46 @@
+//! Reads one JSON value from standard input and writes its text: what `bench/road` measures the program against.
+#![tactic(auto)]
+
+use serde_json::Value;
+use std::alloc::{AllocError, Global};
+use std::io::{self, Read, Write};
+use std::process::ExitCode;
+
+const NOT_JSON: u8 = 2;
+
+const FAULT: u8 = 3;
+
+const NO_MEMORY: u8 = 5;
+
+/// The value's compact text and a line feed, or the status where there is none: 2 where the bytes are no JSON value,
+/// and 5 where memory ran out.
+fn echoed(alloc: Global, bytes: &[u8]) -> Result<String, u8> {
+    let value = match Value::from_slice(alloc, bytes) {
+        Ok(value) => value,
+        Err(_) => return Err(NOT_JSON),
+    };
+    match printed(alloc, &value) {
+        Ok(text) => Ok(text),
+        Err(_) => Err(NO_MEMORY),
+    }
+}
+
+fn printed(alloc: Global, value: &Value) -> Result<String, AllocError> {
+    let mut text = value.to_string(alloc)?;
+    text.push('\n')?;
+    Ok(text)
+}
+
+fn main(rt: HostRuntime) -> ExitCode {
+    let mut bytes = Vec::new(rt.alloc());
+    if rt.reader().read_to_end(&mut bytes).is_err() {
+        return ExitCode::from(FAULT);
+    }
+    match echoed(rt.alloc(), bytes.as_slice()) {
+        Err(status) => ExitCode::from(status),
+        Ok(text) => match io::writer(&rt).write_all(text.as_bytes()) {
+            Ok(()) => ExitCode::from(0),
+            Err(_) => ExitCode::from(FAULT),
+        },
+    }
+}
