@@ -1,5 +1,6 @@
-ghost use Rattle.std.specs.Prelude.{◌≡◌, List, IfOk};
-ghost use Rattle.serde_json.specs.View.{view};
+ghost use Rattle.std.specs.Prelude.{◌≡◌, List, map, IfOk};
+ghost use Rattle.serde_json.specs.Data.{array};
+ghost use Rattle.serde_json.specs.View.{view, items_of};
 ghost use Rattle.cdx_schema.specs.Roads.{Doc as SchemaDoc};
 ghost use Rattle.cdx_bom.specs.Docs.{AreDocs};
 ghost use Rattle.cdx_request.specs.Refusals.{only as alone};
@@ -12,6 +13,7 @@ use cdx_bom::Doc;
 use cdx_events::List as Items;
 use serde_json::{Map, Value, put};
 use std::alloc::{AllocError, Global};
+use std::collections::VecDeque;
 
 // An object with this member alone.
 fn only(alloc: Global, name: &str, value: Value) -> Result<Value, AllocError>
@@ -39,5 +41,34 @@ pub fn documents_answer(alloc: Global, docs: &Items<Doc>) -> Result<Value, Alloc
     ensures { (xs : List SchemaDoc) → AreDocs docs.now xs → IfOk result (λ v. view v ≡ documents_in xs) }
 {
     let values = items_to_json(alloc, docs.as_slice())?;
+    only(alloc, "documents", values)
+}
+
+// The same value as that of `Doc::to_json`, without a copy.
+fn into_json(alloc: Global, doc: Doc) -> Result<Value, AllocError>
+    ensures { IfOk result (λ v. view v ≡ doc_shown doc) }
+{
+    match doc {
+        Doc::Json(value) => only(alloc, "json", value),
+        Doc::Xml(events) => only(alloc, "xml", events_to_json(alloc, &events)?),
+    }
+}
+
+fn items_into_json(alloc: Global, docs: Items<Doc>) -> Result<Value, AllocError>
+    ensures { IfOk result (λ v. view v ≡ array (items_of (map doc_shown docs))) }
+{
+    let mut waiting = VecDeque::from(docs.into_vec());
+    let mut values = Vec::new(alloc);
+    while let Some(doc) = waiting.pop_front() {
+        values.push(into_json(alloc, doc)?)?;
+    }
+    Ok(Value::Array(values))
+}
+
+/// `documents_answer` of documents that nothing else needs, so that none is copied.
+pub(crate) fn documents_into_answer(alloc: Global, docs: Items<Doc>) -> Result<Value, AllocError>
+    ensures { (xs : List SchemaDoc) → AreDocs docs xs → IfOk result (λ v. view v ≡ documents_in xs) }
+{
+    let values = items_into_json(alloc, docs)?;
     only(alloc, "documents", values)
 }

@@ -1,0 +1,10 @@
+use Rattle.std.proofs.Common.{codes, map, ap, subst, IfOk, ◌≡◌, ◌∙◌}
+use Rattle.serde_json.specs.Data.{Data, array}
+use Rattle.serde_json.specs.View.{view, items_of}
+use Rattle.cdx_request.specs.Refusals.{only}
+use Rattle.cdx_tool.proofs.Answering.{docs_are}
+use Rattle.cdx_tool.proofs.answer.documents.documents_into_answer.Goals as goal
+
+pub returns : goal.returns
+returns c = λ xs are.
+    subst (λ (d : Data). IfOk c.only.result (λ v. view v ≡ d)) (ap (only (codes "documents")) (c.in_ok-values.ensures ∙ ap (λ vs. array (items_of vs)) (docs_are c.args.docs xs are))) c.only.ensures
