@@ -6,7 +6,7 @@ use Rattle.cdx_tool.proofs.answer.documents.items_into_json.Given as goal
 
 -- the values of the documents so far, and those to come
 abbrev pub invariant-loop-doc : goal.invariant-loop-doc
-invariant-loop-doc g l = map view l.values.items ++ map doc_shown l.waiting.items ≡ map doc_shown l.docs
+invariant-loop-doc l = map view l.values.items ++ map doc_shown l.waiting.items ≡ map doc_shown l.fn.docs
 
 abbrev pub decreases-loop-doc : goal.decreases-loop-doc
-decreases-loop-doc g l = deque_len l.waiting
+decreases-loop-doc l = deque_len l.waiting
