@@ -11,7 +11,7 @@ use Rattle.cdx_request.specs.EventReading.{attribute_of, event_of}
 use Rattle.cdx_request.specs.Served.{EventsBack}
 
 -- items that are each read back
-all_back : {A : Type 0} (shown : A → Data) (read : Data → Option A) → ((x : A) → read (shown x) ≡ Some x) → (xs : List A) → all_in read (items_of (map shown xs)) ≡ Some xs
+pub all_back : {A : Type 0} (shown : A → Data) (read : Data → Option A) → ((x : A) → read (shown x) ≡ Some x) → (xs : List A) → all_in read (items_of (map shown xs)) ≡ Some xs
 all_back shown read back [] = refl
 all_back shown read back (x ∷ xs) = rw (back x, all_back shown read back xs) refl
 

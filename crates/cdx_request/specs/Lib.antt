@@ -5,5 +5,6 @@ pub mod Breaks
 pub mod Requests
 pub mod Refusals
 pub mod Replies
+pub mod RequestValues
 pub mod Made
 pub mod Served

@@ -1,5 +1,6 @@
 -- What the answers of status 0 hold, and what is owed to which request.
 use Rattle.std.specs.Prelude.{◌≡◌, ℕ, ◌≤◌, List, [], ◌∷◌, length, true, false, Some, Ok}
+use Rattle.std.specs.List.{list_all}
 use Rattle.serde_json.specs.Data.{Data, depth}
 use Rattle.serde_json.specs.Written.{has_float, compact_text}
 use Rattle.cdx_events.specs.Nodes.{Node, document}
@@ -11,9 +12,10 @@ use Rattle.cdx_schema.specs.Roads.{Doc, json, xml, Refusal, denotes, fits_all, r
 use Rattle.cdx_schema.specs.Laws.{LeadsFrom}
 use Rattle.cdx_request.specs.EventValues.{events_value}
 use Rattle.cdx_request.specs.EventReading.{events_of}
-use Rattle.cdx_request.specs.Requests.{Request, request_in}
+use Rattle.cdx_request.specs.Requests.{Request, doc_in, request_of, request_in}
 use Rattle.cdx_request.specs.Refusals.{refused_answer}
-use Rattle.cdx_request.specs.Replies.{line_of, documents_answer, limit, reply_to}
+use Rattle.cdx_request.specs.Replies.{line_of, doc_value, documents_answer, limit, reply_to}
+use Rattle.cdx_request.specs.RequestValues.{has_root, request_value}
 use Rattle.cdx_request.specs.Made.{made_road, made_counts, made_answer}
 
 -- The bytes are one request, whose document denotes one bill in its version. The documents are those of the road:
@@ -35,6 +37,22 @@ pub record IsValid (r : Request) : Type 0 where
 -- Events that are written in an answer are read back from a request.
 abbrev pub EventsBack : Type 0
 EventsBack = (events : List XmlEvent) → events_of (events_value events) ≡ Some events
+
+-- A document with a root that is written in an answer is read back from a request.
+abbrev pub DocsBack : Type 0
+DocsBack = (d : Doc) → has_root d ≡ true → doc_in (doc_value d) ≡ Ok d
+
+-- A request whose document has a root is read back from its value.
+abbrev pub RequestsBack : Type 0
+RequestsBack = (r : Request) → has_root r.doc ≡ true → request_of (request_value r) ≡ Ok r
+
+-- The document of each request that is read has a root.
+abbrev pub AskedHaveRoots : Type 0
+AskedHaveRoots = (d : Data) (r : Request) → request_of d ≡ Ok r → has_root r.doc ≡ true
+
+-- So has each document of a road.
+abbrev pub AnsweredHaveRoots : Type 0
+AnsweredHaveRoots = (x : Doc) (v : SpecVersion) (hops : List Hop) (docs : List Doc) → road x v hops ≡ Ok docs → list_all has_root docs ≡ true
 
 -- No answer of documents holds a float.
 abbrev pub NoFloats : Type 0

@@ -1,7 +1,7 @@
 //! The laws of requests and replies. Each is the contract of a function that does nothing.
 
 ghost use Rattle.cdx_request.specs.Breaks.{BreaksLaw};
-ghost use Rattle.cdx_request.specs.Served.{AnswersNest, EventsBack, MadeLaw, NoFloatRefused, NoFloats, ReplyLaw, ValidLaw};
+ghost use Rattle.cdx_request.specs.Served.{AnsweredHaveRoots, AnswersNest, AskedHaveRoots, DocsBack, EventsBack, MadeLaw, NoFloatRefused, NoFloats, ReplyLaw, RequestsBack, ValidLaw};
 
 /// The events of a request that have no root break at one place: the first that no balanced list goes on with, or
 /// their number where each of them goes on. That is the place of an answer that they are unbalanced.
@@ -12,6 +12,15 @@ pub fn breaks()
 /// The events of a document in an answer are read back from a request.
 pub fn events_back()
     ensures { EventsBack }
+{}
+
+/// A document in an answer, and a request that is written, are read back, where the document has a root. Each document
+/// that is asked or answered has one.
+pub fn requests_back()
+    ensures docs { DocsBack }
+    ensures requests { RequestsBack }
+    ensures asked { AskedHaveRoots }
+    ensures answered { AnsweredHaveRoots }
 {}
 
 /// No answer holds a float.

@@ -3,4 +3,6 @@
 
 mod laws;
 
-pub use laws::{answers_nest, breaks, events_back, made_law, no_floats, reply_law, valid_law};
+pub use laws::{
+    answers_nest, breaks, events_back, made_law, no_floats, reply_law, requests_back, valid_law,
+};
