@@ -3,7 +3,7 @@
 use crate::documents::{document, line_of};
 use crate::faults::of_road;
 use crate::forms::{hop_of, row, whole};
-use cdx_bom::{Doc, Hop, recode, road};
+use cdx_bom::{Doc, Hop, RoadError, into_road, recode, road};
 use cdx_events::List;
 use cdx_models::SpecVersion;
 use serde_json::Value;
@@ -50,9 +50,9 @@ fn along(alloc: Global, shorts: &str) -> Result<(Vec<Hop>, String), AllocError> 
     Ok((hops, texts))
 }
 
-// The documents of a road, each with a space before it, or the refusal.
-fn carried(alloc: Global, doc: &Doc, v: SpecVersion, hops: &[Hop]) -> Result<String, AllocError> {
-    match road(alloc, doc, v, hops) {
+// The documents, each with a space before it, or the refusal.
+fn told(alloc: Global, answer: Result<List<Doc>, RoadError>) -> Result<String, AllocError> {
+    match answer {
         Ok(docs) => texts_of(alloc, &docs),
         Err(error) => of_road(alloc, &error),
     }
@@ -73,11 +73,14 @@ fn other(alloc: Global, line: &str) -> Result<String, Fail> {
     };
     let (hops, texts) = along(alloc, shorts)?;
     let doc = doc(alloc, whole(alloc, given)?.as_str())?;
-    let found = carried(alloc, &doc, v, hops.as_slice())?;
+    let found = told(alloc, road(alloc, &doc, v, hops.as_slice()))?;
     if let [hop] = hops.as_slice() {
         if recoded(alloc, &doc, v, *hop)? != found {
             return Ok(String::from_str(alloc, "recoded otherwise")?);
         }
+    }
+    if told(alloc, into_road(alloc, doc, v, hops.as_slice()))? != found {
+        return Ok(String::from_str(alloc, "taken otherwise")?);
     }
     if found == texts {
         return Ok(String::new(alloc));

@@ -108,6 +108,16 @@ fn along(alloc: Global, bill: Bom, hops: &[Hop]) -> Result<List<Doc>, RoadError>
     Ok(docs)
 }
 
+// The documents of the hops from the bill on, unless a hop's version can't hold it.
+fn carry(alloc: Global, bill: Bom, hops: &[Hop]) -> Result<List<Doc>, RoadError>
+    ensures { (x : roads.Doc) (v : SpecVersion) → roads.denotes x v ≡ Ok (bom_tree bill) → Answers (roads.road x v (hops_of hops.now)) result }
+{
+    if !fits_all(&bill, hops) {
+        return Err(version_missing());
+    }
+    along(alloc, bill, hops)
+}
+
 /// The documents of a road: each hop reads the document before it, in the version in which that was written, and
 /// writes what its own version keeps of the bill, in its form. No hops make no documents.
 ///
@@ -118,10 +128,28 @@ pub fn road(alloc: Global, doc: &Doc, v: SpecVersion, hops: &[Hop]) -> Result<Li
     ensures { AnswersRoad doc.now v hops.now result }
 {
     let bill = bill_of(alloc, doc, v)?;
-    if !fits_all(&bill, hops) {
-        return Err(version_missing());
-    }
-    along(alloc, bill, hops)
+    carry(alloc, bill, hops)
+}
+
+// The bill of a document that is freed with the call.
+fn take_bill(alloc: Global, doc: Doc, v: SpecVersion) -> Result<Bom, RoadError>
+    ensures { (x : roads.Doc) → IsDoc doc x → Denotes (roads.denotes x v) result }
+{
+    bill_of(alloc, &doc, v)
+}
+
+/// `road` of a document that nothing else needs. It is freed once its bill is read, so that its memory serves the
+/// documents of the road.
+pub fn into_road(
+    alloc: Global,
+    doc: Doc,
+    v: SpecVersion,
+    hops: &[Hop],
+) -> Result<List<Doc>, RoadError>
+    ensures { AnswersRoad doc v hops.now result }
+{
+    let bill = take_bill(alloc, doc, v)?;
+    carry(alloc, bill, hops)
 }
 
 /// The road of one hop.

@@ -5,3 +5,4 @@ pub mod Counting
 pub mod Runs
 pub mod MadeRoads
 pub mod MadeBills
+pub mod Printing

@@ -1,6 +1,6 @@
 -- The components of a made bill, one more at the end.
 use Rattle.std.proofs.Common.{◌≡◌, ℕ, zero, suc, ◌+◌, List, [], ◌∷◌, ◌++◌, refl, sym, ap, ◌∙◌, arith}
-use Rattle.cdx_models.specs.Trees.{Tree, items, Trees, none, more, one, ◌⧺◌, each}
+use Rattle.cdx_models.specs.Trees.{Tree, items, more, one, ◌⧺◌, each}
 use Rattle.cdx_component.specs.declared.component.Component.{Component}
 use Rattle.cdx_component.specs.declared.component.Components.{Components}
 use Rattle.cdx_component.specs.Trees.{component_tree, components_tree, listed}

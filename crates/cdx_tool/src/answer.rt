@@ -22,6 +22,7 @@ pub(crate) const TOO_LONG: u8 = 6;
 mod documents;
 mod make;
 mod refused;
+mod text;
 
 pub use documents::documents_answer;
 pub use make::answer_bytes;

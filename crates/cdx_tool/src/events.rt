@@ -1,7 +1,9 @@
 //! Events as JSON values.
 
+mod print;
 mod read;
 mod write;
 
+pub(crate) use print::events_text;
 pub(crate) use read::events_if;
 pub use write::events_to_json;

@@ -36,6 +36,16 @@ pub(crate) fn count_named(value: &Value, name: &str) -> usize
     }
 }
 
+/// The member of the name, taken out of the value without a copy.
+pub(crate) fn take_member(value: Value, name: &str) -> Option<Value>
+    ensures { option_map view result ≡ get name.now (view value) }
+{
+    match value {
+        Value::Object(mut map) => map.remove(name),
+        _ => None,
+    }
+}
+
 pub(crate) fn text_at<'v>(value: &'v Value, name: &str) -> Option<&'v str>
     ensures { option_map (λ s. s.now) result ≡ text_in name.now (view value.now) }
 {

@@ -9,11 +9,11 @@ ghost use Rattle.cdx_request.specs.Replies.{line_of, reply, no_request, reply_to
 ghost use Rattle.cdx_tool.specs.Reads.{IsRequest};
 ghost use Rattle.cdx_tool.specs.Shows.{reply_of};
 
-use super::documents::documents_answer;
 use super::refused::{refused_answer, unbalanced_answer};
+use super::text::documents_line;
 use super::{Answer, LIMIT, REFUSED, SERVED, TOO_LONG, UNUSABLE};
-use crate::request::{Request, RequestError, read_request};
-use cdx_bom::{Doc, RoadError, road};
+use crate::request::{Request, RequestError, take_request};
+use cdx_bom::{Doc, RoadError, into_road};
 use cdx_events::{List as Items, Text};
 use serde_json::{Category, Value, json};
 use std::alloc::{AllocError, Global};
@@ -78,19 +78,24 @@ fn answer_refused(alloc: Global, error: RoadError) -> Result<Answer, AllocError>
 }
 
 fn answer_documents(alloc: Global, docs: &Items<Doc>) -> Result<Answer, AllocError>
-    ensures { (xs : List SchemaDoc) → AreDocs docs.now xs → has_float (documents_in xs) ≡ false → IfOk result (λ a. reply_of a ≡ reply 0 (documents_in xs)) }
+    requires { (xs : List SchemaDoc) × AreDocs docs.now xs × (has_float (documents_in xs) ≡ false) }
+    ensures { (xs : List SchemaDoc) → AreDocs docs.now xs → IfOk result (λ a. reply_of a ≡ reply 0 (documents_in xs)) }
 {
-    let value = documents_answer(alloc, docs)?;
-    answer(alloc, SERVED, &value)
+    let text = documents_line(alloc, docs)?;
+    Ok(Answer {
+        status: SERVED,
+        text,
+    })
 }
 
 // The documents of the request's road, or its refusal.
-fn answer_request(alloc: Global, request: &Request) -> Result<Answer, AllocError>
-    requires { (q : Asked) × IsRequest request.now q }
-    ensures { (q : Asked) → IsRequest request.now q → IfOk result (λ a. reply_of a ≡ reply_to_road (road_of q.doc q.from q.hops)) }
+fn answer_request(alloc: Global, request: Request) -> Result<Answer, AllocError>
+    requires { (q : Asked) × IsRequest request q }
+    ensures { (q : Asked) → IsRequest request q → IfOk result (λ a. reply_of a ≡ reply_to_road (road_of q.doc q.from q.hops)) }
 {
     cdx_request::no_floats();
-    match road(alloc, &request.doc, request.from, request.hops.as_slice()) {
+    let Request { from, doc, hops } = request;
+    match into_road(alloc, doc, from, hops.as_slice()) {
         Ok(docs) => answer_documents(alloc, &docs),
         Err(error) => answer_refused(alloc, error),
     }
@@ -103,11 +108,11 @@ fn answer_unbalanced(alloc: Global, place: usize) -> Result<Answer, AllocError>
     answer(alloc, REFUSED, &value)
 }
 
-fn answer_value(alloc: Global, value: &Value) -> Result<Answer, AllocError>
-    ensures { IfOk result (λ a. reply_of a ≡ reply_to_request (request_of (view value.now))) }
+fn answer_value(alloc: Global, value: Value) -> Result<Answer, AllocError>
+    ensures { IfOk result (λ a. reply_of a ≡ reply_to_request (request_of (view value))) }
 {
-    match read_request(alloc, value) {
-        Ok(request) => answer_request(alloc, &request),
+    match take_request(alloc, value) {
+        Ok(request) => answer_request(alloc, request),
         Err(RequestError::Shape) => refuse(alloc, UNUSABLE, "shape"),
         Err(RequestError::Unbalanced { place }) => answer_unbalanced(alloc, place),
         Err(RequestError::Memory(error)) => Err(error),
@@ -131,6 +136,6 @@ pub fn answer_bytes(alloc: Global, bytes: &[u8]) -> Result<Answer, AllocError>
     }
     match read_json(alloc, bytes)? {
         None => refuse(alloc, UNUSABLE, "not JSON"),
-        Some(value) => answer_value(alloc, &value),
+        Some(value) => answer_value(alloc, value),
     }
 }

@@ -1,16 +1,18 @@
-ghost use Rattle.std.specs.Prelude.{◌≡◌, option_map, option_and_then, IfOk};
+ghost use Rattle.std.specs.Prelude.{◌≡◌, Some, option_map, option_and_then, IfOk};
 ghost use Rattle.serde_json.specs.Find.{get};
 ghost use Rattle.serde_json.specs.View.{view};
 ghost use Rattle.std.specs.Prelude.{codes};
 ghost use Rattle.cdx_bom.specs.Docs.{IsDoc, hops_of};
-ghost use Rattle.cdx_request.specs.Requests.{sent_of, sent_under, doc_of, doc_in, hops_at, asked_of, request_of};
+ghost use Rattle.cdx_request.specs.Requests.{sent_of, sent_under, doc_of, doc_in, hops_at, asked_of, request_if, request_of};
 ghost use Rattle.cdx_request.specs.EventReading.{events_of};
 ghost use Rattle.cdx_tool.specs.Reads.{Reads, ReadsIf, IsRequest, sent_in, asked_in, form_read, hop_read};
 
 use super::sent::{Asked, Sent};
 use super::{Request, RequestError};
 use crate::events::events_if;
-use crate::part::{Part, array_at, count_members, read_items, text_at, version_at};
+use crate::part::{
+    Part, array_at, count_members, has_member, read_items, take_member, text_at, version_at,
+};
 use cdx_bom::{Doc, Form, Hop};
 use cdx_events::{Events, EventsError, List, XmlEvent};
 use serde_json::Value;
@@ -71,6 +73,16 @@ fn read_sent(alloc: Global, value: &Value) -> Result<Option<Sent>, AllocError>
         None => Ok(None),
         Some(events) => Ok(events_if(alloc, events)?.map(Sent::Xml)),
     }
+}
+
+// The same of a value that nothing else needs, so that no JSON is copied.
+fn take_sent(alloc: Global, value: Value) -> Result<Option<Sent>, AllocError>
+    ensures { IfOk result (λ o. option_map sent_in o ≡ sent_of (view value)) }
+{
+    if count_members(&value) == 1 && has_member(&value, "json") {
+        return Ok(take_member(value, "json").map(Sent::Json));
+    }
+    read_sent(alloc, &value)
 }
 
 fn balanced(alloc: Global, events: List<XmlEvent>) -> Result<Doc, RequestError>
@@ -148,6 +160,50 @@ fn read_asked(alloc: Global, value: &Value) -> Result<Option<Asked>, AllocError>
     Ok(Some(Asked { from, sent, hops }))
 }
 
+// The request of its parts, once the document's events are balanced.
+fn settle_all(alloc: Global, asked: Asked) -> Result<Request, RequestError>
+    ensures { Reads IsRequest (request_if (Some (asked_in asked))) result }
+{
+    let doc = settle(alloc, asked.sent)?;
+    Ok(Request {
+        from: asked.from,
+        doc,
+        hops: asked.hops,
+    })
+}
+
+// The same of a value that nothing else needs.
+fn take_asked(alloc: Global, value: Value) -> Result<Option<Asked>, AllocError>
+    ensures { IfOk result (λ o. option_map asked_in o ≡ asked_of (view value)) }
+{
+    if count_members(&value) != 3 {
+        return Ok(None);
+    }
+    let Some(from) = version_at(&value, "from") else {
+        return Ok(None);
+    };
+    let Some(hops) = read_hops(alloc, &value)? else {
+        return Ok(None);
+    };
+    let Some(document) = take_member(value, "doc") else {
+        return Ok(None);
+    };
+    match take_sent(alloc, document)? {
+        None => Ok(None),
+        Some(sent) => Ok(Some(Asked { from, sent, hops })),
+    }
+}
+
+/// `read_request` of a value that nothing else needs, so that its document isn't copied.
+pub(crate) fn take_request(alloc: Global, value: Value) -> Result<Request, RequestError>
+    ensures { Reads IsRequest (request_of (view value)) result }
+{
+    match take_asked(alloc, value)? {
+        None => Err(RequestError::Shape),
+        Some(asked) => settle_all(alloc, asked),
+    }
+}
+
 /// The request of a value: an object with exactly the members `from` (`"1.3"`, `"1.4"` or `"1.5"`), `doc`, a document
 /// by `read_doc`, and `hops`, an array of objects with exactly `form` (`"json"` or `"xml"`) and `version`.
 ///
@@ -156,13 +212,8 @@ fn read_asked(alloc: Global, value: &Value) -> Result<Option<Asked>, AllocError>
 pub fn read_request(alloc: Global, value: &Value) -> Result<Request, RequestError>
     ensures { Reads IsRequest (request_of (view value.now)) result }
 {
-    let Some(asked) = read_asked(alloc, value)? else {
-        return Err(RequestError::Shape);
-    };
-    let doc = settle(alloc, asked.sent)?;
-    Ok(Request {
-        from: asked.from,
-        doc,
-        hops: asked.hops,
-    })
+    match read_asked(alloc, value)? {
+        None => Err(RequestError::Shape),
+        Some(asked) => settle_all(alloc, asked),
+    }
 }

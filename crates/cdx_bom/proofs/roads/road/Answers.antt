@@ -1,11 +1,4 @@
-use Rattle.std.proofs.Common.{sym, ◌∙◌}
-use Rattle.cdx_bom.specs.Docs.{hops_of}
-use Rattle.cdx_bom.specs.Trees.{bom_tree}
-use Rattle.cdx_bom.proofs.Carried.{missing_then, hops_then}
 use Rattle.cdx_bom.proofs.roads.road.Goals as goal
 
-pub returns-then-not-fits_all : goal.returns-then-not-fits_all
-returns-then-not-fits_all c = λ x is. missing_then c.version_missing.result x c.args.v (hops_of c.args.hops.now) (bom_tree c.in_ok-bill.bill) (c.in_ok-bill.ensures x is) (sym c.fits_all.ensures ∙ c.if-not-fits_all.true) c.version_missing.ensures
-
 pub returns : goal.returns
-returns c = λ x is. hops_then c.along.result x c.args.v (hops_of c.args.hops.now) (bom_tree c.in_ok-bill.bill) (c.in_ok-bill.ensures x is) (sym c.fits_all.ensures ∙ c.if-not-fits_all.false) (c.along.ensures x c.args.v (c.in_ok-bill.ensures x is))
+returns c = λ x is. c.carry.ensures x c.args.v (c.in_ok-bill.ensures x is)
