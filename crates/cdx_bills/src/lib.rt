@@ -1,19 +1,17 @@
-//! Worked examples of whole bills: read, kept, written and carried along roads, through public calls.
+//! Worked examples of whole bills: as values, read, kept, written and carried along roads, through public calls.
 #![tactic(auto)]
 
 #[cfg(test)]
-mod bills;
-#[cfg(test)]
-mod documents;
-#[cfg(test)]
 mod faults;
-#[cfg(test)]
-mod forms;
 #[cfg(test)]
 mod reading;
 #[cfg(test)]
 mod roads;
 #[cfg(test)]
+mod short;
+#[cfg(test)]
 mod sources;
+#[cfg(test)]
+mod values;
 #[cfg(test)]
 mod writing;

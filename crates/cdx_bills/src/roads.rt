@@ -1,11 +1,11 @@
 //! Documents carried along roads, and roads that are refused.
 
-use crate::documents::{document, line_of};
 use crate::faults::of_road;
-use crate::forms::{hop_of, row, whole};
+use crate::short::{hop_of, row, whole};
 use cdx_bom::{Doc, Hop, RoadError, into_road, recode, road};
 use cdx_events::List;
 use cdx_models::SpecVersion;
+use cdx_vectors::documents::{document, line_of};
 use serde_json::Value;
 use std::alloc::{AllocError, Global};
 use std::test::Fail;
@@ -126,13 +126,16 @@ fn refused(rt: HostRuntime) -> Result<(), Fail> {
         ),
         (
             r#"1.5 json 1.5 "components":[{"name":"a","type":"library"}],"dependencies":1, -> json 1.3"#,
-            "wrong kind at /dependencies",
+            "WrongKind /dependencies",
         ),
         (
             r#"1.5 json 1.5 "dependencies":[{"ref":"a","dependsOn":null}], -> "#,
-            "wrong kind at /dependencies/0/dependsOn",
+            "WrongKind /dependencies/0/dependsOn",
         ),
-        (r#"1.5 start|<foo|>foo|end -> json 1.3"#, "start in bom 1"),
+        (
+            r#"1.5 start|<foo|>foo|end -> json 1.3"#,
+            "unexpected 1 bom StartElement",
+        ),
     ] {
         assert_eq!(rt; other(rt.alloc(), line)?.as_str(), fault, "{line}");
     }

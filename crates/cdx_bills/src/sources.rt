@@ -1,11 +1,12 @@
 //! Bills from sources of events that fail, break off or go on for too long.
 
-use crate::documents::list_of;
-use crate::faults::of_xml;
-use crate::forms::{V4, V5, only, shown};
+use crate::short::{only, shown};
 use cdx_bom::Bom;
 use cdx_events::{EventSource, MemoryEventSource, XmlEvent};
 use cdx_models::SpecVersion;
+use cdx_vectors::documents::list_of;
+use cdx_vectors::faults::of_xml;
+use cdx_vectors::forms::{V4, V5};
 use std::alloc::{AllocError, Global};
 use std::test::Fail;
 
@@ -38,15 +39,15 @@ fn budgets_and_failing_calls(rt: HostRuntime) -> Result<(), Fail> {
     let short = "start|<bom xmlns=1.5 version=x";
     for (line, budget, fails, v, answer) in [
         (LINE, 13usize, 0u64, V5, BILL),
-        (LINE, 5, 0, V5, "budget 5"),
-        (LINE, 13, 2, V5, "fault 1"),
-        (LINE, 0, 1, V5, "budget 0"),
+        (LINE, 5, 0, V5, "Budget 5"),
+        (LINE, 13, 2, V5, "Fault 1"),
+        (LINE, 0, 1, V5, "Budget 0"),
         (LINE, 13, 14, V5, BILL),
-        (LINE, 13, 13, V4, "fault 12"),
-        (LINE, 12, 0, V4, "budget 12"),
+        (LINE, 13, 13, V4, "Fault 12"),
+        (LINE, 12, 0, V4, "Budget 12"),
         (LINE, 13, 0, V4, OTHER),
-        (short, 13, 0, V5, "unbalanced 2"),
-        ("start|<a|>b|=x", 13, 0, V5, "unbalanced 2"),
+        (short, 13, 0, V5, "Unbalanced 2"),
+        ("start|<a|>b|=x", 13, 0, V5, "Unbalanced 2"),
     ] {
         let mut source = MemoryEventSource::new(list_of(alloc, line)?, only(alloc, fails)?);
         let found = gathered(alloc, &mut source, v, budget)?;
@@ -62,7 +63,7 @@ fn what_comes_after_the_document(rt: HostRuntime) -> Result<(), Fail> {
     let mut source = MemoryEventSource::new(events, only(alloc, 0)?);
     assert_eq!(rt;
         gathered(alloc, &mut source, V5, 13)?.as_str(),
-        "start in bom 1"
+        "unexpected 1 bom StartElement"
     );
     assert!(rt; matches!(source.next(), Ok(Some(XmlEvent::StartDocument))));
     Ok(())

@@ -1,11 +1,12 @@
 //! Bills written in each version, and put into sinks that may fail.
 
-use crate::documents::line_of;
 use crate::faults::{of_json_writing, of_xml_writing};
-use crate::forms::{V3, V4, V5, bill, hop_of, only, whole, written};
+use crate::short::{bill, hop_of, only, whole, written};
 use cdx_bom::{Bom, Form, Hop, PutError, put_text};
 use cdx_events::{EventWriter, MemoryEventSink, MemorySink, Text};
 use cdx_models::SpecVersion;
+use cdx_vectors::documents::line_of;
+use cdx_vectors::forms::{V3, V4, V5};
 use cdx_write::ToXml;
 use std::alloc::{AllocError, Global};
 use std::test::Fail;

@@ -60,7 +60,9 @@ fn rewrite(alloc: Global, doc: &Doc, v: SpecVersion, hop: Hop) -> Result<Doc, Ro
     ensures { (x : roads.Doc) → IsDoc doc.now x → AnswersDoc (rewritten x v (hop_of hop)) result }
 {
     let before = bill_of(alloc, doc, v)?;
-    Ok(spell(alloc, &before, hop)?)
+    let answer = spell(alloc, &before, hop);
+    drop(before);
+    Ok(answer?)
 }
 
 // Whether a hop is written in 1.3, which asks each component for a version.
@@ -89,14 +91,14 @@ fn version_missing() -> RoadError
 }
 
 // The documents of the hops, each of the document before it, the first of which is one that denotes the bill.
-fn along(alloc: Global, bill: Bom, hops: &[Hop]) -> Result<List<Doc>, RoadError>
-    ensures { (x : roads.Doc) (v : SpecVersion) → roads.denotes x v ≡ Ok (bom_tree bill) → Answers (roads.hops_from x v (hops_of hops.now)) result }
+fn along(alloc: Global, bill: &Bom, hops: &[Hop]) -> Result<List<Doc>, RoadError>
+    ensures { (x : roads.Doc) (v : SpecVersion) → roads.denotes x v ≡ Ok (bom_tree bill.now) → Answers (roads.hops_from x v (hops_of hops.now)) result }
 {
     let mut docs = List::new(alloc);
     let Some((first, rest)) = hops.split_first() else {
         return Ok(docs);
     };
-    let mut last = spell(alloc, &bill, *first)?;
+    let mut last = spell(alloc, bill, *first)?;
     let mut version = first.version;
     for hop in rest {
         let next = rewrite(alloc, &last, version, *hop)?;
@@ -113,9 +115,12 @@ fn carry(alloc: Global, bill: Bom, hops: &[Hop]) -> Result<List<Doc>, RoadError>
     ensures { (x : roads.Doc) (v : SpecVersion) → roads.denotes x v ≡ Ok (bom_tree bill) → Answers (roads.road x v (hops_of hops.now)) result }
 {
     if !fits_all(&bill, hops) {
+        drop(bill);
         return Err(version_missing());
     }
-    along(alloc, bill, hops)
+    let answer = along(alloc, &bill, hops);
+    drop(bill);
+    answer
 }
 
 /// The documents of a road: each hop reads the document before it, in the version in which that was written, and

@@ -38,6 +38,3 @@ pub use sending::{SendError, send};
 pub use stream::{Failed, Sink, Source};
 pub use text::Text;
 pub use writer::EventWriter;
-
-#[cfg(test)]
-mod tests;

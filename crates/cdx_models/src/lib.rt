@@ -24,6 +24,3 @@ pub use organization::{OrganizationalContact, OrganizationalEntity};
 pub use property::{Properties, Property};
 pub use tool::Tool;
 pub use tree::{HasTree, copy_row, same_row};
-
-#[cfg(test)]
-mod tests;

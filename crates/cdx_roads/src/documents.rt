@@ -153,7 +153,7 @@ fn carried(rt: HostRuntime) -> Result<(), Fail> {
         ),
     ];
     for (request, status, answer) in rows {
-        answered(&rt, alloc, request, status, answer)?;
+        answered(&rt, alloc, request.as_bytes(), status, answer)?;
     }
     Ok(())
 }
@@ -194,7 +194,7 @@ fn losses(rt: HostRuntime) -> Result<(), Fail> {
         ),
     ];
     for (request, status, answer) in rows {
-        answered(&rt, alloc, request, status, answer)?;
+        answered(&rt, alloc, request.as_bytes(), status, answer)?;
     }
     Ok(())
 }

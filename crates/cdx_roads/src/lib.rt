@@ -1,6 +1,8 @@
-//! Worked examples of the program: requests and their answers, words, and made bills.
+//! Worked examples of the program: requests and their answers, words, made bills, and its calls one by one.
 #![tactic(auto)]
 
+#[cfg(test)]
+mod calls;
 #[cfg(test)]
 mod documents;
 #[cfg(test)]

@@ -1,17 +1,23 @@
 //! The program by its words.
 
-use crate::expect::ended;
-use cdx_events::{List, MemorySink, SoundSource};
+use crate::expect::{bytes_of, ended, words_of};
+use cdx_events::{List, MemorySink, MemorySource, SoundSource};
 use cdx_tool::run;
+use std::alloc::{AllocError, Global};
+use std::process::Abort;
 use std::test::Fail;
+
+const NO_HOP: &str =
+    r#"{"from":"1.5","doc":{"json":{"bomFormat":"CycloneDX","specVersion":"1.5","version":1}},"hops":[]}"#;
 
 #[test]
 fn words(rt: HostRuntime) -> Result<(), Fail> {
     let alloc = rt.alloc();
-    let rows: [(&[&str], u8, &str); 14] = [
+    let rows: [(&[&str], u8, &str); 15] = [
         (&[], 2, r#"{"request":"words"}"#),
         (&["road", "x"], 2, r#"{"request":"words"}"#),
         (&["roads"], 2, r#"{"request":"words"}"#),
+        (&["road"], 0, r#"{"documents":[]}"#),
         (&["make"], 2, r#"{"request":"words"}"#),
         (&["make", "0"], 2, r#"{"request":"words"}"#),
         (&["make", "020"], 2, r#"{"request":"words"}"#),
@@ -33,7 +39,7 @@ fn words(rt: HostRuntime) -> Result<(), Fail> {
         ),
     ];
     for (words, status, text) in rows {
-        ended(&rt, alloc, words, "", status, text)?;
+        ended(&rt, alloc, words, NO_HOP, status, text)?;
     }
     Ok(())
 }
@@ -48,12 +54,40 @@ fn largest_bill_made(rt: HostRuntime) -> Result<(), Fail> {
 #[test]
 fn one_byte_too_many(rt: HostRuntime) -> Result<(), Fail> {
     let alloc = rt.alloc();
-    let mut words = Vec::new(alloc);
-    words.push(String::from_str(alloc, "road")?)?;
+    let words = words_of(alloc, &["road"])?;
     let spaces = vec![in alloc; b' '; 67_108_865]?;
     let mut source = SoundSource::new(List::from_vec(spaces));
     let mut sink = MemorySink::new(alloc, 64, 64, List::new(alloc))?;
     assert_eq!(rt; run(alloc, words.as_slice(), &mut source, &mut sink), 6);
     assert_eq!(rt; sink.written(), "{\"request\":\"too long\"}\n".as_bytes());
+    Ok(())
+}
+
+// A call of the source and one of the sink fail.
+fn failing(
+    rt: &impl Abort,
+    alloc: Global,
+    source_fails: u64,
+    sink_fails: u64,
+    status: u8,
+    output: &str,
+) -> Result<(), AllocError> {
+    let words = words_of(alloc, &["road"])?;
+    let source_fails = List::from_vec([source_fails].to_vec(alloc)?);
+    let sink_fails = List::from_vec([sink_fails].to_vec(alloc)?);
+    let mut source = MemorySource::new(bytes_of(alloc, NO_HOP)?, 16, source_fails);
+    let mut sink = MemorySink::new(alloc, 4096, 10, sink_fails)?;
+    let found = run(alloc, words.as_slice(), &mut source, &mut sink);
+    assert_eq!(rt; found, status);
+    assert_eq!(rt; sink.written(), output.as_bytes());
+    Ok(())
+}
+
+#[test]
+fn failing_ends(rt: HostRuntime) -> Result<(), Fail> {
+    let alloc = rt.alloc();
+    failing(&rt, alloc, 2, 99, 3, "")?;
+    failing(&rt, alloc, 99, 2, 4, "{\"document")?;
+    failing(&rt, alloc, 99, 99, 0, "{\"documents\":[]}\n")?;
     Ok(())
 }

@@ -81,7 +81,7 @@ fn in_json(rt: HostRuntime) -> Result<(), Fail> {
         ),
     ];
     for (request, status, answer) in rows {
-        answered(&rt, alloc, request, status, answer)?;
+        answered(&rt, alloc, request.as_bytes(), status, answer)?;
     }
     Ok(())
 }
@@ -158,7 +158,7 @@ fn in_xml(rt: HostRuntime) -> Result<(), Fail> {
         ),
     ];
     for (request, status, answer) in rows {
-        answered(&rt, alloc, request, status, answer)?;
+        answered(&rt, alloc, request.as_bytes(), status, answer)?;
     }
     Ok(())
 }
@@ -207,7 +207,25 @@ fn no_requests(rt: HostRuntime) -> Result<(), Fail> {
         ),
     ];
     for (request, status, answer) in rows {
-        answered(&rt, alloc, request, status, answer)?;
+        answered(&rt, alloc, request.as_bytes(), status, answer)?;
     }
+    Ok(())
+}
+
+// serde_json reads values nested up to 127 deep, and a request is text in UTF-8.
+#[test]
+fn bytes_that_are_no_json(rt: HostRuntime) -> Result<(), Fail> {
+    let alloc = rt.alloc();
+    for (depth, text) in [
+        (127, r#"{"request":"shape"}"#),
+        (128, r#"{"request":"not JSON"}"#),
+    ] {
+        let mut bytes = vec![in alloc; b'['; depth]?;
+        for _ in 0..depth {
+            bytes.push(b']')?;
+        }
+        answered(&rt, alloc, bytes.as_slice(), 2, text)?;
+    }
+    answered(&rt, alloc, b"\"\xff\"", 2, r#"{"request":"not JSON"}"#)?;
     Ok(())
 }

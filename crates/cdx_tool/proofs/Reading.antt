@@ -1,4 +1,4 @@
--- A value read part by part is the request that it stands for.
+-- A value read part by part is the hop or the document that it stands for.
 use Rattle.std.proofs.Common.{◌≡◌, ℕ, List, ◌∷◌, Bool, true, false, cond, eqb, codes, Option, Some, None, option_map, Result, Ok, Err, IfOk, refl, sym, ap, ◌∙◌}
 use Rattle.std.specs.Option.{option_and_then}
 use Rattle.std.specs.Str.{bytes_eq}
@@ -17,7 +17,7 @@ use Rattle.cdx_bom.specs.declared.doc.Hop.{Hop}
 use Rattle.cdx_bom.specs.Docs as shown
 use Rattle.cdx_request.specs.Parts.{member_count, text_at, version_at, all_in}
 use Rattle.cdx_request.specs.Breaks.{BreaksLaw}
-use Rattle.cdx_request.specs.Requests.{Misread, unbalanced, rooted, doc_of, form_of, hop_of, hops_at, Asked, asked_of, request_of}
+use Rattle.cdx_request.specs.Requests.{Misread, unbalanced, rooted, doc_of, form_of, hop_of, hops_at}
 use Rattle.cdx_tool.specs.Reads.{form_read, hop_read}
 
 -- ---- hops
@@ -80,8 +80,3 @@ broken_is list place law b = by (root_of list) refl
     by : (o : Option Frame) → root_of list ≡ o → rooted list o ≡ Err (unbalanced place)
     by None is = ap (λ (n : ℕ). let r : Result roads.Doc Misread = Err (unbalanced n) in r) (sym ((law list).1 place b))
     by (Some r) is = absurd (b.unbalanced (record { name = r.name; attributes = r.attributes; namespace = r.namespace; nodes = r.before; whole = root_whole list r is }))
-
--- ---- requests
-
-pub request_is : (d : Data) (a : Asked) (x : roads.Doc) → Some a ≡ asked_of d → doc_of a.sent ≡ Ok x → request_of d ≡ Ok (record { from = a.from; doc = x; hops = a.hops })
-request_is d a x asks is = rw (sym asks, is) refl

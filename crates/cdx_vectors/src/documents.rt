@@ -1,146 +1,160 @@
-//! Documents from rows of pieces, and faults as texts.
+//! Documents as lines: `start`, `<name` with attributes as `name=value`, `=text`, `!text` for CDATA, `>name` and `end`,
+//! parted by `|`. The word `xmlns=1.5` is the default namespace of CycloneDX 1.5.
 
 use cdx_events::{Events, List, Namespace, OwnedAttribute, OwnedName, Text, XmlEvent};
-use cdx_leaf::{FromXml, read_root};
-use cdx_models::{SpecVersion, XmlReadError};
 use std::alloc::{AllocError, Global};
+use std::test::Fail;
 
-#[derive(Clone, Copy)]
-pub enum Piece<'a> {
-    Open(&'a str),
-    /// A start tag with one attribute.
-    With(&'a str, &'a str, &'a str),
-    /// A start tag with two attributes, each a name and a value.
-    WithTwo(&'a str, &'a str, &'a str, &'a str, &'a str),
-    Words(&'a str),
-    Close(&'a str),
+// What the default namespaces of CycloneDX begin with.
+const FORMAT: &str = "http://cyclonedx.org/schema/bom/";
+
+fn attribute(alloc: Global, name: &str, value: &str) -> Result<OwnedAttribute, AllocError> {
+    let name = OwnedName::local(alloc, name)?;
+    let value = Text::new(alloc, value)?;
+    Ok(OwnedAttribute { name, value })
 }
 
 fn push_attribute(
     alloc: Global,
     attributes: &mut List<OwnedAttribute>,
-    name: &str,
-    value: &str,
+    word: &str,
 ) -> Result<(), AllocError> {
-    attributes.push(OwnedAttribute {
-        name: OwnedName::local(alloc, name)?,
-        value: Text::new(alloc, value)?,
-    })
+    let Some((name, value)) = word.split_once('=') else {
+        return Ok(());
+    };
+    if name == "xmlns" {
+        return Ok(());
+    }
+    attributes.push(attribute(alloc, name, value)?)
 }
 
-fn start(
-    alloc: Global,
-    name: &str,
-    attributes: List<OwnedAttribute>,
-) -> Result<XmlEvent, AllocError> {
+fn default_of(alloc: Global, words: &str) -> Result<Option<Text>, AllocError> {
+    let Some((_, rest)) = words.split_once(" xmlns=") else {
+        return Ok(None);
+    };
+    let version = match rest.split_once(' ') {
+        Some((version, _)) => version,
+        None => rest,
+    };
+    let default = format!(in alloc; "{FORMAT}{version}")?;
+    Ok(Some(Text::from_string(default)))
+}
+
+// The element of the first word.
+fn start(alloc: Global, words: &str) -> Result<XmlEvent, AllocError> {
+    let mut attributes = List::new(alloc);
+    for word in words.split(' ') {
+        push_attribute(alloc, &mut attributes, word)?;
+    }
+    let name = match words.split_once(' ') {
+        Some((name, _)) => name,
+        None => words,
+    };
     Ok(XmlEvent::StartElement {
         name: OwnedName::local(alloc, name)?,
         attributes,
-        namespace: Namespace { default: None },
+        namespace: Namespace {
+            default: default_of(alloc, words)?,
+        },
     })
 }
 
-fn event(alloc: Global, piece: Piece<'_>) -> Result<XmlEvent, AllocError> {
-    let mut attributes = List::new(alloc);
+fn event(alloc: Global, piece: &str) -> Result<XmlEvent, AllocError> {
+    if let Some(words) = piece.strip_prefix('<') {
+        return start(alloc, words);
+    }
+    if let Some(name) = piece.strip_prefix('>') {
+        let name = OwnedName::local(alloc, name)?;
+        return Ok(XmlEvent::EndElement { name });
+    }
     match piece {
-        Piece::Open(name) => start(alloc, name, attributes),
-        Piece::With(name, one, value) => {
-            push_attribute(alloc, &mut attributes, one, value)?;
-            start(alloc, name, attributes)
-        }
-        Piece::WithTwo(name, one, value, two, other) => {
-            push_attribute(alloc, &mut attributes, one, value)?;
-            push_attribute(alloc, &mut attributes, two, other)?;
-            start(alloc, name, attributes)
-        }
-        Piece::Words(text) => Ok(XmlEvent::Characters(Text::new(alloc, text)?)),
-        Piece::Close(name) => Ok(XmlEvent::EndElement {
-            name: OwnedName::local(alloc, name)?,
-        }),
+        "start" => Ok(XmlEvent::StartDocument),
+        "end" => Ok(XmlEvent::EndDocument),
+        _ => text_event(alloc, piece),
     }
 }
 
-fn list_of(alloc: Global, pieces: &[Piece<'_>]) -> Result<List<XmlEvent>, AllocError> {
-    let mut list = List::new(alloc);
-    list.push(XmlEvent::StartDocument)?;
-    for piece in pieces {
-        list.push(event(alloc, *piece)?)?;
+fn text_event(alloc: Global, piece: &str) -> Result<XmlEvent, AllocError> {
+    if let Some(text) = piece.strip_prefix('!') {
+        return Ok(XmlEvent::CData(Text::new(alloc, text)?));
     }
-    list.push(XmlEvent::EndDocument)?;
+    let text = piece.strip_prefix('=').unwrap_or(piece);
+    Ok(XmlEvent::Characters(Text::new(alloc, text)?))
+}
+
+/// The events of the line.
+pub fn list_of(alloc: Global, line: &str) -> Result<List<XmlEvent>, AllocError> {
+    let mut list = List::new(alloc);
+    for piece in line.split('|') {
+        list.push(event(alloc, piece)?)?;
+    }
     Ok(list)
 }
 
-/// The document of these pieces, None where they aren't balanced.
-pub fn document(alloc: Global, pieces: &[Piece<'_>]) -> Result<Option<Events>, AllocError> {
-    match Events::from_list(alloc, list_of(alloc, pieces)?) {
-        Ok(events) => Ok(Some(events)),
-        Err(_) => Ok(None),
+/// The document of the line.
+pub fn document(alloc: Global, line: &str) -> Result<Events, Fail> {
+    Ok(Events::from_list(alloc, list_of(alloc, line)?)?)
+}
+
+// A name with a prefix or a namespace, which none is written with, is marked.
+fn put_name(line: &mut String, mark: char, name: &OwnedName) -> Result<(), AllocError> {
+    line.push(mark)?;
+    if name.prefix.is_some() || name.namespace.is_some() {
+        line.push('?')?;
+    }
+    line.push_str(name.local_name.as_str())
+}
+
+fn put_default(line: &mut String, namespace: &Namespace) -> Result<(), AllocError> {
+    let Some(default) = &namespace.default else {
+        return Ok(());
+    };
+    let default = default.as_str();
+    line.push_str(" xmlns=")?;
+    line.push_str(default.strip_prefix(FORMAT).unwrap_or(default))
+}
+
+fn put_attributes(line: &mut String, attributes: &List<OwnedAttribute>) -> Result<(), AllocError> {
+    for attribute in attributes.as_slice() {
+        put_name(line, ' ', &attribute.name)?;
+        line.push('=')?;
+        line.push_str(attribute.value.as_str())?;
+    }
+    Ok(())
+}
+
+fn put_text(line: &mut String, mark: char, text: &Text) -> Result<(), AllocError> {
+    line.push(mark)?;
+    line.push_str(text.as_str())
+}
+
+fn put_event(line: &mut String, event: &XmlEvent) -> Result<(), AllocError> {
+    match event {
+        XmlEvent::StartDocument => line.push_str("start"),
+        XmlEvent::StartElement {
+            name,
+            attributes,
+            namespace,
+        } => {
+            put_name(line, '<', name)?;
+            put_default(line, namespace)?;
+            put_attributes(line, attributes)
+        }
+        XmlEvent::EndElement { name } => put_name(line, '>', name),
+        XmlEvent::Characters(text) => put_text(line, '=', text),
+        XmlEvent::CData(text) => put_text(line, '!', text),
+        XmlEvent::EndDocument => line.push_str("end"),
     }
 }
 
-/// What the root of the document of these pieces is read as.
-pub fn read<X: FromXml>(
-    alloc: Global,
-    v: SpecVersion,
-    pieces: &[Piece<'_>],
-) -> Result<Result<X, XmlReadError>, AllocError> {
-    match document(alloc, pieces)? {
-        Some(events) => Ok(read_root(alloc, &events, v)),
-        None => Ok(Err(XmlReadError::TooDeep { place: 0 })),
+/// The line of the events.
+pub fn line_of(alloc: Global, events: &[XmlEvent]) -> Result<String, AllocError> {
+    let mut line = String::new(alloc);
+    for event in events {
+        if !line.is_empty() {
+            line.push('|')?;
+        }
+        put_event(&mut line, event)?;
     }
-}
-
-/// The fault in one line: its sort, its place and its texts.
-pub fn told(alloc: Global, fault: &XmlReadError) -> Result<String, AllocError> {
-    match fault {
-        XmlReadError::UnexpectedElementReadError {
-            place,
-            element,
-            found,
-        } => format!(in alloc; "unexpected {place} {} {found:?}", element.as_str()),
-        XmlReadError::RequiredDataMissing {
-            place,
-            element,
-            required_field,
-        } => format!(in alloc;
-            "missing {place} {} {}",
-            element.as_str(),
-            required_field.as_str()
-        ),
-        XmlReadError::InvalidParseError {
-            place,
-            element,
-            value,
-            data_type,
-        } => format!(in alloc;
-            "parse {place} {} {} {}",
-            element.as_str(),
-            value.as_str(),
-            data_type.as_str()
-        ),
-        XmlReadError::InvalidNamespaceError {
-            expected_namespace,
-            actual_namespace,
-        } => match actual_namespace {
-            Some(actual) => format!(in alloc;
-                "namespace {} {}",
-                expected_namespace.as_str(),
-                actual.as_str()
-            ),
-            None => format!(in alloc; "namespace {}", expected_namespace.as_str()),
-        },
-        _ => String::from_str(alloc, "another fault"),
-    }
-}
-
-/// The fault that the document is refused with, in one line; `read` where it is read.
-pub fn refusal<X: FromXml>(
-    alloc: Global,
-    v: SpecVersion,
-    pieces: &[Piece<'_>],
-) -> Result<String, AllocError> {
-    match read::<X>(alloc, v, pieces)? {
-        Ok(_) => String::from_str(alloc, "read"),
-        Err(fault) => told(alloc, &fault),
-    }
+    Ok(line)
 }

@@ -1,15 +1,19 @@
-//! Worked examples of the leaf records, through public calls: copies and comparisons, JSON, and XML.
+//! Worked examples of events and of the records that a bill holds, through public calls; and for the tests here and
+//! above documents as lines, faults as texts, and what a text or a document comes to.
 #![tactic(auto)]
 
 #[cfg(test)]
-mod copies;
+mod checks;
+pub mod documents;
 #[cfg(test)]
-mod documents;
+mod events;
+pub mod faults;
+pub mod forms;
 #[cfg(test)]
-mod helpers;
+mod leaves;
 #[cfg(test)]
-mod json;
+mod nested;
 #[cfg(test)]
-mod written;
+mod sinks;
 #[cfg(test)]
-mod xml;
+mod tags;

@@ -13,9 +13,9 @@ fn copy_inventory(bom: &Bom, alloc: Global) -> Result<Inventory, AllocError>
     ensures { IfOk result (λ r. inventory_trees r ≡ inventory bom.now) }
 {
     let serial_number = copy_row(alloc, &bom.serial_number)?;
-    let metadata = copy_row(alloc, &bom.metadata)?;
     let components = copy_row(alloc, &bom.components)?;
     let services = copy_row(alloc, &bom.services)?;
+    let metadata = copy_row(alloc, &bom.metadata)?;
     Ok(Inventory {
         spec_version: bom.spec_version,
         version: bom.version,
@@ -46,7 +46,7 @@ fn copy_relations(bom: &Bom, alloc: Global) -> Result<Relations, AllocError>
 pub(crate) fn copy_bom(bom: &Bom, alloc: Global) -> Result<Bom, AllocError>
     ensures { IfOk result (λ r. bom_tree r ≡ bom_tree bom.now) }
 {
-    let inventory = copy_inventory(bom, alloc)?;
     let relations = copy_relations(bom, alloc)?;
+    let inventory = copy_inventory(bom, alloc)?;
     Ok(assemble(inventory, relations))
 }

@@ -58,8 +58,8 @@ impl Kept for Bom {
         version: SpecVersion,
         label: SpecVersion,
     ) -> Result<Bom, AllocError> {
-        let inventory = keep_inventory(self, alloc, version, label)?;
         let relations = keep_relations(self, alloc, version, label)?;
+        let inventory = keep_inventory(self, alloc, version, label)?;
         Ok(assemble(inventory, relations))
     }
 }
@@ -86,8 +86,13 @@ fn bom_from_members(
 {
     read_format(alloc, map, version, depth)?;
     let inventory = read_inventory(alloc, map, version, depth)?;
-    let relations = read_relations(alloc, map, version, depth)?;
-    Ok(assemble(inventory, relations))
+    match read_relations(alloc, map, version, depth) {
+        Ok(relations) => Ok(assemble(inventory, relations)),
+        Err(error) => {
+            drop(inventory);
+            Err(error)
+        }
+    }
 }
 
 // The format's name, which each bill in JSON tells.

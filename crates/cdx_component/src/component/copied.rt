@@ -17,9 +17,9 @@ fn copy_origin(component: &Component, alloc: Global) -> Result<Origin, AllocErro
     let component_type = component.component_type.copy(alloc)?;
     let mime_type = copy_row(alloc, &component.mime_type)?;
     let bom_ref = copy_row(alloc, &component.bom_ref)?;
-    let supplier = copy_row(alloc, &component.supplier)?;
     let author = copy_row(alloc, &component.author)?;
     let publisher = copy_row(alloc, &component.publisher)?;
+    let supplier = copy_row(alloc, &component.supplier)?;
     Ok(Origin {
         component_type,
         mime_type,
@@ -56,8 +56,8 @@ fn copy_marks(component: &Component, alloc: Global) -> Result<Marks, AllocError>
     let copyright = copy_row(alloc, &component.copyright)?;
     let cpe = copy_row(alloc, &component.cpe)?;
     let purl = copy_row(alloc, &component.purl)?;
-    let swid = copy_row(alloc, &component.swid)?;
     let modified = copy_row(alloc, &component.modified)?;
+    let swid = copy_row(alloc, &component.swid)?;
     Ok(Marks {
         licenses,
         copyright,
@@ -72,12 +72,12 @@ fn copy_marks(component: &Component, alloc: Global) -> Result<Marks, AllocError>
 fn copy_contents(component: &Component, alloc: Global) -> Result<Contents, AllocError>
     ensures { IfOk result (λ r. contents_trees r ≡ contents components_tree pedigree_tree (out-Component component.now)) }
 {
-    let pedigree = copy_pedigree_row(&component.pedigree, alloc)?;
     let external_references = copy_row(alloc, &component.external_references)?;
     let properties = copy_row(alloc, &component.properties)?;
     let components = copy_components_row(&component.components, alloc)?;
     let evidence = copy_row(alloc, &component.evidence)?;
     let signature = copy_row(alloc, &component.signature)?;
+    let pedigree = copy_pedigree_row(&component.pedigree, alloc)?;
     Ok(Contents {
         pedigree,
         external_references,
@@ -93,9 +93,27 @@ pub(crate) fn copy_component(component: &Component, alloc: Global) -> Result<Com
     ensures { IfOk result (λ r. component_tree r ≡ component_tree component.now) }
 {
     let origin = copy_origin(component, alloc)?;
-    let naming = copy_naming(component, alloc)?;
-    let marks = copy_marks(component, alloc)?;
-    let contents = copy_contents(component, alloc)?;
+    let naming = match copy_naming(component, alloc) {
+        Ok(naming) => naming,
+        Err(error) => {
+            drop(origin);
+            return Err(error);
+        }
+    };
+    let marks = match copy_marks(component, alloc) {
+        Ok(marks) => marks,
+        Err(error) => {
+            drop((origin, naming));
+            return Err(error);
+        }
+    };
+    let contents = match copy_contents(component, alloc) {
+        Ok(contents) => contents,
+        Err(error) => {
+            drop((origin, naming, marks));
+            return Err(error);
+        }
+    };
     Ok(assemble(origin, naming, marks, contents))
 }
 

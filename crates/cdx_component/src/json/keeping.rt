@@ -27,9 +27,27 @@ pub(crate) fn keep_component(
     ensures { IfOk result (λ r. component_tree r ≡ kept version label (component_tree held.now) (a_record component)) }
 {
     let origin = keep_origin(held, alloc, version, label)?;
-    let naming = keep_naming(held, alloc, version, label)?;
-    let marks = keep_marks(held, alloc, version, label)?;
-    let contents = keep_contents(held, alloc, version, label)?;
+    let naming = match keep_naming(held, alloc, version, label) {
+        Ok(naming) => naming,
+        Err(error) => {
+            drop(origin);
+            return Err(error);
+        }
+    };
+    let marks = match keep_marks(held, alloc, version, label) {
+        Ok(marks) => marks,
+        Err(error) => {
+            drop((origin, naming));
+            return Err(error);
+        }
+    };
+    let contents = match keep_contents(held, alloc, version, label) {
+        Ok(contents) => contents,
+        Err(error) => {
+            drop((origin, naming, marks));
+            return Err(error);
+        }
+    };
     Ok(assemble(origin, naming, marks, contents))
 }
 
@@ -88,9 +106,9 @@ fn keep_origin(
     let component_type = held.component_type.kept_as(alloc, version, label)?;
     let mime_type = keep_row(alloc, &held.mime_type, version, label)?;
     let bom_ref = keep_row(alloc, &held.bom_ref, version, label)?;
-    let supplier = keep_row(alloc, &held.supplier, version, label)?;
     let author = keep_row(alloc, &held.author, version, label)?;
     let publisher = keep_row(alloc, &held.publisher, version, label)?;
+    let supplier = keep_row(alloc, &held.supplier, version, label)?;
     Ok(Origin {
         component_type,
         mime_type,
@@ -139,8 +157,8 @@ fn keep_marks(
     let copyright = keep_row(alloc, &held.copyright, version, label)?;
     let cpe = keep_row(alloc, &held.cpe, version, label)?;
     let purl = keep_row(alloc, &held.purl, version, label)?;
-    let swid = keep_row(alloc, &held.swid, version, label)?;
     let modified = keep_row(alloc, &held.modified, version, label)?;
+    let swid = keep_row(alloc, &held.swid, version, label)?;
     Ok(Marks {
         licenses,
         copyright,
@@ -161,12 +179,12 @@ fn keep_contents(
 ) -> Result<Contents, AllocError>
     ensures { IfOk result (λ r. contents_trees r ≡ rows_held version label (contents components_tree pedigree_tree (out-Component held.now)) (group 3 component)) }
 {
-    let pedigree = keep_pedigree_row(&held.pedigree, alloc, version, label)?;
     let external_references = keep_row(alloc, &held.external_references, version, label)?;
     let properties = keep_row(alloc, &held.properties, version, label)?;
     let components = keep_components_row(&held.components, alloc, version, label)?;
     let evidence = keep_row(alloc, &held.evidence, version, label)?;
     let signature = keep_row_since(alloc, &held.signature, SpecVersion::V1_4, version, label)?;
+    let pedigree = keep_pedigree_row(&held.pedigree, alloc, version, label)?;
     Ok(Contents {
         pedigree,
         external_references,

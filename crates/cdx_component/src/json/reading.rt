@@ -57,9 +57,27 @@ fn component_from_members(
     ensures { Gives component_tree result (component_by_groups (seen (members_view map.now.entries)) version (depth_of depth)) }
 {
     let origin = read_origin(alloc, map, version, depth)?;
-    let naming = read_naming(alloc, map, version, depth)?;
-    let marks = read_marks(alloc, map, version, depth)?;
-    let contents = read_contents(alloc, map, version, depth)?;
+    let naming = match read_naming(alloc, map, version, depth) {
+        Ok(naming) => naming,
+        Err(error) => {
+            drop(origin);
+            return Err(error);
+        }
+    };
+    let marks = match read_marks(alloc, map, version, depth) {
+        Ok(marks) => marks,
+        Err(error) => {
+            drop((origin, naming));
+            return Err(error);
+        }
+    };
+    let contents = match read_contents(alloc, map, version, depth) {
+        Ok(contents) => contents,
+        Err(error) => {
+            drop((origin, naming, marks));
+            return Err(error);
+        }
+    };
     Ok(assemble(origin, naming, marks, contents))
 }
 

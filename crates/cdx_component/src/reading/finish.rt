@@ -72,8 +72,19 @@ pub(crate) fn finish_component(
 ) -> Result<Component, XmlReadError>
     ensures { Gives (λ x. fields_of (component_tree x)) (place + 1) (ended (rows component) (component_part part) v element.now.local_name place) result }
 {
-    let naming = finish_naming(alloc, place, v, element, part.naming)?;
-    Ok(assemble(part.origin, naming, part.marks, part.contents))
+    let ComponentPart {
+        origin,
+        naming: read,
+        marks,
+        contents,
+    } = part;
+    match finish_naming(alloc, place, v, element, read) {
+        Ok(naming) => Ok(assemble(origin, naming, marks, contents)),
+        Err(error) => {
+            drop((origin, marks, contents));
+            Err(error)
+        }
+    }
 }
 
 /// The pedigree that was read.

@@ -80,8 +80,8 @@ impl Record for Metadata {
         version: SpecVersion,
         label: SpecVersion,
     ) -> Result<Metadata, AllocError> {
-        let makers = keep_makers(self, alloc, version, label)?;
         let terms = keep_terms(self, alloc, version, label)?;
+        let makers = keep_makers(self, alloc, version, label)?;
         Ok(assemble(makers, terms))
     }
 
@@ -107,8 +107,13 @@ fn metadata_from_members(
         (metadata_by_groups (seen (members_view map.now.entries)) version (depth_of depth)) }
 {
     let makers = read_makers(alloc, map, version, depth)?;
-    let terms = read_terms(alloc, map, version, depth)?;
-    Ok(assemble(makers, terms))
+    match read_terms(alloc, map, version, depth) {
+        Ok(terms) => Ok(assemble(makers, terms)),
+        Err(error) => {
+            drop(makers);
+            Err(error)
+        }
+    }
 }
 
 fn read_makers(
@@ -123,8 +128,20 @@ fn read_makers(
     let tools = optional_row(alloc, map, "tools", version, depth)?;
     let authors = optional_list_row(alloc, map, "authors", version, depth)?;
     let component = optional_row(alloc, map, "component", version, depth)?;
-    let manufacture = optional_row(alloc, map, "manufacture", version, depth)?;
-    let supplier = optional_row(alloc, map, "supplier", version, depth)?;
+    let manufacture = match optional_row(alloc, map, "manufacture", version, depth) {
+        Ok(manufacture) => manufacture,
+        Err(error) => {
+            drop(component);
+            return Err(error);
+        }
+    };
+    let supplier = match optional_row(alloc, map, "supplier", version, depth) {
+        Ok(supplier) => supplier,
+        Err(error) => {
+            drop(component);
+            return Err(error);
+        }
+    };
     Ok(Makers {
         timestamp,
         tools,
@@ -163,9 +180,9 @@ fn keep_makers(
     let timestamp = keep_row(alloc, &held.timestamp, version, label)?;
     let tools = keep_row(alloc, &held.tools, version, label)?;
     let authors = keep_optional_list(alloc, &held.authors, version, label)?;
-    let component = keep_row(alloc, &held.component, version, label)?;
     let manufacture = keep_row(alloc, &held.manufacture, version, label)?;
     let supplier = keep_row(alloc, &held.supplier, version, label)?;
+    let component = keep_row(alloc, &held.component, version, label)?;
     Ok(Makers {
         timestamp,
         tools,

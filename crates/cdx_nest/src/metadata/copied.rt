@@ -15,9 +15,9 @@ fn copy_makers(metadata: &Metadata, alloc: Global) -> Result<Makers, AllocError>
     let timestamp = copy_row(alloc, &metadata.timestamp)?;
     let tools = copy_row(alloc, &metadata.tools)?;
     let authors = copy_row(alloc, &metadata.authors)?;
-    let component = copy_row(alloc, &metadata.component)?;
     let manufacture = copy_row(alloc, &metadata.manufacture)?;
     let supplier = copy_row(alloc, &metadata.supplier)?;
+    let component = copy_row(alloc, &metadata.component)?;
     Ok(Makers {
         timestamp,
         tools,
@@ -42,7 +42,7 @@ fn copy_terms(metadata: &Metadata, alloc: Global) -> Result<Terms, AllocError>
 pub(crate) fn copy_metadata(metadata: &Metadata, alloc: Global) -> Result<Metadata, AllocError>
     ensures { IfOk result (λ r. metadata_tree r ≡ metadata_tree metadata.now) }
 {
-    let makers = copy_makers(metadata, alloc)?;
     let terms = copy_terms(metadata, alloc)?;
+    let makers = copy_makers(metadata, alloc)?;
     Ok(assemble(makers, terms))
 }

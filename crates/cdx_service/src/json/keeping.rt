@@ -27,8 +27,20 @@ pub(crate) fn keep_service(
     ensures { IfOk result (λ r. service_tree r ≡ kept version label (service_tree held.now) (a_record service)) }
 {
     let service_naming = keep_service_naming(held, alloc, version, label)?;
-    let service_access = keep_service_access(held, alloc, version, label)?;
-    let service_contents = keep_service_contents(held, alloc, version, label)?;
+    let service_access = match keep_service_access(held, alloc, version, label) {
+        Ok(service_access) => service_access,
+        Err(error) => {
+            drop(service_naming);
+            return Err(error);
+        }
+    };
+    let service_contents = match keep_service_contents(held, alloc, version, label) {
+        Ok(service_contents) => service_contents,
+        Err(error) => {
+            drop((service_naming, service_access));
+            return Err(error);
+        }
+    };
     Ok(assemble(service_naming, service_access, service_contents))
 }
 
@@ -59,11 +71,11 @@ fn keep_service_naming(
     ensures { IfOk result (λ r. service_naming_trees r ≡ rows_held version label (service_naming (out-Service held.now)) (group 0 service)) }
 {
     let bom_ref = keep_row(alloc, &held.bom_ref, version, label)?;
-    let provider = keep_row(alloc, &held.provider, version, label)?;
     let group = keep_row(alloc, &held.group, version, label)?;
     let name = held.name.kept_as(alloc, version, label)?;
     let held_version = keep_row(alloc, &held.version, version, label)?;
     let description = keep_row(alloc, &held.description, version, label)?;
+    let provider = keep_row(alloc, &held.provider, version, label)?;
     Ok(ServiceNaming {
         bom_ref,
         provider,

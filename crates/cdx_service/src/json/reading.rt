@@ -57,8 +57,20 @@ fn service_from_members(
     ensures { Gives service_tree result (service_by_groups (seen (members_view map.now.entries)) version (depth_of depth)) }
 {
     let service_naming = read_service_naming(alloc, map, version, depth)?;
-    let service_access = read_service_access(alloc, map, version, depth)?;
-    let service_contents = read_service_contents(alloc, map, version, depth)?;
+    let service_access = match read_service_access(alloc, map, version, depth) {
+        Ok(service_access) => service_access,
+        Err(error) => {
+            drop(service_naming);
+            return Err(error);
+        }
+    };
+    let service_contents = match read_service_contents(alloc, map, version, depth) {
+        Ok(service_contents) => service_contents,
+        Err(error) => {
+            drop((service_naming, service_access));
+            return Err(error);
+        }
+    };
     Ok(assemble(service_naming, service_access, service_contents))
 }
 

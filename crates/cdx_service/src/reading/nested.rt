@@ -96,8 +96,18 @@ fn finish_service(
 ) -> Result<Service, XmlReadError>
     ensures { (v : SpecVersion) → Gives (λ x. fields_of (service_tree x)) (place + 1) (ended (rows service) (service_part part) v element.now.local_name place) result }
 {
-    let naming = finish_naming(alloc, place, element, part.naming)?;
-    Ok(assemble(naming, part.access, part.contents))
+    let ServicePart {
+        naming: read,
+        access,
+        contents,
+    } = part;
+    match finish_naming(alloc, place, element, read) {
+        Ok(naming) => Ok(assemble(naming, access, contents)),
+        Err(error) => {
+            drop((access, contents));
+            Err(error)
+        }
+    }
 }
 
 /// The service that the element is. Inside 32 services it is too deep, at the place of its start and whatever it holds.

@@ -15,11 +15,11 @@ fn copy_service_naming(service: &Service, alloc: Global) -> Result<ServiceNaming
     ensures { IfOk result (λ r. service_naming_trees r ≡ service_naming (out-Service service.now)) }
 {
     let bom_ref = copy_row(alloc, &service.bom_ref)?;
-    let provider = copy_row(alloc, &service.provider)?;
     let group = copy_row(alloc, &service.group)?;
     let name = service.name.copy(alloc)?;
     let version = copy_row(alloc, &service.version)?;
     let description = copy_row(alloc, &service.description)?;
+    let provider = copy_row(alloc, &service.provider)?;
     Ok(ServiceNaming {
         bom_ref,
         provider,
@@ -70,8 +70,20 @@ pub(crate) fn copy_service(service: &Service, alloc: Global) -> Result<Service, 
     ensures { IfOk result (λ r. service_tree r ≡ service_tree service.now) }
 {
     let service_naming = copy_service_naming(service, alloc)?;
-    let service_access = copy_service_access(service, alloc)?;
-    let service_contents = copy_service_contents(service, alloc)?;
+    let service_access = match copy_service_access(service, alloc) {
+        Ok(service_access) => service_access,
+        Err(error) => {
+            drop(service_naming);
+            return Err(error);
+        }
+    };
+    let service_contents = match copy_service_contents(service, alloc) {
+        Ok(service_contents) => service_contents,
+        Err(error) => {
+            drop((service_naming, service_access));
+            return Err(error);
+        }
+    };
     Ok(assemble(service_naming, service_access, service_contents))
 }
 

@@ -1,4 +1,5 @@
-//! A service in three groups of rows, so that no proof holds a whole one.
+//! A service in three groups of rows, so that no proof holds a whole one. A group that is alive where a function ends
+//! early is freed there by `drop`: else the proof of the function frees each of its fields.
 
 ghost use Rattle.std.specs.Prelude.{◌≡◌};
 ghost use Rattle.cdx_models.specs.Trees.{service, fields, ◌⧺◌};

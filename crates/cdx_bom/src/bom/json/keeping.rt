@@ -29,9 +29,9 @@ pub(crate) fn keep_inventory(
     let new_label = old_label.kept_as(alloc, version, label)?;
     let bill_version = held.version.kept_as(alloc, version, label)?;
     let serial_number = keep_row(alloc, &held.serial_number, version, label)?;
-    let metadata = keep_row(alloc, &held.metadata, version, label)?;
     let components = keep_row(alloc, &held.components, version, label)?;
     let services = keep_row(alloc, &held.services, version, label)?;
+    let metadata = keep_row(alloc, &held.metadata, version, label)?;
     Ok(Inventory {
         spec_version: new_label.version,
         version: bill_version,

@@ -27,8 +27,20 @@ pub(crate) fn read_inventory(
     let bill_version = required_row(alloc, map, "version", version, depth)?;
     let serial_number = optional_row(alloc, map, "serialNumber", version, depth)?;
     let metadata = optional_row(alloc, map, "metadata", version, depth)?;
-    let components = optional_row(alloc, map, "components", version, depth)?;
-    let services = optional_row(alloc, map, "services", version, depth)?;
+    let components = match optional_row(alloc, map, "components", version, depth) {
+        Ok(components) => components,
+        Err(error) => {
+            drop(metadata);
+            return Err(error);
+        }
+    };
+    let services = match optional_row(alloc, map, "services", version, depth) {
+        Ok(services) => services,
+        Err(error) => {
+            drop(metadata);
+            return Err(error);
+        }
+    };
     Ok(Inventory {
         spec_version: label.version,
         version: bill_version,

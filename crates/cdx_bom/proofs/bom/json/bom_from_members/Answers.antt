@@ -16,12 +16,10 @@ returns-in_err-inventory c =
     let p = err_from_is_err_and c.from_residual-in_err-inventory.result c.from_residual-in_err-inventory.ensures.1 in
     rw (p.1, p.2, c.in_ok-read_format.ensures) (fails_then _ _ _ c.in_err-inventory.ensures)
 
-pub returns-in_err-relations : goal.returns-in_err-relations
+pub returns-in-Ok : goal.returns-in-Ok
 unfolding bill_by_groups
-returns-in_err-relations c =
-    let p = err_from_is_err_and c.from_residual-in_err-relations.result c.from_residual-in_err-relations.ensures.1 in
-    rw (p.1, p.2, c.in_ok-read_format.ensures, c.in_ok-inventory.ensures) (fails_then _ _ _ c.in_err-relations.ensures)
+returns-in-Ok c = rw (c.in_ok-read_format.ensures, c.in_ok-inventory.ensures, c.in-Ok.ensures) (ap Ok (sym c.assemble.ensures))
 
-pub returns : goal.returns
+pub returns-in-Err : goal.returns-in-Err
 unfolding bill_by_groups
-returns c = rw (c.in_ok-read_format.ensures, c.in_ok-inventory.ensures, c.in_ok-relations.ensures) (ap Ok (sym c.assemble.ensures))
+returns-in-Err c = rw (c.in_ok-read_format.ensures, c.in_ok-inventory.ensures) (fails_then _ _ _ c.in-Err.ensures)

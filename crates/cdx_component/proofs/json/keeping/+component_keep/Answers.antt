@@ -11,7 +11,7 @@ use Rattle.cdx_component.proofs.Grouped.{component_kept, pedigree_kept}
 use Rattle.cdx_component.proofs.json.keeping.+component_keep.Goals as goal
 
 pub keep_component-returns : goal.keep_component-returns
-keep_component-returns t c = component_kept c.args.version c.args.label _ c.args.held.now _ _ _ _ c.assemble.ensures c.in_ok-origin.ensures c.in_ok-naming.ensures c.in_ok-marks.ensures c.in_ok-contents.ensures
+keep_component-returns t c = component_kept c.args.version c.args.label _ c.args.held.now _ _ _ _ c.assemble.ensures c.in_ok-origin.ensures c.in-Ok.ensures c.in-Ok-keep_marks.ensures c.in-Ok-keep_contents.ensures
 
 pub keep_pedigree-returns : goal.keep_pedigree-returns
 unfolding rows_held rows list

@@ -33,27 +33,21 @@ component_from_members-returns-in_err-origin t c =
     let p = err_from_is_err_and c.from_residual.result c.from_residual.ensures.1 in
     rw (p.1, p.2) (fails_then _ _ _ c.in_err-origin.ensures)
 
-pub component_from_members-returns-in_err-naming : goal.component_from_members-returns-in_err-naming
+pub component_from_members-returns-in-Err : goal.component_from_members-returns-in-Err
 unfolding component_by_groups
-component_from_members-returns-in_err-naming t c =
-    let p = err_from_is_err_and c.from_residual-in_err-naming.result c.from_residual-in_err-naming.ensures.1 in
-    rw (p.1, p.2, c.in_ok-origin.ensures) (fails_then _ _ _ c.in_err-naming.ensures)
+component_from_members-returns-in-Err t c = rw (c.in_ok-origin.ensures) (fails_then _ _ _ c.in-Err.ensures)
 
-pub component_from_members-returns-in_err-marks : goal.component_from_members-returns-in_err-marks
+pub component_from_members-returns-in-Err-read_marks : goal.component_from_members-returns-in-Err-read_marks
 unfolding component_by_groups
-component_from_members-returns-in_err-marks t c =
-    let p = err_from_is_err_and c.from_residual-in_err-marks.result c.from_residual-in_err-marks.ensures.1 in
-    rw (p.1, p.2, c.in_ok-origin.ensures, c.in_ok-naming.ensures) (fails_then _ _ _ c.in_err-marks.ensures)
+component_from_members-returns-in-Err-read_marks t c = rw (c.in_ok-origin.ensures, c.in-Ok.ensures) (fails_then _ _ _ c.in-Err-read_marks.ensures)
 
-pub component_from_members-returns-in_err-contents : goal.component_from_members-returns-in_err-contents
+pub component_from_members-returns-in-Err-read_contents : goal.component_from_members-returns-in-Err-read_contents
 unfolding component_by_groups
-component_from_members-returns-in_err-contents t c =
-    let p = err_from_is_err_and c.from_residual-in_err-contents.result c.from_residual-in_err-contents.ensures.1 in
-    rw (p.1, p.2, c.in_ok-origin.ensures, c.in_ok-naming.ensures, c.in_ok-marks.ensures) (fails_then _ _ _ c.in_err-contents.ensures)
+component_from_members-returns-in-Err-read_contents t c = rw (c.in_ok-origin.ensures, c.in-Ok.ensures, c.in-Ok-read_marks.ensures) (fails_then _ _ _ c.in-Err-read_contents.ensures)
 
 pub component_from_members-returns : goal.component_from_members-returns
 unfolding component_by_groups
-component_from_members-returns t c = rw (c.in_ok-origin.ensures, c.in_ok-naming.ensures, c.in_ok-marks.ensures, c.in_ok-contents.ensures) (ap Ok (sym c.assemble.ensures))
+component_from_members-returns t c = rw (c.in_ok-origin.ensures, c.in-Ok.ensures, c.in-Ok-read_marks.ensures, c.in-Ok-read_contents.ensures) (ap Ok (sym c.assemble.ensures))
 
 pub components_from_items-returns-in-Err : goal.components_from_items-returns-in-Err
 components_from_items-returns-in-Err t c =

@@ -10,12 +10,10 @@ returns-in_err-makers c =
     let p = err_from_is_err_and c.from_residual.result c.from_residual.ensures.1 in
     rw (p.1, p.2) (fails_then _ _ _ c.in_err-makers.ensures)
 
-pub returns-in_err-terms : goal.returns-in_err-terms
+pub returns-in-Ok : goal.returns-in-Ok
 unfolding metadata_by_groups
-returns-in_err-terms c =
-    let p = err_from_is_err_and c.from_residual-in_err-terms.result c.from_residual-in_err-terms.ensures.1 in
-    rw (p.1, p.2, c.in_ok-makers.ensures) (fails_then _ _ _ c.in_err-terms.ensures)
+returns-in-Ok c = rw (c.in_ok-makers.ensures, c.in-Ok.ensures) (ap Ok (sym c.assemble.ensures))
 
-pub returns : goal.returns
+pub returns-in-Err : goal.returns-in-Err
 unfolding metadata_by_groups
-returns c = rw (c.in_ok-makers.ensures, c.in_ok-terms.ensures) (ap Ok (sym c.assemble.ensures))
+returns-in-Err c = rw (c.in_ok-makers.ensures) (fails_then _ _ _ c.in-Err.ensures)

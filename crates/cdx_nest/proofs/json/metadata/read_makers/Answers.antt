@@ -30,18 +30,14 @@ returns-in_err-component c =
     let p = err_from_is_err_and c.from_residual-in_err-component.result c.from_residual-in_err-component.ensures.1 in
     rw (p.1, p.2, c.in_ok-timestamp.ensures, c.in_ok-tools.ensures, (c.in_ok-authors.ensures authors refl)) (fails_then _ _ _ c.in_err-component.ensures)
 
-pub returns-in_err-manufacture : goal.returns-in_err-manufacture
+pub returns-in-Err : goal.returns-in-Err
 unfolding rows_made rows list
-returns-in_err-manufacture c =
-    let p = err_from_is_err_and c.from_residual-in_err-manufacture.result c.from_residual-in_err-manufacture.ensures.1 in
-    rw (p.1, p.2, c.in_ok-timestamp.ensures, c.in_ok-tools.ensures, (c.in_ok-authors.ensures authors refl), c.in_ok-component.ensures) (fails_then _ _ _ c.in_err-manufacture.ensures)
+returns-in-Err c = rw (c.in_ok-timestamp.ensures, c.in_ok-tools.ensures, (c.in_ok-authors.ensures authors refl), c.in_ok-component.ensures) (fails_then _ _ _ c.in-Err.ensures)
 
-pub returns-in_err-supplier : goal.returns-in_err-supplier
+pub returns-in-Err-optional_row : goal.returns-in-Err-optional_row
 unfolding rows_made rows list
-returns-in_err-supplier c =
-    let p = err_from_is_err_and c.from_residual-in_err-supplier.result c.from_residual-in_err-supplier.ensures.1 in
-    rw (p.1, p.2, c.in_ok-timestamp.ensures, c.in_ok-tools.ensures, (c.in_ok-authors.ensures authors refl), c.in_ok-component.ensures, c.in_ok-manufacture.ensures) (fails_then _ _ _ c.in_err-supplier.ensures)
+returns-in-Err-optional_row c = rw (c.in_ok-timestamp.ensures, c.in_ok-tools.ensures, (c.in_ok-authors.ensures authors refl), c.in_ok-component.ensures, c.in-Ok.ensures) (fails_then _ _ _ c.in-Err-optional_row.ensures)
 
 pub returns : goal.returns
 unfolding rows_made rows list
-returns c = rw (c.in_ok-timestamp.ensures, c.in_ok-tools.ensures, (c.in_ok-authors.ensures authors refl), c.in_ok-component.ensures, c.in_ok-manufacture.ensures, c.in_ok-supplier.ensures) refl
+returns c = rw (c.in_ok-timestamp.ensures, c.in_ok-tools.ensures, (c.in_ok-authors.ensures authors refl), c.in_ok-component.ensures, c.in-Ok.ensures, c.in-Ok-optional_row.ensures) refl

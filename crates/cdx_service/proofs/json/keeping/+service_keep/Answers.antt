@@ -11,7 +11,7 @@ use Rattle.cdx_service.proofs.Grouped.{service_kept}
 use Rattle.cdx_service.proofs.json.keeping.+service_keep.Goals as goal
 
 pub keep_service-returns : goal.keep_service-returns
-keep_service-returns t c = service_kept c.args.version c.args.label _ c.args.held.now _ _ _ c.assemble.ensures c.in_ok-service_naming.ensures c.in_ok-service_access.ensures c.in_ok-service_contents.ensures
+keep_service-returns t c = service_kept c.args.version c.args.label _ c.args.held.now _ _ _ c.assemble.ensures c.in_ok-service_naming.ensures c.in-Ok.ensures c.in-Ok-keep_service_contents.ensures
 
 pub keep_services-returns : goal.keep_services-returns
 unfolding list

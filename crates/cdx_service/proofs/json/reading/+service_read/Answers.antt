@@ -33,21 +33,17 @@ service_from_members-returns-in_err-service_naming t c =
     let p = err_from_is_err_and c.from_residual.result c.from_residual.ensures.1 in
     rw (p.1, p.2) (fails_then _ _ _ c.in_err-service_naming.ensures)
 
-pub service_from_members-returns-in_err-service_access : goal.service_from_members-returns-in_err-service_access
+pub service_from_members-returns-in-Err : goal.service_from_members-returns-in-Err
 unfolding service_by_groups
-service_from_members-returns-in_err-service_access t c =
-    let p = err_from_is_err_and c.from_residual-in_err-service_access.result c.from_residual-in_err-service_access.ensures.1 in
-    rw (p.1, p.2, c.in_ok-service_naming.ensures) (fails_then _ _ _ c.in_err-service_access.ensures)
+service_from_members-returns-in-Err t c = rw (c.in_ok-service_naming.ensures) (fails_then _ _ _ c.in-Err.ensures)
 
-pub service_from_members-returns-in_err-service_contents : goal.service_from_members-returns-in_err-service_contents
+pub service_from_members-returns-in-Err-read_service_contents : goal.service_from_members-returns-in-Err-read_service_contents
 unfolding service_by_groups
-service_from_members-returns-in_err-service_contents t c =
-    let p = err_from_is_err_and c.from_residual-in_err-service_contents.result c.from_residual-in_err-service_contents.ensures.1 in
-    rw (p.1, p.2, c.in_ok-service_naming.ensures, c.in_ok-service_access.ensures) (fails_then _ _ _ c.in_err-service_contents.ensures)
+service_from_members-returns-in-Err-read_service_contents t c = rw (c.in_ok-service_naming.ensures, c.in-Ok.ensures) (fails_then _ _ _ c.in-Err-read_service_contents.ensures)
 
 pub service_from_members-returns : goal.service_from_members-returns
 unfolding service_by_groups
-service_from_members-returns t c = rw (c.in_ok-service_naming.ensures, c.in_ok-service_access.ensures, c.in_ok-service_contents.ensures) (ap Ok (sym c.assemble.ensures))
+service_from_members-returns t c = rw (c.in_ok-service_naming.ensures, c.in-Ok.ensures, c.in-Ok-read_service_contents.ensures) (ap Ok (sym c.assemble.ensures))
 
 pub services_from_items-returns-in-Err : goal.services_from_items-returns-in-Err
 services_from_items-returns-in-Err t c =

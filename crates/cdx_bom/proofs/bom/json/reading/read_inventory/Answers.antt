@@ -29,18 +29,14 @@ returns-in_err-metadata c =
     let p = err_from_is_err_and c.from_residual-in_err-metadata.result c.from_residual-in_err-metadata.ensures.1 in
     rw (p.1, p.2, c.in_ok-label.ensures, c.in_ok-bill_version.ensures, c.in_ok-serial_number.ensures) (fails_then _ _ _ c.in_err-metadata.ensures)
 
-pub returns-in_err-components : goal.returns-in_err-components
+pub returns-in-Err : goal.returns-in-Err
 unfolding rows_made rows list
-returns-in_err-components c =
-    let p = err_from_is_err_and c.from_residual-in_err-components.result c.from_residual-in_err-components.ensures.1 in
-    rw (p.1, p.2, c.in_ok-label.ensures, c.in_ok-bill_version.ensures, c.in_ok-serial_number.ensures, c.in_ok-metadata.ensures) (fails_then _ _ _ c.in_err-components.ensures)
+returns-in-Err c = rw (c.in_ok-label.ensures, c.in_ok-bill_version.ensures, c.in_ok-serial_number.ensures, c.in_ok-metadata.ensures) (fails_then _ _ _ c.in-Err.ensures)
 
-pub returns-in_err-services : goal.returns-in_err-services
+pub returns-in-Err-optional_row : goal.returns-in-Err-optional_row
 unfolding rows_made rows list
-returns-in_err-services c =
-    let p = err_from_is_err_and c.from_residual-in_err-services.result c.from_residual-in_err-services.ensures.1 in
-    rw (p.1, p.2, c.in_ok-label.ensures, c.in_ok-bill_version.ensures, c.in_ok-serial_number.ensures, c.in_ok-metadata.ensures, c.in_ok-components.ensures) (fails_then _ _ _ c.in_err-services.ensures)
+returns-in-Err-optional_row c = rw (c.in_ok-label.ensures, c.in_ok-bill_version.ensures, c.in_ok-serial_number.ensures, c.in_ok-metadata.ensures, c.in-Ok.ensures) (fails_then _ _ _ c.in-Err-optional_row.ensures)
 
 pub returns : goal.returns
 unfolding rows_made rows list
-returns c = rw (c.in_ok-label.ensures, c.in_ok-bill_version.ensures, c.in_ok-serial_number.ensures, c.in_ok-metadata.ensures, c.in_ok-components.ensures, c.in_ok-services.ensures) refl
+returns c = rw (c.in_ok-label.ensures, c.in_ok-bill_version.ensures, c.in_ok-serial_number.ensures, c.in_ok-metadata.ensures, c.in-Ok.ensures, c.in-Ok-optional_row.ensures) refl

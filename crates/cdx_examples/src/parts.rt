@@ -1,5 +1,0 @@
-mod documents;
-mod json;
-mod reading;
-mod types;
-mod writing;
