@@ -1,13 +1,16 @@
 //! Documents carried along roads, and roads that are refused.
 
+use crate::expect::{row_holds, row_is};
 use crate::faults::of_road;
-use crate::short::{hop_of, row, whole};
+use crate::short::{hop_of, versioned, whole};
 use cdx_bom::{Doc, Hop, RoadError, into_road, recode, road};
 use cdx_events::List;
 use cdx_models::SpecVersion;
 use cdx_vectors::documents::{document, line_of};
+use cdx_vectors::rows::row;
 use serde_json::Value;
 use std::alloc::{AllocError, Global};
+use std::process::Abort;
 use std::test::Fail;
 
 // The document of the text.
@@ -25,26 +28,17 @@ fn text_of(alloc: Global, doc: &Doc) -> Result<String, AllocError> {
     }
 }
 
-// The documents, each with a space before it.
-fn texts_of(alloc: Global, docs: &List<Doc>) -> Result<String, AllocError> {
-    let mut texts = String::new(alloc);
-    for doc in docs.as_slice() {
-        texts.push(' ')?;
-        texts.push_str(text_of(alloc, doc)?.as_str())?;
-    }
-    Ok(texts)
-}
-
-// The documents of the short ones, each with a space before it, and the hops that write these. What is no short
-// document is taken as it is.
+// The hops that write the short documents, and these documents, each with a space before it. What is no short document
+// is the refusal of the road, and stands alone.
 fn along(alloc: Global, shorts: &str) -> Result<(Vec<Hop>, String), AllocError> {
     let mut hops = Vec::new(alloc);
     let mut texts = String::new(alloc);
     for short in shorts.split(" -> ") {
-        if let Some(hop) = hop_of(short) {
-            hops.push(hop)?;
-            texts.push(' ')?;
-        }
+        let Some(hop) = hop_of(short) else {
+            return Ok((hops, String::from_str(alloc, short)?));
+        };
+        hops.push(hop)?;
+        texts.push(' ')?;
         texts.push_str(whole(alloc, short)?.as_str())?;
     }
     Ok((hops, texts))
@@ -53,7 +47,14 @@ fn along(alloc: Global, shorts: &str) -> Result<(Vec<Hop>, String), AllocError> 
 // The documents, each with a space before it, or the refusal.
 fn told(alloc: Global, answer: Result<List<Doc>, RoadError>) -> Result<String, AllocError> {
     match answer {
-        Ok(docs) => texts_of(alloc, &docs),
+        Ok(docs) => {
+            let mut texts = String::new(alloc);
+            for doc in docs.as_slice() {
+                texts.push(' ')?;
+                texts.push_str(text_of(alloc, doc)?.as_str())?;
+            }
+            Ok(texts)
+        }
         Err(error) => of_road(alloc, &error),
     }
 }
@@ -66,78 +67,54 @@ fn recoded(alloc: Global, doc: &Doc, v: SpecVersion, hop: Hop) -> Result<String,
     }
 }
 
-// What comes of the row's document on the road of the documents after it; empty where that is these documents.
-fn other(alloc: Global, line: &str) -> Result<String, Fail> {
-    let Some((v, given, shorts)) = row(line) else {
-        return Ok(String::from_str(alloc, "no row")?);
-    };
-    let (hops, texts) = along(alloc, shorts)?;
-    let doc = doc(alloc, whole(alloc, given)?.as_str())?;
-    let found = told(alloc, road(alloc, &doc, v, hops.as_slice()))?;
-    if let [hop] = hops.as_slice() {
-        if recoded(alloc, &doc, v, *hop)? != found {
-            return Ok(String::from_str(alloc, "recoded otherwise")?);
+// Each row's document, read by the row's version, is carried along the road of the documents after it, or refused.
+fn carries(rt: &impl Abort, alloc: Global, rows: &str) -> Result<(), Fail> {
+    for line in rows.lines() {
+        if let Some((given, shorts)) = row(line) {
+            let (v, given) = versioned(given).expect(rt, "a version");
+            let (hops, answer) = along(alloc, shorts)?;
+            let doc = doc(alloc, whole(alloc, given)?.as_str())?;
+            let found = told(alloc, road(alloc, &doc, v, hops.as_slice()))?;
+            row_is(rt, line, found.as_str(), answer.as_str());
+            if let [hop] = hops.as_slice() {
+                row_holds(rt, line, recoded(alloc, &doc, v, *hop)? == answer);
+            }
+            let found = told(alloc, into_road(alloc, doc, v, hops.as_slice()))?;
+            row_is(rt, line, found.as_str(), answer.as_str());
         }
     }
-    if told(alloc, into_road(alloc, doc, v, hops.as_slice()))? != found {
-        return Ok(String::from_str(alloc, "taken otherwise")?);
-    }
-    if found == texts {
-        return Ok(String::new(alloc));
-    }
-    Ok(found)
+    Ok(())
 }
 
 // A supplier without a name stays for one writing as XML, and is gone with the next.
-#[test]
-fn documents(rt: HostRuntime) -> Result<(), Fail> {
-    for line in [
-        r#"1.5 json 1.5 "serialNumber":"U", -> "#,
-        r#"1.5 json 1.5 "serialNumber":"U", -> json 1.4 "serialNumber":"U","#,
-        r#"1.5 json 1.3 -> json 1.5"#,
-        r#"1.5 json 1.5 "services":[], -> xml 1.4 <services|>services| -> xml 1.5 <services|>services| -> json 1.3 "services":[],"#,
-        r#"1.4 xml 1.4 <services|<service|<name|=s|>name|>service|>services| -> json 1.3 "services":[{"name":"s"}],"#,
-        r#"1.3 json 1.5 "serialNumber":null,"services":[], -> xml 1.5 <services|>services|"#,
-        r#"1.5 json 1.5 "metadata":{"tools":[{"name":"my_tool"}]}, -> xml 1.5 <metadata|<tools|<tool|<name|=my_tool|>name|>tool|>tools|>metadata| -> json 1.5 "metadata":{"tools":[{"name":"my_tool"}]},"#,
-        r#"1.5 json 1.5 "signature":[{"algorithm":"ES256","value":"a"}], -> json 1.5 "signature":{"signers":[{"algorithm":"ES256","value":"a"}]}, -> xml 1.5 -> json 1.5"#,
-        r#"1.5 json 1.5 "signature":{"chain":[{"algorithm":"ES256","value":"a"}]}, -> json 1.4 "signature":{"chain":[{"algorithm":"ES256","value":"a"}]}, -> json 1.3 -> json 1.4"#,
-        r#"1.5 json 1.5 "components":[{"name":"a","supplier":{"url":[]},"type":"library"}], -> xml 1.5 <components|<component type=library|<supplier|>supplier|<name|=a|>name|>component|>components| -> xml 1.5 <components|<component type=library|<name|=a|>name|>component|>components| -> xml 1.5 <components|<component type=library|<name|=a|>name|>component|>components|"#,
-        r#"1.5 json 1.5 "metadata":{"tools":[]}, -> xml 1.5 <metadata|<tools|>tools|>metadata| -> json 1.5 "metadata":{"tools":{}},"#,
-        r#"1.5 json 1.5 "metadata":{"tools":[]}, -> xml 1.4 <metadata|<tools|>tools|>metadata| -> json 1.5 "metadata":{"tools":[]},"#,
-        r#"1.5 json 1.5 "metadata":{"tools":{"components":[{"name":"a","type":"library"}]}}, -> json 1.3 "metadata":{"tools":[]}, -> json 1.5 "metadata":{"tools":[]},"#,
-        r#"1.5 json 1.5 "components":[{"name":"a","type":"library"}], -> json 1.4 "components":[{"name":"a","type":"library"}],"#,
-    ] {
-        assert_eq!(rt; other(rt.alloc(), line)?.as_str(), "", "{line}");
-    }
-    Ok(())
-}
+const CARRIED: &str = r#"
+    1.5 json 1.5 "serialNumber":"U", ->
+    1.5 json 1.5 "serialNumber":"U", -> json 1.4 "serialNumber":"U",
+    1.5 json 1.3 -> json 1.5
+    1.5 json 1.5 "services":[], -> xml 1.4 <services|>services| -> xml 1.5 <services|>services| -> json 1.3 "services":[],
+    1.4 xml 1.4 <services|<service|<name|=s|>name|>service|>services| -> json 1.3 "services":[{"name":"s"}],
+    1.3 json 1.5 "serialNumber":null,"services":[], -> xml 1.5 <services|>services|
+    1.5 json 1.5 "metadata":{"tools":[{"name":"my_tool"}]}, -> xml 1.5 <metadata|<tools|<tool|<name|=my_tool|>name|>tool|>tools|>metadata| -> json 1.5 "metadata":{"tools":[{"name":"my_tool"}]},
+    1.5 json 1.5 "signature":[{"algorithm":"ES256","value":"a"}], -> json 1.5 "signature":{"signers":[{"algorithm":"ES256","value":"a"}]}, -> xml 1.5 -> json 1.5
+    1.5 json 1.5 "signature":{"chain":[{"algorithm":"ES256","value":"a"}]}, -> json 1.4 "signature":{"chain":[{"algorithm":"ES256","value":"a"}]}, -> json 1.3 -> json 1.4
+    1.5 json 1.5 "components":[{"name":"a","supplier":{"url":[]},"type":"library"}], -> xml 1.5 <components|<component type=library|<supplier|>supplier|<name|=a|>name|>component|>components| -> xml 1.5 <components|<component type=library|<name|=a|>name|>component|>components| -> xml 1.5 <components|<component type=library|<name|=a|>name|>component|>components|
+    1.5 json 1.5 "metadata":{"tools":[]}, -> xml 1.5 <metadata|<tools|>tools|>metadata| -> json 1.5 "metadata":{"tools":{}},
+    1.5 json 1.5 "metadata":{"tools":[]}, -> xml 1.4 <metadata|<tools|>tools|>metadata| -> json 1.5 "metadata":{"tools":[]},
+    1.5 json 1.5 "metadata":{"tools":{"components":[{"name":"a","type":"library"}]}}, -> json 1.3 "metadata":{"tools":[]}, -> json 1.5 "metadata":{"tools":[]},
+    1.5 json 1.5 "components":[{"name":"a","type":"library"}], -> json 1.4 "components":[{"name":"a","type":"library"}],
+"#;
 
 // The document's fault comes before a version that is missing, whichever hop asks for it.
+const REFUSED: &str = r#"
+    1.5 json 1.5 "components":[{"name":"a","type":"library"}], -> json 1.4 -> json 1.3 -> version missing in 1.3
+    1.4 xml 1.4 <components|<component type=a|<name|=a|>name|>component|>components| -> xml 1.3 -> json 1.5 -> version missing in 1.3
+    1.5 json 1.5 "components":[{"name":"a","type":"library"}],"dependencies":1, -> json 1.3 -> WrongKind /dependencies
+    1.5 json 1.5 "dependencies":[{"ref":"a","dependsOn":null}], -> WrongKind /dependencies/0/dependsOn
+    1.5 start|<foo|>foo|end -> json 1.3 -> unexpected 1 bom StartElement
+"#;
+
 #[test]
-fn refused(rt: HostRuntime) -> Result<(), Fail> {
-    for (line, fault) in [
-        (
-            r#"1.5 json 1.5 "components":[{"name":"a","type":"library"}], -> json 1.4 -> json 1.3"#,
-            "version missing in 1.3",
-        ),
-        (
-            r#"1.4 xml 1.4 <components|<component type=a|<name|=a|>name|>component|>components| -> xml 1.3 -> json 1.5"#,
-            "version missing in 1.3",
-        ),
-        (
-            r#"1.5 json 1.5 "components":[{"name":"a","type":"library"}],"dependencies":1, -> json 1.3"#,
-            "WrongKind /dependencies",
-        ),
-        (
-            r#"1.5 json 1.5 "dependencies":[{"ref":"a","dependsOn":null}], -> "#,
-            "WrongKind /dependencies/0/dependsOn",
-        ),
-        (
-            r#"1.5 start|<foo|>foo|end -> json 1.3"#,
-            "unexpected 1 bom StartElement",
-        ),
-    ] {
-        assert_eq!(rt; other(rt.alloc(), line)?.as_str(), fault, "{line}");
-    }
-    Ok(())
+fn roads(rt: HostRuntime) -> Result<(), Fail> {
+    carries(&rt, rt.alloc(), CARRIED)?;
+    carries(&rt, rt.alloc(), REFUSED)
 }

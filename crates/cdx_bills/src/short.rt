@@ -14,8 +14,8 @@ use serde_json::Value;
 use std::alloc::{AllocError, Global};
 use std::test::Fail;
 
-// The first word and the rest.
-fn parted(text: &str) -> (&str, &str) {
+/// The first word and the rest.
+pub fn parted(text: &str) -> (&str, &str) {
     text.split_once(' ').unwrap_or((text, ""))
 }
 
@@ -36,25 +36,19 @@ pub fn whole(alloc: Global, short: &str) -> Result<String, AllocError> {
 /// The hop that writes the short document's form and version.
 pub fn hop_of(short: &str) -> Option<Hop> {
     let (form, words) = parted(short);
+    let form = match form {
+        "json" => Form::Json,
+        "xml" => Form::Xml,
+        _ => return None,
+    };
     let version = SpecVersion::from_text(parted(words).0)?;
-    match form {
-        "json" => Some(Hop {
-            form: Form::Json,
-            version,
-        }),
-        "xml" => Some(Hop {
-            form: Form::Xml,
-            version,
-        }),
-        _ => None,
-    }
+    Some(Hop { form, version })
 }
 
-/// The version that a row begins with, then what it reads or writes, and what comes of that after ` -> `.
-pub fn row(line: &str) -> Option<(SpecVersion, &str, &str)> {
-    let (version, rest) = line.split_once(' ')?;
-    let (given, answer) = rest.split_once(" -> ")?;
-    Some((SpecVersion::from_text(version)?, given, answer))
+/// The version that a row begins with, and what it reads or writes.
+pub fn versioned(given: &str) -> Option<(SpecVersion, &str)> {
+    let (version, rest) = parted(given);
+    Some((SpecVersion::from_text(version)?, rest))
 }
 
 pub fn parse_json(alloc: Global, value: &Value, v: SpecVersion) -> Result<Bom, JsonReadError> {
@@ -89,10 +83,9 @@ fn output_xml(alloc: Global, bill: &Bom, w: SpecVersion) -> Result<Events, XmlWr
     }
 }
 
-/// The bill of 1.5 with these members.
-pub fn bill(alloc: Global, rest: &str) -> Result<Bom, Fail> {
-    let short = format!(in alloc; "json 1.5 {rest}")?;
-    let text = whole(alloc, short.as_str())?;
+/// The bill that the short document in JSON denotes in 1.5.
+pub fn bill(alloc: Global, short: &str) -> Result<Bom, Fail> {
+    let text = whole(alloc, short)?;
     let value = Value::from_str(alloc, text.as_str())?;
     Ok(parse_json(alloc, &value, V5)?)
 }
@@ -113,28 +106,37 @@ pub fn written(alloc: Global, bill: &Bom, hop: Hop) -> Result<String, AllocError
 
 /// The bill as JSON of 1.5.
 pub fn shown(alloc: Global, bill: &Bom) -> Result<String, AllocError> {
-    written(
-        alloc,
-        bill,
-        Hop {
-            form: Form::Json,
-            version: V5,
-        },
-    )
+    let (form, version) = (Form::Json, V5);
+    written(alloc, bill, Hop { form, version })
+}
+
+/// The bill as JSON of 1.5. Here and elsewhere a bill is freed by `drop`: each other way out frees its fields one by one,
+/// which takes long to prove.
+pub fn told(alloc: Global, bill: Bom) -> Result<String, AllocError> {
+    let text = shown(alloc, &bill);
+    drop(bill);
+    text
 }
 
 /// What a version reads of the document, as JSON of 1.5, or the fault.
 pub fn read(alloc: Global, text: &str, v: SpecVersion) -> Result<String, Fail> {
     if text.starts_with("start|") {
         return match parse_xml(alloc, &document(alloc, text)?, v) {
-            Ok(bill) => Ok(shown(alloc, &bill)?),
+            Ok(bill) => Ok(told(alloc, bill)?),
             Err(error) => Ok(of_xml(alloc, &error)?),
         };
     }
     match parse_json(alloc, &Value::from_str(alloc, text)?, v) {
-        Ok(bill) => Ok(shown(alloc, &bill)?),
+        Ok(bill) => Ok(told(alloc, bill)?),
         Err(error) => Ok(of_json(alloc, &error)?),
     }
+}
+
+/// The label and the version of the bill.
+pub fn label(alloc: Global, bill: Bom) -> Result<String, AllocError> {
+    let text = format!(in alloc; "{} {}", bill.spec_version.as_str(), bill.version);
+    drop(bill);
+    text
 }
 
 /// The list of one number.

@@ -1,47 +1,49 @@
 //! Bills written in each version, and put into sinks that may fail.
 
+use crate::expect::{holds, row_holds, row_is, text_is};
 use crate::faults::{of_json_writing, of_xml_writing};
-use crate::short::{bill, hop_of, only, whole, written};
+use crate::short::{bill, hop_of, only, shown, whole, written};
 use cdx_bom::{Bom, Form, Hop, PutError, put_text};
 use cdx_events::{EventWriter, MemoryEventSink, MemorySink, Text};
 use cdx_models::SpecVersion;
 use cdx_vectors::documents::line_of;
 use cdx_vectors::forms::{V3, V4, V5};
+use cdx_vectors::rows::row;
 use cdx_write::ToXml;
 use std::alloc::{AllocError, Global};
+use std::process::Abort;
 use std::test::Fail;
 
-// What is written of the bill in the form and the version of the document; empty where that is the document.
-fn other(alloc: Global, bill: &Bom, short: &str) -> Result<String, AllocError> {
-    let Some(hop) = hop_of(short) else {
-        return String::from_str(alloc, "no document");
-    };
-    let found = written(alloc, bill, hop)?;
-    if found == whole(alloc, short)? {
-        return Ok(String::new(alloc));
-    }
-    Ok(found)
-}
-
 const EVERY: &str =
-    r#""components":[{"name":"a","type":"t","version":"1"}],"compositions":[{"aggregate":"complete"}],"dependencies":[{"ref":"a"}],"externalReferences":[{"type":"t","url":"u"}],"metadata":{"timestamp":"t"},"properties":[{"name":"n","value":"v"}],"services":[{"name":"s"}],"signature":{"algorithm":"ES256","value":"v"},"#;
+    r#"json 1.5 "components":[{"name":"a","type":"t","version":"1"}],"compositions":[{"aggregate":"complete"}],"dependencies":[{"ref":"a"}],"externalReferences":[{"type":"t","url":"u"}],"metadata":{"timestamp":"t"},"properties":[{"name":"n","value":"v"}],"services":[{"name":"s"}],"signature":{"algorithm":"ES256","value":"v"},"#;
 
 // The signature is known from 1.4 on and isn't written as XML, and properties are known from 1.5 on.
-#[test]
-fn every_field(rt: HostRuntime) -> Result<(), Fail> {
-    let alloc = rt.alloc();
-    let bill = bill(alloc, EVERY)?;
-    for short in [
-        r#"json 1.3 "components":[{"name":"a","type":"t","version":"1"}],"compositions":[{"aggregate":"complete"}],"dependencies":[{"ref":"a"}],"externalReferences":[{"type":"t","url":"u"}],"metadata":{"timestamp":"t"},"services":[{"name":"s"}],"#,
-        r#"json 1.4 "components":[{"name":"a","type":"t","version":"1"}],"compositions":[{"aggregate":"complete"}],"dependencies":[{"ref":"a"}],"externalReferences":[{"type":"t","url":"u"}],"metadata":{"timestamp":"t"},"services":[{"name":"s"}],"signature":{"algorithm":"ES256","value":"v"},"#,
-        r#"json 1.5 "components":[{"name":"a","type":"t","version":"1"}],"compositions":[{"aggregate":"complete"}],"dependencies":[{"ref":"a"}],"externalReferences":[{"type":"t","url":"u"}],"metadata":{"timestamp":"t"},"properties":[{"name":"n","value":"v"}],"services":[{"name":"s"}],"signature":{"algorithm":"ES256","value":"v"},"#,
-        "xml 1.3 <metadata|<timestamp|=t|>timestamp|>metadata|<components|<component type=t|<name|=a|>name|<version|=1|>version|>component|>components|<services|<service|<name|=s|>name|>service|>services|<externalReferences|<reference type=t|<url|=u|>url|>reference|>externalReferences|<dependencies|<dependency ref=a|>dependency|>dependencies|<compositions|<composition|<aggregate|=complete|>aggregate|>composition|>compositions|",
-        "xml 1.4 <metadata|<timestamp|=t|>timestamp|>metadata|<components|<component type=t|<name|=a|>name|<version|=1|>version|>component|>components|<services|<service|<name|=s|>name|>service|>services|<externalReferences|<reference type=t|<url|=u|>url|>reference|>externalReferences|<dependencies|<dependency ref=a|>dependency|>dependencies|<compositions|<composition|<aggregate|=complete|>aggregate|>composition|>compositions|",
-        "xml 1.5 <metadata|<timestamp|=t|>timestamp|>metadata|<components|<component type=t|<name|=a|>name|<version|=1|>version|>component|>components|<services|<service|<name|=s|>name|>service|>services|<externalReferences|<reference type=t|<url|=u|>url|>reference|>externalReferences|<dependencies|<dependency ref=a|>dependency|>dependencies|<compositions|<composition|<aggregate|=complete|>aggregate|>composition|>compositions|<properties|<property name=n|=v|>property|>properties|",
-    ] {
-        assert_eq!(rt; other(alloc, &bill, short)?.as_str(), "", "{short}");
+const EVERY_WRITTEN: &str = r#"
+    json 1.3 "components":[{"name":"a","type":"t","version":"1"}],"compositions":[{"aggregate":"complete"}],"dependencies":[{"ref":"a"}],"externalReferences":[{"type":"t","url":"u"}],"metadata":{"timestamp":"t"},"services":[{"name":"s"}],
+    json 1.4 "components":[{"name":"a","type":"t","version":"1"}],"compositions":[{"aggregate":"complete"}],"dependencies":[{"ref":"a"}],"externalReferences":[{"type":"t","url":"u"}],"metadata":{"timestamp":"t"},"services":[{"name":"s"}],"signature":{"algorithm":"ES256","value":"v"},
+    json 1.5 "components":[{"name":"a","type":"t","version":"1"}],"compositions":[{"aggregate":"complete"}],"dependencies":[{"ref":"a"}],"externalReferences":[{"type":"t","url":"u"}],"metadata":{"timestamp":"t"},"properties":[{"name":"n","value":"v"}],"services":[{"name":"s"}],"signature":{"algorithm":"ES256","value":"v"},
+    xml 1.3 <metadata|<timestamp|=t|>timestamp|>metadata|<components|<component type=t|<name|=a|>name|<version|=1|>version|>component|>components|<services|<service|<name|=s|>name|>service|>services|<externalReferences|<reference type=t|<url|=u|>url|>reference|>externalReferences|<dependencies|<dependency ref=a|>dependency|>dependencies|<compositions|<composition|<aggregate|=complete|>aggregate|>composition|>compositions|
+    xml 1.4 <metadata|<timestamp|=t|>timestamp|>metadata|<components|<component type=t|<name|=a|>name|<version|=1|>version|>component|>components|<services|<service|<name|=s|>name|>service|>services|<externalReferences|<reference type=t|<url|=u|>url|>reference|>externalReferences|<dependencies|<dependency ref=a|>dependency|>dependencies|<compositions|<composition|<aggregate|=complete|>aggregate|>composition|>compositions|
+    xml 1.5 <metadata|<timestamp|=t|>timestamp|>metadata|<components|<component type=t|<name|=a|>name|<version|=1|>version|>component|>components|<services|<service|<name|=s|>name|>service|>services|<externalReferences|<reference type=t|<url|=u|>url|>reference|>externalReferences|<dependencies|<dependency ref=a|>dependency|>dependencies|<compositions|<composition|<aggregate|=complete|>aggregate|>composition|>compositions|<properties|<property name=n|=v|>property|>properties|
+"#;
+
+fn is_written(rt: &impl Abort, alloc: Global, bill: &Bom) -> Result<(), Fail> {
+    for line in EVERY_WRITTEN.lines() {
+        if let Some((short, _)) = row(line) {
+            let hop = hop_of(short).expect(rt, "a document");
+            let found = written(alloc, bill, hop)?;
+            row_is(rt, line, found.as_str(), whole(alloc, short)?.as_str());
+        }
     }
     Ok(())
+}
+
+#[test]
+fn every_field(rt: HostRuntime) -> Result<(), Fail> {
+    let bill = bill(rt.alloc(), EVERY)?;
+    let found = is_written(&rt, rt.alloc(), &bill);
+    drop(bill);
+    found
 }
 
 // The events that a bill appends to a writer.
@@ -55,10 +57,12 @@ fn appended(alloc: Global, bill: &Bom, w: SpecVersion) -> Result<String, Fail> {
 #[test]
 fn into_writers(rt: HostRuntime) -> Result<(), Fail> {
     let alloc = rt.alloc();
-    let bill = bill(alloc, r#""serialNumber":"U","signature":[],"#)?;
-    assert!(rt; bill.will_write());
+    let bill = bill(alloc, r#"json 1.5 "serialNumber":"U","signature":[],"#)?;
+    let (will_write, found) = (bill.will_write(), appended(alloc, &bill, V4));
+    drop(bill);
+    holds(&rt, will_write);
     let line = "start|<bom xmlns=1.4 serialNumber=U version=1|>bom|end";
-    assert_eq!(rt; appended(alloc, &bill, V4)?.as_str(), line);
+    text_is(&rt, found?.as_str(), line);
     Ok(())
 }
 
@@ -89,73 +93,96 @@ fn put_xml(
 }
 
 // Nothing is put before a bill is refused.
-#[test]
-fn refused(rt: HostRuntime) -> Result<(), Fail> {
-    let alloc = rt.alloc();
-    let bill = bill(alloc, r#""components":[{"name":"a","type":"t"}],"#)?;
+fn is_refused(rt: &impl Abort, alloc: Global, bill: &Bom) -> Result<(), Fail> {
     let fault = "version missing in 1.3";
     for form in [Form::Json, Form::Xml] {
-        let found = written(alloc, &bill, Hop { form, version: V3 })?;
-        assert_eq!(rt; found.as_str(), fault);
+        let found = written(alloc, bill, Hop { form, version: V3 })?;
+        text_is(rt, found.as_str(), fault);
     }
     let mut sink = MemorySink::new(alloc, 512, 10, only(alloc, 0)?)?;
-    assert_eq!(rt; put_json(alloc, &bill, V3, &mut sink)?.as_str(), fault);
-    assert_eq!(rt; sink.calls(), 0);
+    text_is(rt, put_json(alloc, bill, V3, &mut sink)?.as_str(), fault);
+    holds(rt, sink.calls() == 0);
     let mut sink = MemoryEventSink::new(alloc, 512, only(alloc, 0)?)?;
-    assert_eq!(rt; put_xml(alloc, &bill, V3, &mut sink)?.as_str(), fault);
-    assert_eq!(rt; sink.calls(), 0);
+    text_is(rt, put_xml(alloc, bill, V3, &mut sink)?.as_str(), fault);
+    holds(rt, sink.calls() == 0);
     Ok(())
 }
 
-const NUMBER: &str = r#""serialNumber":"urn:uuid:3e671687-395b-41f5-a30f-a58921a69b79","#;
+#[test]
+fn refused(rt: HostRuntime) -> Result<(), Fail> {
+    let bill = bill(
+        rt.alloc(),
+        r#"json 1.5 "components":[{"name":"a","type":"t"}],"#,
+    )?;
+    let found = is_refused(&rt, rt.alloc(), &bill);
+    drop(bill);
+    found
+}
 
-// 120 bytes go out by 12 calls of 10 and a flush. Calls are counted from 1, so none fails where `fails` is 0.
+const NUMBER: &str = r#"json 1.5 "serialNumber":"urn:uuid:3e671687-395b-41f5-a30f-a58921a69b79","#;
+
+// The call that fails, and how many bytes are put and flushed. Calls are counted from 1, so none fails where that is 0.
+// 120 bytes go out by 12 calls of 10 and a flush.
+const BYTES: &str = r#"
+    0 -> whole: 120 put, 120 flushed
+    1 -> written 0: 0 put, 0 flushed
+    2 -> written 10: 10 put, 0 flushed
+    12 -> written 110: 110 put, 0 flushed
+    13 -> written 120: 120 put, 0 flushed
+"#;
+
+fn puts_json(rt: &impl Abort, alloc: Global, bill: &Bom) -> Result<(), Fail> {
+    let text = shown(alloc, bill)?;
+    for line in BYTES.lines() {
+        if let Some((fails, answer)) = row(line) {
+            let fails = only(alloc, fails.parse::<u64>().expect(rt, "a call"))?;
+            let mut sink = MemorySink::new(alloc, 512, 10, fails)?;
+            let end = put_json(alloc, bill, V5, &mut sink)?;
+            let (put, flushed) = (sink.written().len(), sink.flushed());
+            let found = format!(in alloc; "{}: {put} put, {flushed} flushed", end.as_str())?;
+            row_is(rt, line, found.as_str(), answer);
+            row_holds(rt, line, text.as_bytes().starts_with(sink.written()));
+        }
+    }
+    Ok(())
+}
+
 #[test]
 fn json_into_sinks(rt: HostRuntime) -> Result<(), Fail> {
-    let alloc = rt.alloc();
-    let bill = bill(alloc, NUMBER)?;
-    let text = written(
-        alloc,
-        &bill,
-        Hop {
-            form: Form::Json,
-            version: V5,
-        },
-    )?;
-    for (fails, answer, put, flushed) in [
-        (0u64, "whole", 120usize, 120usize),
-        (1, "written 0", 0, 0),
-        (2, "written 10", 10, 0),
-        (12, "written 110", 110, 0),
-        (13, "written 120", 120, 0),
-    ] {
-        let mut sink = MemorySink::new(alloc, 512, 10, only(alloc, fails)?)?;
-        assert_eq!(rt; put_json(alloc, &bill, V5, &mut sink)?.as_str(), answer);
-        assert!(rt; text.as_bytes().starts_with(sink.written()), "{fails}");
-        assert_eq!(rt;
-            (sink.written().len(), sink.flushed()),
-            (put, flushed),
-            "{fails}"
-        );
+    let bill = bill(rt.alloc(), NUMBER)?;
+    let found = puts_json(&rt, rt.alloc(), &bill);
+    drop(bill);
+    found
+}
+
+// The same of the events that are put.
+const EVENTS: &str = r#"
+    0 -> whole: start|<bom xmlns=1.4 version=1|>bom|end
+    1 -> put 0:
+    2 -> put 1: start
+    4 -> put 3: start|<bom xmlns=1.4 version=1|>bom
+"#;
+
+fn puts_events(rt: &impl Abort, alloc: Global, bill: &Bom) -> Result<(), Fail> {
+    for line in EVENTS.lines() {
+        if let Some((fails, answer)) = row(line) {
+            let fails = only(alloc, fails.parse::<u64>().expect(rt, "a call"))?;
+            let mut sink = MemoryEventSink::new(alloc, 512, fails)?;
+            let end = put_xml(alloc, bill, V4, &mut sink)?;
+            let put = line_of(alloc, sink.events())?;
+            let found = format!(in alloc; "{}: {}", end.as_str(), put.as_str())?;
+            row_holds(rt, line, found.as_str().trim_ascii() == answer);
+        }
     }
     Ok(())
 }
 
 #[test]
 fn events_into_sinks(rt: HostRuntime) -> Result<(), Fail> {
-    let alloc = rt.alloc();
-    let bill = bill(alloc, "")?;
-    for (fails, answer, line) in [
-        (0u64, "whole", "start|<bom xmlns=1.4 version=1|>bom|end"),
-        (1, "put 0", ""),
-        (2, "put 1", "start"),
-        (4, "put 3", "start|<bom xmlns=1.4 version=1|>bom"),
-    ] {
-        let mut sink = MemoryEventSink::new(alloc, 512, only(alloc, fails)?)?;
-        assert_eq!(rt; put_xml(alloc, &bill, V4, &mut sink)?.as_str(), answer);
-        assert_eq!(rt; line_of(alloc, sink.events())?.as_str(), line);
-    }
-    Ok(())
+    let bill = bill(rt.alloc(), "json 1.5")?;
+    let found = puts_events(&rt, rt.alloc(), &bill);
+    drop(bill);
+    found
 }
 
 #[test]
@@ -163,11 +190,14 @@ fn texts_into_sinks(rt: HostRuntime) -> Result<(), Fail> {
     let alloc = rt.alloc();
     let text = Text::new(alloc, "{\"documents\":[]}\n")?;
     let mut sink = MemorySink::new(alloc, 512, 10, only(alloc, 0)?)?;
-    assert!(rt; put_text(&text, &mut sink).is_ok());
-    assert_eq!(rt; sink.written(), text.as_str().as_bytes());
-    assert_eq!(rt; sink.flushed(), 17);
+    holds(&rt, put_text(&text, &mut sink).is_ok());
+    holds(&rt, sink.written() == text.as_str().as_bytes());
+    holds(&rt, sink.flushed() == 17);
     let mut sink = MemorySink::new(alloc, 512, 10, only(alloc, 2)?)?;
-    assert!(rt; matches!(put_text(&text, &mut sink), Err(PutError { written: 10 })));
-    assert_eq!(rt; sink.written(), "{\"document".as_bytes());
+    holds(
+        &rt,
+        matches!(put_text(&text, &mut sink), Err(PutError { written: 10 })),
+    );
+    holds(&rt, sink.written() == "{\"document".as_bytes());
     Ok(())
 }

@@ -55,14 +55,21 @@ fn spell(alloc: Global, bill: &Bom, hop: Hop) -> Result<Doc, AllocError>
     }
 }
 
+// The same of a bill that is freed with the call.
+fn spell_freed(alloc: Global, bill: Bom, hop: Hop) -> Result<Doc, AllocError>
+    ensures { IfOk result (λ d. IsDoc d (spelled (bom_tree bill) (hop_of hop))) }
+{
+    let answer = spell(alloc, &bill, hop);
+    drop(bill);
+    answer
+}
+
 // The document that a hop makes of the one before it, which stands in the version.
 fn rewrite(alloc: Global, doc: &Doc, v: SpecVersion, hop: Hop) -> Result<Doc, RoadError>
     ensures { (x : roads.Doc) → IsDoc doc.now x → AnswersDoc (rewritten x v (hop_of hop)) result }
 {
     let before = bill_of(alloc, doc, v)?;
-    let answer = spell(alloc, &before, hop);
-    drop(before);
-    Ok(answer?)
+    Ok(spell_freed(alloc, before, hop)?)
 }
 
 // Whether a hop is written in 1.3, which asks each component for a version.
@@ -169,11 +176,12 @@ pub fn recode(
 {
     let read = bill_of(alloc, doc, v)?;
     if !read.fits(w) {
+        drop(read);
         return Err(version_missing());
     }
     let hop = Hop {
         form: to,
         version: w,
     };
-    Ok(spell(alloc, &read, hop)?)
+    Ok(spell_freed(alloc, read, hop)?)
 }

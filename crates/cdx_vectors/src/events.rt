@@ -1,6 +1,8 @@
 //! Lists of events: balanced or not, gathered, sent, copied; and versions and paths as texts.
 
 use crate::documents::list_of;
+use crate::expect::{holds, row_is, text_is};
+use crate::rows::row;
 use cdx_events::{
     Balance, Copied, EventReader, EventWriter, Events, EventsError, GatherError, List,
     MemoryEventSink, MemoryEventSource, Namespace, OwnedAttribute, OwnedName, SendError, Text,
@@ -38,26 +40,34 @@ fn place_written(alloc: Global, list: List<XmlEvent>) -> Result<Option<usize>, A
     }
 }
 
+fn told(alloc: Global, place: Option<usize>) -> Result<String, AllocError> {
+    match place {
+        Some(place) => format!(in alloc; "{place}"),
+        None => String::from_str(alloc, "balanced"),
+    }
+}
+
+const LISTS: &str = r#"
+    =text -> 0
+    start|=text|end -> 1
+    start|<a|>b -> 2
+    start|<recursiveTag|<innerTag|<recursiveTag|=Text|>recursiveTag|>innerTag -> 7
+    start|<a|>a|end -> balanced
+    start|<a|>a|end|end -> 4
+"#;
+
 #[test]
 fn unbalanced_lists(rt: HostRuntime) -> Result<(), Fail> {
     let alloc = rt.alloc();
-    for (line, expected) in [
-        ("=text", Some(0)),
-        ("start|=text|end", Some(1)),
-        ("start|<a|>b", Some(2)),
-        (
-            "start|<recursiveTag|<innerTag|<recursiveTag|=Text|>recursiveTag|>innerTag",
-            Some(7),
-        ),
-        ("start|<a|>a|end", None),
-        ("start|<a|>a|end|end", Some(4)),
-    ] {
-        let found = place(alloc, list_of(alloc, line)?);
-        assert!(rt; found == expected, "{line}");
-        let found = place_written(alloc, list_of(alloc, line)?)?;
-        assert!(rt; found == expected, "{line}");
+    for line in LISTS.lines() {
+        if let Some((given, expected)) = row(line) {
+            let found = place(alloc, list_of(alloc, given)?);
+            row_is(&rt, given, told(alloc, found)?.as_str(), expected);
+            let found = place_written(alloc, list_of(alloc, given)?)?;
+            row_is(&rt, given, told(alloc, found)?.as_str(), expected);
+        }
     }
-    assert!(rt; place(alloc, List::new(alloc)) == Some(0));
+    holds(&rt, place(alloc, List::new(alloc)) == Some(0));
     Ok(())
 }
 
@@ -79,17 +89,18 @@ fn gathers(
 #[test]
 fn gathered_from_a_source(rt: HostRuntime) -> Result<(), Fail> {
     let alloc = rt.alloc();
-    for (line, budget, fails, expected) in [
-        (BILL, 5usize, 0u64, Some(GatherError::Budget { taken: 5 })),
-        (BILL, 12, 0, Some(GatherError::Budget { taken: 12 })),
-        (BILL, 0, 1, Some(GatherError::Budget { taken: 0 })),
-        (BILL, 13, 2, Some(GatherError::Fault { taken: 1 })),
-        (BILL, 13, 14, None),
-        ("start|<a", 9, 0, Some(GatherError::Unbalanced { place: 2 })),
+    for (budget, fails, expected) in [
+        (5usize, 0u64, Some(GatherError::Budget { taken: 5 })),
+        (12, 0, Some(GatherError::Budget { taken: 12 })),
+        (0, 1, Some(GatherError::Budget { taken: 0 })),
+        (13, 2, Some(GatherError::Fault { taken: 1 })),
+        (13, 14, None),
     ] {
-        let found = gathers(alloc, list_of(alloc, line)?, budget, fails)?;
-        assert!(rt; found == expected, "{line} {budget} {fails}");
+        let found = gathers(alloc, list_of(alloc, BILL)?, budget, fails)?;
+        holds(&rt, found == expected);
     }
+    let found = gathers(alloc, list_of(alloc, "start|<a")?, 9, 0)?;
+    holds(&rt, found == Some(GatherError::Unbalanced { place: 2 }));
     Ok(())
 }
 
@@ -98,10 +109,10 @@ fn gathered_whole(rt: HostRuntime) -> Result<(), Fail> {
     let alloc = rt.alloc();
     let mut source = MemoryEventSource::new(list_of(alloc, BILL)?, List::new(alloc));
     match gather(alloc, &mut source, 13) {
-        Ok(events) => assert!(rt; events.into_list() == list_of(alloc, BILL)?),
-        Err(_) => assert!(rt; false),
+        Ok(events) => holds(&rt, events.into_list() == list_of(alloc, BILL)?),
+        Err(_) => holds(&rt, false),
     }
-    assert_eq!(rt; source.calls(), 13);
+    holds(&rt, source.calls() == 13);
     Ok(())
 }
 
@@ -111,11 +122,14 @@ fn read_in_turn(rt: HostRuntime) -> Result<(), Fail> {
     let alloc = rt.alloc();
     let events = Events::from_list(alloc, list_of(alloc, BILL)?)?;
     let mut reader = EventReader::new(&events);
-    assert!(rt; matches!(reader.next(), Some(XmlEvent::StartDocument)));
-    assert_eq!(rt; reader.place(), 1);
-    assert!(rt; events.get(12).is_some() && events.get(13).is_none());
-    assert_eq!(rt; events.len(), 13);
-    assert!(rt; events.copy(alloc)?.into_list() == list_of(alloc, BILL)?);
+    holds(&rt, matches!(reader.next(), Some(XmlEvent::StartDocument)));
+    holds(&rt, reader.place() == 1);
+    holds(&rt, events.get(12).is_some() && events.get(13).is_none());
+    holds(&rt, events.len() == 13);
+    holds(
+        &rt,
+        events.copy(alloc)?.into_list() == list_of(alloc, BILL)?,
+    );
     Ok(())
 }
 
@@ -133,13 +147,16 @@ fn sends(alloc: Global, room: usize, fails: u64) -> Result<(usize, Option<usize>
 #[test]
 fn sent_into_a_sink(rt: HostRuntime) -> Result<(), Fail> {
     let alloc = rt.alloc();
-    assert_eq!(rt; sends(alloc, 13, 4)?, (3, Some(3)));
-    assert_eq!(rt; sends(alloc, 13, 0)?, (13, None));
-    assert_eq!(rt; sends(alloc, 2, 0)?, (2, Some(2)));
+    holds(&rt, sends(alloc, 13, 4)? == (3, Some(3)));
+    holds(&rt, sends(alloc, 13, 0)? == (13, None));
+    holds(&rt, sends(alloc, 2, 0)? == (2, Some(2)));
     let list = list_of(alloc, BILL)?;
     let mut sink = MemoryEventSink::new(alloc, 13, List::new(alloc))?;
-    assert!(rt; send(Events::from_list(alloc, list_of(alloc, BILL)?)?, &mut sink).is_ok());
-    assert!(rt; list.as_slice() == sink.events());
+    holds(
+        &rt,
+        send(Events::from_list(alloc, list_of(alloc, BILL)?)?, &mut sink).is_ok(),
+    );
+    holds(&rt, list.as_slice() == sink.events());
     Ok(())
 }
 
@@ -158,16 +175,16 @@ fn full_name(alloc: Global) -> Result<OwnedName, AllocError> {
 fn copies_are_equal(rt: HostRuntime) -> Result<(), Fail> {
     let alloc = rt.alloc();
     let name = full_name(alloc)?;
-    assert!(rt; name.copied(alloc)? == name);
-    assert!(rt; name != OwnedName::local(alloc, "a")?);
+    holds(&rt, name.copied(alloc)? == name);
+    holds(&rt, name != OwnedName::local(alloc, "a")?);
     let attribute = OwnedAttribute {
         name,
         value: Text::new(alloc, "1")?,
     };
-    assert!(rt; attribute.copied(alloc)? == attribute);
+    holds(&rt, attribute.copied(alloc)? == attribute);
     let bill = list_of(alloc, BILL)?;
     for event in bill.as_slice() {
-        assert!(rt; event.copied(alloc)? == *event);
+        holds(&rt, event.copied(alloc)? == *event);
     }
     Ok(())
 }
@@ -194,16 +211,19 @@ fn deep(alloc: Global, depth: usize) -> Result<List<XmlEvent>, AllocError> {
 #[test]
 fn depth_does_not_matter(rt: HostRuntime) -> Result<(), Fail> {
     let alloc = rt.alloc();
-    assert!(rt; place(alloc, deep(alloc, 100_000)?).is_none());
-    assert!(rt; gathers(alloc, deep(alloc, 100_000)?, 200_002, 0)?.is_none());
+    holds(&rt, place(alloc, deep(alloc, 100_000)?).is_none());
+    holds(
+        &rt,
+        gathers(alloc, deep(alloc, 100_000)?, 200_002, 0)?.is_none(),
+    );
     Ok(())
 }
 
 #[test]
 fn balance_hears(rt: HostRuntime) -> Result<(), Fail> {
     let mut balance = Balance::new(rt.alloc());
-    assert!(rt; balance.step(&XmlEvent::StartDocument)?);
-    assert!(rt; !balance.whole());
+    holds(&rt, balance.step(&XmlEvent::StartDocument)?);
+    holds(&rt, !balance.whole());
     Ok(())
 }
 
@@ -214,15 +234,18 @@ fn labels_of_versions(rt: HostRuntime) {
         (SpecVersion::V1_4, "1.4"),
         (SpecVersion::V1_5, "1.5"),
     ] {
-        assert_eq!(rt; version.as_str(), label);
-        assert_eq!(rt; SpecVersion::from_text(label), Some(version));
-        assert_eq!(rt;
-            SpecVersion::V1_4.lowest(version).as_str() == "1.3",
-            label == "1.3"
+        text_is(&rt, version.as_str(), label);
+        holds(&rt, SpecVersion::from_text(label) == Some(version));
+        holds(
+            &rt,
+            (SpecVersion::V1_4.lowest(version).as_str() == "1.3") == (label == "1.3"),
         );
-        assert_eq!(rt; SpecVersion::V1_4.is_known_to(version), label != "1.3");
+        holds(
+            &rt,
+            SpecVersion::V1_4.is_known_to(version) == (label != "1.3"),
+        );
     }
-    assert_eq!(rt; SpecVersion::from_text("1.6"), None);
+    holds(&rt, SpecVersion::from_text("1.6").is_none());
 }
 
 fn steps(alloc: Global) -> Result<List<Step>, AllocError> {
@@ -237,8 +260,8 @@ fn steps(alloc: Global) -> Result<List<Step>, AllocError> {
 fn printed_paths(rt: HostRuntime) -> Result<(), Fail> {
     let alloc = rt.alloc();
     let path = Path(steps(alloc)?);
-    assert_eq!(rt; path.print(alloc)?.as_str(), "/a~1b~0c/0");
+    text_is(&rt, path.print(alloc)?.as_str(), "/a~1b~0c/0");
     let root = Path(List::new(alloc));
-    assert_eq!(rt; root.print(alloc)?.as_str(), "");
+    text_is(&rt, root.print(alloc)?.as_str(), "");
     Ok(())
 }

@@ -3,12 +3,15 @@
 use cdx_models::{JsonReadError, XmlReadError};
 use std::alloc::{AllocError, Global};
 
-/// The cause and the path.
+/// The cause, and the path where it isn't the whole value.
 pub fn of_json(alloc: Global, fault: &JsonReadError) -> Result<String, AllocError> {
     let JsonReadError::JsonElementReadError { path, kind } = fault else {
         return String::from_str(alloc, "another fault");
     };
     let path = path.print(alloc)?;
+    if path.as_str().is_empty() {
+        return format!(in alloc; "{kind:?}");
+    }
     format!(in alloc; "{kind:?} {}", path.as_str())
 }
 

@@ -17,14 +17,6 @@ pub const V4: SpecVersion = SpecVersion::V1_4;
 
 pub const V5: SpecVersion = SpecVersion::V1_5;
 
-pub fn joined(alloc: Global, parts: &[&str]) -> Result<String, AllocError> {
-    let mut text = String::new(alloc);
-    for part in parts {
-        text.push_str(part)?;
-    }
-    Ok(text)
-}
-
 fn repeated(alloc: Global, piece: &str, times: usize) -> Result<String, AllocError> {
     let mut text = String::new(alloc);
     for _ in 0..times {

@@ -7,12 +7,15 @@ mod checks;
 pub mod documents;
 #[cfg(test)]
 mod events;
+#[cfg(test)]
+mod expect;
 pub mod faults;
 pub mod forms;
 #[cfg(test)]
 mod leaves;
 #[cfg(test)]
 mod nested;
+pub mod rows;
 #[cfg(test)]
 mod sinks;
 #[cfg(test)]

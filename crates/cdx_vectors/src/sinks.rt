@@ -1,5 +1,6 @@
 //! Sources and sinks of bytes: what they give and take, and how their faults are counted.
 
+use crate::expect::holds;
 use cdx_events::{
     Failed, List, MemorySink, MemorySource, NullSink, ReadSource, Sink, SoundSource, Source,
     WriteSink,
@@ -53,7 +54,7 @@ fn takes<S: Source>(source: &mut S) -> Result<usize, Failed> {
 fn reader_is_counted(rt: HostRuntime) {
     let mut source = ReadSource::new(Faulty { calls: 0 });
     for (want, count) in [(Ok(1), 0), (Err(Failed), 1), (Ok(0), 1)] {
-        assert!(rt; takes(&mut source) == want && source.count() == count);
+        holds(&rt, takes(&mut source) == want && source.count() == count);
     }
 }
 
@@ -61,9 +62,9 @@ fn reader_is_counted(rt: HostRuntime) {
 fn writer_is_counted(rt: HostRuntime) {
     let mut sink = WriteSink::new(Faulty { calls: 0 });
     for (want, count) in [(Ok(1), 0), (Err(Failed), 1), (Err(Failed), 2)] {
-        assert!(rt; sink.put(b"ab") == want && sink.count() == count);
+        holds(&rt, sink.put(b"ab") == want && sink.count() == count);
     }
-    assert!(rt; sink.flush() == Err(Failed) && sink.count() == 3);
+    holds(&rt, sink.flush() == Err(Failed) && sink.count() == 3);
 }
 
 fn bytes(alloc: Global) -> Result<List<u8>, AllocError> {
@@ -78,7 +79,7 @@ fn numbers(alloc: Global, numbers: &[u64]) -> Result<List<u64>, AllocError> {
 fn takes_from_memory(rt: HostRuntime) -> Result<(), Fail> {
     let mut sound = SoundSource::new(bytes(rt.alloc())?);
     for want in [2, 1, 0] {
-        assert!(rt; takes(&mut sound) == Ok(want));
+        holds(&rt, takes(&mut sound) == Ok(want));
     }
     Ok(())
 }
@@ -94,7 +95,7 @@ fn takes_step_by_step(rt: HostRuntime) -> Result<(), Fail> {
         (Ok(1), 4),
         (Ok(0), 5),
     ] {
-        assert!(rt; takes(&mut source) == want && source.calls() == calls);
+        holds(&rt, takes(&mut source) == want && source.calls() == calls);
     }
     Ok(())
 }
@@ -120,14 +121,17 @@ fn puts_into_memory(rt: HostRuntime) -> Result<(), Fail> {
         } else {
             sink.put(piece)
         };
-        assert!(rt; answer == want && sink.flushed() == flushed);
+        holds(&rt, answer == want && sink.flushed() == flushed);
     }
-    assert!(rt; sink.written() == b"abc".as_slice() && sink.calls() == 5);
+    holds(
+        &rt,
+        sink.written() == b"abc".as_slice() && sink.calls() == 5,
+    );
     Ok(())
 }
 
 #[test]
 fn null_takes_all(rt: HostRuntime) {
     let mut null = NullSink::new();
-    assert!(rt; null.put(b"abc") == Ok(3) && null.flush() == Ok(()));
+    holds(&rt, null.put(b"abc") == Ok(3) && null.flush() == Ok(()));
 }

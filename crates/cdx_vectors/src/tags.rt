@@ -1,8 +1,10 @@
 //! The helpers that read and write single elements.
 
 use crate::documents::document;
+use crate::expect::{holds, row_is, text_is};
 use crate::faults::of_xml;
 use crate::forms::{V5, closed, opened};
+use crate::rows::row;
 use cdx_events::{Events, List, Text, XmlEvent};
 use cdx_leaf::{
     FromXmlType, Root, attribute_or_error, closing_tag_or_error, expected_namespace_or_error,
@@ -17,20 +19,6 @@ use cdx_write::{
 };
 use std::alloc::{AllocError, Global};
 use std::test::Fail;
-
-#[derive(Clone, Copy)]
-enum Helper {
-    Number,
-    Boolean,
-    Optional,
-    Simple,
-    Inner,
-    InnerOrNone,
-    Closing,
-    Hashes,
-    LaxHashes,
-    Lax,
-}
 
 fn text_answer(alloc: Global, answer: Result<Text, XmlReadError>) -> Result<String, AllocError> {
     match answer {
@@ -81,86 +69,84 @@ fn unit_answer(alloc: Global, answer: Result<(), XmlReadError>) -> Result<String
     }
 }
 
-fn answer(alloc: Global, helper: Helper, events: &Events) -> Result<String, AllocError> {
+// What the helper of this word answers for the document.
+fn answer(alloc: Global, helper: &str, events: &Events) -> Result<String, AllocError> {
     let Root {
         mut reader,
         name,
         ..
     } = root_of(events);
     match helper {
-        Helper::Number => number_answer(alloc, read_u32_tag(alloc, &mut reader, name)),
-        Helper::Boolean => boolean_answer(alloc, read_boolean_tag(alloc, &mut reader, name)),
-        Helper::Optional => optional_answer(alloc, read_optional_tag(alloc, &mut reader, name)),
-        Helper::Simple => text_answer(alloc, read_simple_tag(alloc, &mut reader, name)),
-        Helper::Inner => text_answer(alloc, inner_text_or_error(alloc, &mut reader, name)),
-        Helper::InnerOrNone => optional_answer(alloc, inner_text_or_none(alloc, &mut reader, name)),
-        Helper::Closing => unit_answer(alloc, closing_tag_or_error(alloc, &mut reader, name)),
-        Helper::Hashes => list_answer(alloc, read_list_tag(alloc, &mut reader, V5, name, "hash")),
-        Helper::LaxHashes => list_answer(
+        "number" => number_answer(alloc, read_u32_tag(alloc, &mut reader, name)),
+        "boolean" => boolean_answer(alloc, read_boolean_tag(alloc, &mut reader, name)),
+        "optional" => optional_answer(alloc, read_optional_tag(alloc, &mut reader, name)),
+        "simple" => text_answer(alloc, read_simple_tag(alloc, &mut reader, name)),
+        "inner" => text_answer(alloc, inner_text_or_error(alloc, &mut reader, name)),
+        "inner-or-none" => optional_answer(alloc, inner_text_or_none(alloc, &mut reader, name)),
+        "closing" => unit_answer(alloc, closing_tag_or_error(alloc, &mut reader, name)),
+        "hashes" => list_answer(alloc, read_list_tag(alloc, &mut reader, V5, name, "hash")),
+        "lax-hashes" => list_answer(
             alloc,
             read_lax_validation_list_tag(alloc, &mut reader, V5, name, "hash"),
         ),
-        Helper::Lax => {
+        "lax" => {
             read_lax_validation_tag(&mut reader, name);
             format!(in alloc; "{}", reader.place())
         }
+        _ => String::from_str(alloc, "no such helper"),
     }
 }
+
+const READ: &str = r#"
+    number <n|= 7 |>n -> 7
+    number <n|=x|>n -> parse 2 n x u32
+    number <n|=4294967296|>n -> parse 2 n 4294967296 u32
+    boolean <b|=1|>b -> true
+    boolean <b|=TRUE|>b -> parse 3 b TRUE xs:boolean
+    optional <s|>s -> none
+    optional <s|=x|>s -> x
+    simple <s|<t|>t|>s -> unexpected 2 s StartElement
+    simple <s|>s ->
+    inner <s|>s -> unexpected 2 s EndElement
+    inner-or-none <s|>s -> none
+    inner-or-none <s|=x|>s -> x
+    closing <s|=x|>s -> unexpected 2 s Characters
+    hashes <hashes|<hash alg=algorithm|=hash value|>hash|>hashes -> 1
+    hashes <hashes|<note|>note|>hashes -> unexpected 2 hashes StartElement
+    lax-hashes <hashes|<note|>note|>hashes -> 0
+    lax <hashes|<note|>note|>hashes -> 5
+"#;
 
 #[test]
 fn read(rt: HostRuntime) -> Result<(), Fail> {
     let alloc = rt.alloc();
-    for (helper, line, expected) in [
-        (Helper::Number, "<n|= 7 |>n", "7"),
-        (Helper::Number, "<n|=x|>n", "parse 2 n x u32"),
-        (
-            Helper::Number,
-            "<n|=4294967296|>n",
-            "parse 2 n 4294967296 u32",
-        ),
-        (Helper::Boolean, "<b|=1|>b", "true"),
-        (Helper::Boolean, "<b|=TRUE|>b", "parse 3 b TRUE xs:boolean"),
-        (Helper::Optional, "<s|>s", "none"),
-        (Helper::Optional, "<s|=x|>s", "x"),
-        (Helper::Simple, "<s|<t|>t|>s", "unexpected 2 s StartElement"),
-        (Helper::Simple, "<s|>s", ""),
-        (Helper::Inner, "<s|>s", "unexpected 2 s EndElement"),
-        (Helper::InnerOrNone, "<s|>s", "none"),
-        (Helper::InnerOrNone, "<s|=x|>s", "x"),
-        (Helper::Closing, "<s|=x|>s", "unexpected 2 s Characters"),
-        (
-            Helper::Hashes,
-            "<hashes|<hash alg=algorithm|=hash value|>hash|>hashes",
-            "1",
-        ),
-        (Helper::Hashes, NOTE, "unexpected 2 hashes StartElement"),
-        (Helper::LaxHashes, NOTE, "0"),
-        (Helper::Lax, NOTE, "5"),
-    ] {
-        let whole = format!(in alloc; "start|{line}|end")?;
-        let events = document(alloc, whole.as_str())?;
-        assert_eq!(rt;
-            answer(alloc, helper, &events)?.as_str(),
-            expected,
-            "{line}"
-        );
+    for line in READ.lines() {
+        if let Some((given, expected)) = row(line) {
+            let (helper, element) = given.split_once(' ').unwrap_or((given, ""));
+            let whole = format!(in alloc; "start|{element}|end")?;
+            let events = document(alloc, whole.as_str())?;
+            row_is(
+                &rt,
+                given,
+                answer(alloc, helper, &events)?.as_str(),
+                expected,
+            );
+        }
     }
     Ok(())
 }
-
-const NOTE: &str = "<hashes|<note|>note|>hashes";
 
 #[test]
 fn values(rt: HostRuntime) -> Result<(), Fail> {
     let alloc = rt.alloc();
     let yes = boolean_answer(alloc, bool::from_xml_value(alloc, 1, "b", "yes"))?;
-    assert_eq!(rt; yes.as_str(), "parse 1 b yes xs:boolean");
-    assert_eq!(rt; u32::from_xml_value(alloc, 1, "n", "8")?, 8);
-    assert_eq!(rt; u32::from_xml_value(alloc, 1, "n", "+08")?, 8);
+    text_is(&rt, yes.as_str(), "parse 1 b yes xs:boolean");
+    holds(&rt, u32::from_xml_value(alloc, 1, "n", "8")? == 8);
+    holds(&rt, u32::from_xml_value(alloc, 1, "n", "+08")? == 8);
     let plus = number_answer(alloc, u32::from_xml_value(alloc, 1, "n", "+"))?;
-    assert_eq!(rt; plus.as_str(), "parse 1 n + xs:integer");
-    assert_eq!(rt; bool::xml_type_display(), "xs:boolean");
-    assert_eq!(rt; u32::xml_type_display(), "xs:integer");
+    text_is(&rt, plus.as_str(), "parse 1 n + xs:integer");
+    text_is(&rt, bool::xml_type_display(), "xs:boolean");
+    text_is(&rt, u32::xml_type_display(), "xs:integer");
     Ok(())
 }
 
@@ -170,32 +156,34 @@ fn attributes(rt: HostRuntime) -> Result<(), Fail> {
     let events = document(alloc, "start|<a x=1|>a|end")?;
     let root = root_of(&events);
     let x = attribute_or_error(alloc, 1, root.name, root.attributes, "x")?;
-    assert_eq!(rt; x.as_str(), "1");
+    text_is(&rt, x.as_str(), "1");
     let y = attribute_or_error(alloc, 1, root.name, root.attributes, "y");
-    assert_eq!(rt; text_answer(alloc, y)?.as_str(), "missing 1 a y");
-    assert!(rt; optional_attribute(root.attributes, "y").is_none());
+    text_is(&rt, text_answer(alloc, y)?.as_str(), "missing 1 a y");
+    holds(&rt, optional_attribute(root.attributes, "y").is_none());
     Ok(())
 }
+
+const NAMESPACES: &str = r#"
+    start|<a|>a|end -> none for http://cyclonedx.org/schema/bom/1.5
+    start|<a xmlns=1.5|>a|end -> closed
+"#;
 
 #[test]
 fn namespaces(rt: HostRuntime) -> Result<(), Fail> {
     let alloc = rt.alloc();
-    for (line, expected) in [
-        (
-            "start|<a|>a|end",
-            "none for http://cyclonedx.org/schema/bom/1.5",
-        ),
-        ("start|<a xmlns=1.5|>a|end", "closed"),
-    ] {
-        let events = document(alloc, line)?;
-        let answer = expected_namespace_or_error(alloc, V5, root_of(&events).namespace);
-        assert_eq!(rt; unit_answer(alloc, answer)?.as_str(), expected, "{line}");
+    for line in NAMESPACES.lines() {
+        if let Some((given, expected)) = row(line) {
+            let events = document(alloc, given)?;
+            let answer = expected_namespace_or_error(alloc, V5, root_of(&events).namespace);
+            row_is(&rt, given, unit_answer(alloc, answer)?.as_str(), expected);
+        }
     }
     let text = XmlEvent::Characters(Text::new(alloc, "x")?);
     let fault = unexpected_element_error(alloc, 2, "a", &text)?;
-    assert_eq!(rt;
+    text_is(
+        &rt,
         of_xml(alloc, &fault)?.as_str(),
-        "unexpected 2 a Characters"
+        "unexpected 2 a Characters",
     );
     Ok(())
 }
@@ -211,7 +199,7 @@ fn simple_tags_written(rt: HostRuntime) -> Result<(), Fail> {
     write_start_tag(alloc, &mut writer, "s")?;
     write_close_tag(alloc, &mut writer, "s")?;
     let line = closed(alloc, writer)?;
-    assert_eq!(rt; line.as_str(), "<t|=x|>t|<t|=|>t|<o|=x|>o|<s|>s");
+    text_is(&rt, line.as_str(), "<t|=x|>t|<t|=|>t|<o|=x|>o|<s|>s");
     Ok(())
 }
 
@@ -225,6 +213,6 @@ fn list_tags_written(rt: HostRuntime) -> Result<(), Fail> {
     texts.push(Text::new(alloc, "x")?)?;
     write_list_string_tag(alloc, &mut writer, "l", "c", &texts)?;
     let line = closed(alloc, writer)?;
-    assert_eq!(rt; line.as_str(), "<hashes|>hashes|<l|<c|=x|>c|>l");
+    text_is(&rt, line.as_str(), "<hashes|>hashes|<l|<c|=x|>c|>l");
     Ok(())
 }

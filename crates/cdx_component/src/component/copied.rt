@@ -103,14 +103,17 @@ pub(crate) fn copy_component(component: &Component, alloc: Global) -> Result<Com
     let marks = match copy_marks(component, alloc) {
         Ok(marks) => marks,
         Err(error) => {
-            drop((origin, naming));
+            drop(origin);
+            drop(naming);
             return Err(error);
         }
     };
     let contents = match copy_contents(component, alloc) {
         Ok(contents) => contents,
         Err(error) => {
-            drop((origin, naming, marks));
+            drop(origin);
+            drop(naming);
+            drop(marks);
             return Err(error);
         }
     };

@@ -37,14 +37,17 @@ pub(crate) fn keep_component(
     let marks = match keep_marks(held, alloc, version, label) {
         Ok(marks) => marks,
         Err(error) => {
-            drop((origin, naming));
+            drop(origin);
+            drop(naming);
             return Err(error);
         }
     };
     let contents = match keep_contents(held, alloc, version, label) {
         Ok(contents) => contents,
         Err(error) => {
-            drop((origin, naming, marks));
+            drop(origin);
+            drop(naming);
+            drop(marks);
             return Err(error);
         }
     };

@@ -67,14 +67,17 @@ fn component_from_members(
     let marks = match read_marks(alloc, map, version, depth) {
         Ok(marks) => marks,
         Err(error) => {
-            drop((origin, naming));
+            drop(origin);
+            drop(naming);
             return Err(error);
         }
     };
     let contents = match read_contents(alloc, map, version, depth) {
         Ok(contents) => contents,
         Err(error) => {
-            drop((origin, naming, marks));
+            drop(origin);
+            drop(naming);
+            drop(marks);
             return Err(error);
         }
     };

@@ -81,7 +81,9 @@ pub(crate) fn finish_component(
     match finish_naming(alloc, place, v, element, read) {
         Ok(naming) => Ok(assemble(origin, naming, marks, contents)),
         Err(error) => {
-            drop((origin, marks, contents));
+            drop(origin);
+            drop(marks);
+            drop(contents);
             Err(error)
         }
     }

@@ -37,7 +37,8 @@ pub(crate) fn keep_service(
     let service_contents = match keep_service_contents(held, alloc, version, label) {
         Ok(service_contents) => service_contents,
         Err(error) => {
-            drop((service_naming, service_access));
+            drop(service_naming);
+            drop(service_access);
             return Err(error);
         }
     };

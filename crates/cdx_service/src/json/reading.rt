@@ -67,7 +67,8 @@ fn service_from_members(
     let service_contents = match read_service_contents(alloc, map, version, depth) {
         Ok(service_contents) => service_contents,
         Err(error) => {
-            drop((service_naming, service_access));
+            drop(service_naming);
+            drop(service_access);
             return Err(error);
         }
     };

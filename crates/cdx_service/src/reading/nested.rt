@@ -104,7 +104,8 @@ fn finish_service(
     match finish_naming(alloc, place, element, read) {
         Ok(naming) => Ok(assemble(naming, access, contents)),
         Err(error) => {
-            drop((access, contents));
+            drop(access);
+            drop(contents);
             Err(error)
         }
     }

@@ -80,7 +80,8 @@ pub(crate) fn copy_service(service: &Service, alloc: Global) -> Result<Service, 
     let service_contents = match copy_service_contents(service, alloc) {
         Ok(service_contents) => service_contents,
         Err(error) => {
-            drop((service_naming, service_access));
+            drop(service_naming);
+            drop(service_access);
             return Err(error);
         }
     };

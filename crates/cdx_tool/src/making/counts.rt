@@ -3,15 +3,19 @@ ghost use Rattle.serde_json.specs.Data.{Data};
 ghost use Rattle.serde_json.specs.View.{view};
 ghost use Rattle.serde_json.specs.Written.{has_float, compact_text};
 ghost use Rattle.cdx_events.specs.Nodes.{Node, document};
+ghost use Rattle.cdx_models.specs.declared.bom.SpecVersion.{SpecVersion};
+ghost use Rattle.cdx_schema.specs.JsonSpelling.{jspell};
+ghost use Rattle.cdx_schema.specs.Keeping.{keep};
+ghost use Rattle.cdx_schema.specs.Kinds.{a_bill};
 ghost use Rattle.cdx_schema.specs.Roads.{Doc as SchemaDoc, json, xml};
 ghost use Rattle.cdx_bom.specs.Docs.{AreDocs};
-ghost use Rattle.cdx_request.specs.Made.{made_counts, made_reply};
+ghost use Rattle.cdx_request.specs.Made.{made_bill, made_counts, made_reply};
 ghost use Rattle.cdx_request.specs.Served.{IsMade};
 ghost use Rattle.cdx_tool.specs.Shows.{reply_of};
 
 use super::made;
 use crate::answer::{Answer, SERVED, answer};
-use cdx_bom::{Doc, Form, Hop, RoadError, road};
+use cdx_bom::{Doc, Form, Hop, RoadError, into_road};
 use cdx_json::ToJson;
 use cdx_models::SpecVersion;
 use serde_json::{Value, json};
@@ -52,6 +56,16 @@ fn answer_counts(alloc: Global, docs: &[Doc], count: u32) -> Result<Answer, Allo
     answer(alloc, SERVED, &value)
 }
 
+// A made bill in JSON 1.5.
+fn made_value(alloc: Global, count: u32) -> Result<Value, AllocError>
+    ensures { IfOk result (λ v. view v ≡ jspell (keep SpecVersion.V1_5 (made_bill count) a_bill) SpecVersion.V1_5 a_bill) }
+{
+    let bom = made(alloc, count)?;
+    let value = bom.to_value(alloc, SpecVersion::V1_5);
+    drop(bom);
+    value
+}
+
 /// The answer to the word `make` and a number: the made bill takes the road through XML 1.5 and JSON 1.4, and the answer
 /// is `{"made":{"bytes":b,"components":n,"events":e}}`, where the first document has e events and the second one's
 /// compact text b bytes. Only want of memory refuses.
@@ -60,8 +74,7 @@ pub(crate) fn answer_made(alloc: Global, count: u32) -> Result<Answer, AllocErro
 {
     cdx_request::made_law();
     cdx_request::no_floats();
-    let bom = made(alloc, count)?;
-    let document = Doc::Json(bom.to_value(alloc, SpecVersion::V1_5)?);
+    let document = Doc::Json(made_value(alloc, count)?);
     let hops = [
         Hop {
             form: Form::Xml,
@@ -72,7 +85,7 @@ pub(crate) fn answer_made(alloc: Global, count: u32) -> Result<Answer, AllocErro
             version: SpecVersion::V1_4,
         },
     ];
-    match road(alloc, &document, SpecVersion::V1_5, &hops) {
+    match into_road(alloc, document, SpecVersion::V1_5, &hops) {
         Ok(docs) => answer_counts(alloc, docs.as_slice(), count),
         Err(error) => match error {
             RoadError::Memory(error) => Err(error),

@@ -14,186 +14,205 @@ use cdx_relations::{Compositions, Dependencies};
 use cdx_signature::{Signature, Signer};
 use std::test::Fail;
 
-#[test]
-fn values_and_lists(rt: HostRuntime) -> Result<(), Fail> {
-    let alloc = rt.alloc();
-    differ::<UrnUuid>(&rt, alloc, &["\"a\"", "\"b\""])?;
-    differ::<Cpe>(&rt, alloc, &["\"a\"", "\"b\""])?;
-    let texts = [
-        r#"{"content":"c","contentType":"a","encoding":"b"}"#,
-        r#"{"content":"c","contentType":"x","encoding":"b"}"#,
-        r#"{"content":"c","encoding":"b"}"#,
-        r#"{"content":"c","contentType":"a","encoding":"x"}"#,
-        r#"{"content":"x","contentType":"a","encoding":"b"}"#,
-    ];
-    differ::<AttachedText>(&rt, alloc, &texts)?;
-    let hashes = [
-        "[]",
-        r#"[{"alg":"a","content":"b"}]"#,
-        r#"[{"alg":"x","content":"b"}]"#,
-        r#"[{"alg":"a","content":"x"}]"#,
-    ];
-    differ::<Hashes>(&rt, alloc, &hashes)?;
-    let properties = [
-        "[]",
-        r#"[{"name":"a","value":"b"}]"#,
-        r#"[{"name":"x","value":"b"}]"#,
-        r#"[{"name":"a","value":"x"}]"#,
-    ];
-    differ::<Properties>(&rt, alloc, &properties)
-}
+// A text or a number of two rows each.
+const NAMES: &str = r#"
+    "a"
+    "b"
+"#;
+
+const TEXTS: &str = r#"
+    {"content":"c","contentType":"a","encoding":"b"}
+    {"content":"c","contentType":"x","encoding":"b"}
+    {"content":"c","encoding":"b"}
+    {"content":"c","contentType":"a","encoding":"x"}
+    {"content":"x","contentType":"a","encoding":"b"}
+"#;
+
+const HASHES: &str = r#"
+    []
+    [{"alg":"a","content":"b"}]
+    [{"alg":"x","content":"b"}]
+    [{"alg":"a","content":"x"}]
+"#;
+
+const PROPERTIES: &str = r#"
+    []
+    [{"name":"a","value":"b"}]
+    [{"name":"x","value":"b"}]
+    [{"name":"a","value":"x"}]
+"#;
+
+const CONTACTS: &str = r#"
+    {"bomRef":"a","name":"b","email":"c","phone":"d"}
+    {"bomRef":"x","name":"b","email":"c","phone":"d"}
+    {"bomRef":"a","name":"x","email":"c","phone":"d"}
+    {"bomRef":"a","name":"b","email":"x","phone":"d"}
+    {"bomRef":"a","name":"b","email":"c"}
+"#;
+
+const ENTITIES: &str = r#"
+    {"name":"Acme"}
+    {"bomRef":"a","name":"Acme"}
+    {}
+    {"name":"Acme","url":["u"]}
+    {"name":"Acme","contact":[{"name":"c"}]}
+"#;
+
+const REFERENCES: &str = r#"
+    {"type":"a","url":"b","comment":"c","hashes":[]}
+    {"type":"x","url":"b","comment":"c","hashes":[]}
+    {"type":"a","url":"x","comment":"c","hashes":[]}
+    {"type":"a","url":"b","hashes":[]}
+    {"type":"a","url":"b","comment":"c"}
+"#;
+
+const TOOLS: &str = r#"
+    {}
+    {"vendor":"a"}
+    {"name":"a"}
+    {"version":"a"}
+    {"hashes":[]}
+    {"externalReferences":[]}
+"#;
 
 #[test]
-fn organizations(rt: HostRuntime) -> Result<(), Fail> {
+fn models(rt: HostRuntime) -> Result<(), Fail> {
     let alloc = rt.alloc();
-    let contacts = [
-        r#"{"bomRef":"a","name":"b","email":"c","phone":"d"}"#,
-        r#"{"bomRef":"x","name":"b","email":"c","phone":"d"}"#,
-        r#"{"bomRef":"a","name":"x","email":"c","phone":"d"}"#,
-        r#"{"bomRef":"a","name":"b","email":"x","phone":"d"}"#,
-        r#"{"bomRef":"a","name":"b","email":"c"}"#,
-    ];
-    differ::<OrganizationalContact>(&rt, alloc, &contacts)?;
-    let entities = [
-        r#"{"name":"Acme"}"#,
-        r#"{"bomRef":"a","name":"Acme"}"#,
-        "{}",
-        r#"{"name":"Acme","url":["u"]}"#,
-        r#"{"name":"Acme","contact":[{"name":"c"}]}"#,
-    ];
-    differ::<OrganizationalEntity>(&rt, alloc, &entities)
+    differ::<UrnUuid>(&rt, alloc, NAMES)?;
+    differ::<AttachedText>(&rt, alloc, TEXTS)?;
+    differ::<Hashes>(&rt, alloc, HASHES)?;
+    differ::<Properties>(&rt, alloc, PROPERTIES)?;
+    differ::<OrganizationalContact>(&rt, alloc, CONTACTS)?;
+    differ::<OrganizationalEntity>(&rt, alloc, ENTITIES)?;
+    differ::<ExternalReference>(&rt, alloc, REFERENCES)?;
+    differ::<Tool>(&rt, alloc, TOOLS)
 }
 
-#[test]
-fn references_and_tools(rt: HostRuntime) -> Result<(), Fail> {
-    let alloc = rt.alloc();
-    let references = [
-        r#"{"type":"a","url":"b","comment":"c","hashes":[]}"#,
-        r#"{"type":"x","url":"b","comment":"c","hashes":[]}"#,
-        r#"{"type":"a","url":"x","comment":"c","hashes":[]}"#,
-        r#"{"type":"a","url":"b","hashes":[]}"#,
-        r#"{"type":"a","url":"b","comment":"c"}"#,
-    ];
-    differ::<ExternalReference>(&rt, alloc, &references)?;
-    let tools = [
-        "{}",
-        r#"{"vendor":"a"}"#,
-        r#"{"name":"a"}"#,
-        r#"{"version":"a"}"#,
-        r#"{"hashes":[]}"#,
-        r#"{"externalReferences":[]}"#,
-    ];
-    differ::<Tool>(&rt, alloc, &tools)
-}
+const SIGNERS: &str = r#"
+    {"algorithm":"XY1","value":"v"}
+    {"algorithm":"ES256","value":"v"}
+    {"algorithm":"ES384","value":"v"}
+    {"algorithm":"ES256","value":"x"}
+"#;
+
+const SIGNATURES: &str = r#"
+    {"algorithm":"ES256","value":"v"}
+    {"chain":[{"algorithm":"ES256","value":"v"}]}
+    {"signers":[{"algorithm":"ES256","value":"v"}]}
+    {"chain":[{"algorithm":"ES256","value":"x"}]}
+    {"chain":[]}
+    {"signers":[]}
+"#;
+
+const DEPENDENCIES: &str = r#"
+    []
+    [{"ref":"a","dependsOn":["b"]}]
+    [{"ref":"x","dependsOn":["b"]}]
+    [{"ref":"a","dependsOn":["x"]}]
+"#;
+
+const COMPOSITIONS: &str = r#"
+    []
+    [{"aggregate":"b"}]
+    [{"aggregate":"x"}]
+    [{"aggregate":"b","bomRef":"a"}]
+    [{"aggregate":"b","assemblies":["c"]}]
+    [{"aggregate":"b","dependencies":["c"]}]
+    [{"aggregate":"b","vulnerabilities":["c"]}]
+    [{"aggregate":"b","signature":{"algorithm":"ES256","value":"c"}}]
+"#;
+
+const LICENSES: &str = r#"
+    {"id":"MIT"}
+    {"id":"ISC"}
+    {"name":"MIT"}
+    {"id":"MIT","bomRef":"a"}
+    {"id":"MIT","text":{"content":"a"}}
+    {"id":"MIT","url":"a"}
+    {"id":"MIT","properties":[]}
+"#;
+
+const CHOICES: &str = r#"
+    {"expression":"MIT"}
+    {"license":{"id":"MIT"}}
+"#;
+
+const LICENSE_LISTS: &str = r#"
+    []
+    [{"expression":"MIT"}]
+"#;
 
 #[test]
-fn signatures(rt: HostRuntime) -> Result<(), Fail> {
+fn signatures_relations_and_licenses(rt: HostRuntime) -> Result<(), Fail> {
     let alloc = rt.alloc();
-    let signers = [
-        r#"{"algorithm":"XY1","value":"v"}"#,
-        r#"{"algorithm":"ES256","value":"v"}"#,
-        r#"{"algorithm":"ES384","value":"v"}"#,
-        r#"{"algorithm":"ES256","value":"x"}"#,
-    ];
-    differ::<Signer>(&rt, alloc, &signers)?;
-    let signatures = [
-        r#"{"algorithm":"ES256","value":"v"}"#,
-        r#"{"chain":[{"algorithm":"ES256","value":"v"}]}"#,
-        r#"{"signers":[{"algorithm":"ES256","value":"v"}]}"#,
-        r#"{"chain":[{"algorithm":"ES256","value":"x"}]}"#,
-        r#"{"chain":[]}"#,
-        r#"{"signers":[]}"#,
-    ];
-    differ::<Signature>(&rt, alloc, &signatures)
+    differ::<Signer>(&rt, alloc, SIGNERS)?;
+    differ::<Signature>(&rt, alloc, SIGNATURES)?;
+    differ::<Dependencies>(&rt, alloc, DEPENDENCIES)?;
+    differ::<Compositions>(&rt, alloc, COMPOSITIONS)?;
+    differ::<License>(&rt, alloc, LICENSES)?;
+    differ::<LicenseChoice>(&rt, alloc, CHOICES)?;
+    differ::<Licenses>(&rt, alloc, LICENSE_LISTS)
 }
 
-#[test]
-fn relations(rt: HostRuntime) -> Result<(), Fail> {
-    let alloc = rt.alloc();
-    let dependencies = [
-        "[]",
-        r#"[{"ref":"a","dependsOn":["b"]}]"#,
-        r#"[{"ref":"x","dependsOn":["b"]}]"#,
-        r#"[{"ref":"a","dependsOn":["x"]}]"#,
-    ];
-    differ::<Dependencies>(&rt, alloc, &dependencies)?;
-    let compositions = [
-        "[]",
-        r#"[{"aggregate":"b"}]"#,
-        r#"[{"aggregate":"x"}]"#,
-        r#"[{"aggregate":"b","bomRef":"a"}]"#,
-        r#"[{"aggregate":"b","assemblies":["c"]}]"#,
-        r#"[{"aggregate":"b","dependencies":["c"]}]"#,
-        r#"[{"aggregate":"b","vulnerabilities":["c"]}]"#,
-        r#"[{"aggregate":"b","signature":{"algorithm":"ES256","value":"c"}}]"#,
-    ];
-    differ::<Compositions>(&rt, alloc, &compositions)
-}
+const ACTIONS: &str = r#"
+    {}
+    {"name":"a"}
+    {"email":"a"}
+"#;
 
-#[test]
-fn licenses(rt: HostRuntime) -> Result<(), Fail> {
-    let alloc = rt.alloc();
-    let licenses = [
-        r#"{"id":"MIT"}"#,
-        r#"{"id":"ISC"}"#,
-        r#"{"name":"MIT"}"#,
-        r#"{"id":"MIT","bomRef":"a"}"#,
-        r#"{"id":"MIT","text":{"content":"a"}}"#,
-        r#"{"id":"MIT","url":"a"}"#,
-        r#"{"id":"MIT","properties":[]}"#,
-    ];
-    differ::<License>(&rt, alloc, &licenses)?;
-    let choices = [r#"{"expression":"MIT"}"#, r#"{"license":{"id":"MIT"}}"#];
-    differ::<LicenseChoice>(&rt, alloc, &choices)?;
-    differ::<Licenses>(&rt, alloc, &["[]", r#"[{"expression":"MIT"}]"#])
-}
+const COMMITS: &str = r#"
+    {}
+    {"author":{}}
+    {"committer":{}}
+"#;
 
-#[test]
-fn code(rt: HostRuntime) -> Result<(), Fail> {
-    let alloc = rt.alloc();
-    let actions = ["{}", r#"{"name":"a"}"#, r#"{"email":"a"}"#];
-    differ::<IdentifiableAction>(&rt, alloc, &actions)?;
-    differ::<Commit>(
-        &rt,
-        alloc,
-        &["{}", r#"{"author":{}}"#, r#"{"committer":{}}"#],
-    )?;
-    let issues = [
-        r#"{"type":"defect"}"#,
-        r#"{"type":"defect","source":{}}"#,
-        r#"{"type":"defect","references":[]}"#,
-    ];
-    differ::<Issue>(&rt, alloc, &issues)?;
-    let patches = [
-        r#"{"type":"backport","diff":{"url":"u"}}"#,
-        r#"{"type":"monkey","diff":{"url":"u"}}"#,
-        r#"{"type":"backport","diff":{"url":"v"}}"#,
-    ];
-    differ::<Patch>(&rt, alloc, &patches)
-}
+const ISSUES: &str = r#"
+    {"type":"defect"}
+    {"type":"defect","source":{}}
+    {"type":"defect","references":[]}
+"#;
+
+const PATCHES: &str = r#"
+    {"type":"backport","diff":{"url":"u"}}
+    {"type":"monkey","diff":{"url":"u"}}
+    {"type":"backport","diff":{"url":"v"}}
+"#;
+
+const TAGS: &str = r#"
+    {"tagId":"t","name":"n"}
+    {"tagId":"t","name":"n","patch":false}
+    {"tagId":"t","name":"n","tagVersion":0}
+"#;
+
+const EVIDENCE: &str = r#"
+    {}
+    {"licenses":[]}
+    {"copyright":[]}
+"#;
 
 // A flow without a name and a description counts as its classification, and differs from one with a name.
+const FLOWS: &str = r#"
+    {"flow":"inbound","classification":"PII"}
+    {"flow":"inbound","classification":"public"}
+    {"flow":"inbound","classification":"PII","name":"n"}
+"#;
+
+const DATA: &str = r#"
+    []
+    [{"flow":"inbound","classification":"PII"}]
+    [{"flow":"inbound","classification":"PII","name":"n"}]
+"#;
+
 #[test]
-fn parts(rt: HostRuntime) -> Result<(), Fail> {
+fn code_and_parts(rt: HostRuntime) -> Result<(), Fail> {
     let alloc = rt.alloc();
-    let tags = [
-        r#"{"tagId":"t","name":"n"}"#,
-        r#"{"tagId":"t","name":"n","patch":false}"#,
-        r#"{"tagId":"t","name":"n","tagVersion":0}"#,
-    ];
-    differ::<Swid>(&rt, alloc, &tags)?;
-    let evidence = ["{}", r#"{"licenses":[]}"#, r#"{"copyright":[]}"#];
-    differ::<ComponentEvidence>(&rt, alloc, &evidence)?;
-    let flows = [
-        r#"{"flow":"inbound","classification":"PII"}"#,
-        r#"{"flow":"inbound","classification":"public"}"#,
-        r#"{"flow":"inbound","classification":"PII","name":"n"}"#,
-    ];
-    differ::<ServiceData>(&rt, alloc, &flows)?;
-    let data = [
-        "[]",
-        r#"[{"flow":"inbound","classification":"PII"}]"#,
-        r#"[{"flow":"inbound","classification":"PII","name":"n"}]"#,
-    ];
-    differ::<Data>(&rt, alloc, &data)
+    differ::<IdentifiableAction>(&rt, alloc, ACTIONS)?;
+    differ::<Commit>(&rt, alloc, COMMITS)?;
+    differ::<Issue>(&rt, alloc, ISSUES)?;
+    differ::<Patch>(&rt, alloc, PATCHES)?;
+    differ::<Cpe>(&rt, alloc, NAMES)?;
+    differ::<Swid>(&rt, alloc, TAGS)?;
+    differ::<ComponentEvidence>(&rt, alloc, EVIDENCE)?;
+    differ::<ServiceData>(&rt, alloc, FLOWS)?;
+    differ::<Data>(&rt, alloc, DATA)
 }

@@ -1,5 +1,6 @@
 //! What constructors give, and values that no document tells apart.
 
+use crate::expect::{holds, row_holds, text_is};
 use crate::forms::{V3, V5, denoted, held};
 use cdx_data::{Data, DataClassification};
 use cdx_events::{List, Text};
@@ -19,7 +20,7 @@ fn is_made<T: FromJson + PartialEq + Drop>(
     made: T,
     text: &str,
 ) -> Result<(), Fail> {
-    assert!(rt; made == held::<T>(alloc, text, V5)?, "{text}");
+    row_holds(rt, text, made == held::<T>(alloc, text, V5)?);
     Ok(())
 }
 
@@ -32,81 +33,58 @@ fn constructors(rt: HostRuntime) -> Result<(), Fail> {
     let expression = Expression::new(alloc, "MIT")?;
     is_made(&rt, alloc, expression, r#"{"expression":"MIT"}"#)?;
     let class = DataClassification::new(alloc, "inbound", "PII")?;
-    is_made(
-        &rt,
-        alloc,
-        class,
-        r#"{"flow":"inbound","classification":"PII"}"#,
-    )?;
-    is_made(&rt, alloc, BomReference::new(alloc, "r")?, "\"r\"")
-}
-
-#[test]
-fn signatures(rt: HostRuntime) -> Result<(), Fail> {
-    let alloc = rt.alloc();
+    let flow = r#"{"flow":"inbound","classification":"PII"}"#;
+    is_made(&rt, alloc, class, flow)?;
+    is_made(&rt, alloc, BomReference::new(alloc, "r")?, r#""r""#)?;
     let single = Signature::single(alloc, "ES256", "v")?;
     is_made(&rt, alloc, single, r#"{"algorithm":"ES256","value":"v"}"#)?;
     let signer = Signer::new(alloc, "XY1", "v")?;
     is_made(&rt, alloc, signer, r#"{"algorithm":"XY1","value":"v"}"#)?;
-    is_made(
-        &rt,
-        alloc,
-        Signature::chain(List::new(alloc)),
-        r#"{"chain":[]}"#,
-    )?;
-    is_made(
-        &rt,
-        alloc,
-        Signature::signers(List::new(alloc)),
-        r#"{"signers":[]}"#,
-    )
+    let chain = Signature::chain(List::new(alloc));
+    is_made(&rt, alloc, chain, r#"{"chain":[]}"#)?;
+    let signers = Signature::signers(List::new(alloc));
+    is_made(&rt, alloc, signers, r#"{"signers":[]}"#)
 }
 
 fn is_link(uri: &Uri) -> bool {
     matches!(uri, Uri::BomLink(_))
 }
 
-// An address is a link to a bill where it begins with `urn:cdx:`.
-#[test]
-fn addresses(rt: HostRuntime) -> Result<(), Fail> {
-    let alloc = rt.alloc();
-    for (address, is_expected) in [
-        ("u", false),
-        ("urn:cdx", false),
-        ("urn:cdx:", true),
-        ("urn:cdx:x", true),
-        ("URN:CDX:x", false),
-        (" urn:cdx:x", false),
-    ] {
+// The addresses, parted by `|`, are taken as links or as none, and copied so. A link is equal to its text as no link.
+fn are_links(
+    rt: &impl Abort,
+    alloc: Global,
+    addresses: &str,
+    is_expected: bool,
+) -> Result<(), Fail> {
+    for address in addresses.split('|') {
         let uri = Uri::from_text(Text::new(alloc, address)?);
         let plain = Uri::Url(Text::new(alloc, address)?);
-        assert_eq!(rt; is_link(&uri), is_expected);
-        assert_eq!(rt; is_link(&uri.copy(alloc)?), is_expected);
-        assert_eq!(rt; is_link(&plain.copy(alloc)?), false);
-        assert_eq!(rt; uri.as_str(), address);
-        assert!(rt; uri == plain);
+        holds(rt, is_link(&uri) == is_expected);
+        holds(rt, is_link(&uri.copy(alloc)?) == is_expected);
+        holds(rt, !is_link(&plain.copy(alloc)?));
+        text_is(rt, uri.as_str(), address);
+        holds(rt, uri == plain);
     }
     Ok(())
 }
 
+// An address is a link to a bill where it begins with `urn:cdx:`.
 #[test]
-fn addresses_of_references(rt: HostRuntime) -> Result<(), Fail> {
+fn addresses(rt: HostRuntime) -> Result<(), Fail> {
     let alloc = rt.alloc();
+    are_links(&rt, alloc, "urn:cdx:|urn:cdx:x", true)?;
+    are_links(&rt, alloc, "u|urn:cdx|URN:CDX:x| urn:cdx:x", false)?;
     let text = r#"{"type":"t","url":"urn:cdx:x"}"#;
     let reference = held::<ExternalReference>(alloc, text, V5)?;
-    assert!(rt; is_link(&reference.url));
+    holds(&rt, is_link(&reference.url));
     let kept = reference.kept(alloc, V3)?;
-    assert!(rt; is_link(&kept.url));
-    Ok(())
-}
-
-#[test]
-fn addresses_in_xml(rt: HostRuntime) -> Result<(), Fail> {
+    holds(&rt, is_link(&kept.url));
     let line =
         "<externalReferences|<reference type=t|<url|=urn:cdx:x|>url|>reference|>externalReferences";
-    let references = denoted::<ExternalReferences>(rt.alloc(), line, V5)?;
+    let references = denoted::<ExternalReferences>(alloc, line, V5)?;
     for reference in references.0.as_slice() {
-        assert!(rt; is_link(&reference.url));
+        holds(&rt, is_link(&reference.url));
     }
     Ok(())
 }
@@ -115,37 +93,31 @@ fn is_unknown(algorithm: &Algorithm) -> bool {
     matches!(algorithm, Algorithm::Unknown(_))
 }
 
+const ALGORITHMS: &str =
+    "RS256 RS384 RS512 PS256 PS384 PS512 ES256 ES384 ES512 Ed25519 Ed448 HS256 HS384 HS512";
+
 #[test]
-fn algorithms(rt: HostRuntime) -> Result<(), Fail> {
+fn algorithms_and_flows(rt: HostRuntime) -> Result<(), Fail> {
     let alloc = rt.alloc();
-    for name in [
-        "RS256", "RS384", "RS512", "PS256", "PS384", "PS512", "ES256", "ES384", "ES512", "Ed25519",
-        "Ed448", "HS256", "HS384", "HS512",
-    ] {
+    for name in ALGORITHMS.split(' ') {
         let known = Algorithm::new_unchecked(alloc, name)?;
         let unknown = Algorithm::Unknown(Text::new(alloc, name)?);
-        assert!(rt; !is_unknown(&known) && is_unknown(&unknown));
-        assert!(rt; !is_unknown(&known.copy(alloc)?));
-        assert!(rt; is_unknown(&unknown.copy(alloc)?));
-        assert_eq!(rt; known.as_str(), name);
-        assert!(rt; known == unknown);
+        holds(&rt, !is_unknown(&known) && is_unknown(&unknown));
+        holds(&rt, !is_unknown(&known.copy(alloc)?));
+        holds(&rt, is_unknown(&unknown.copy(alloc)?));
+        text_is(&rt, known.as_str(), name);
+        holds(&rt, known == unknown);
     }
-    assert!(rt; is_unknown(&Algorithm::new_unchecked(alloc, "es256")?));
-    assert!(rt; Algorithm::ES256 != Algorithm::ES384);
-    Ok(())
-}
-
-// Classifications and flows are two cases, equal where each flow has neither a name nor a description.
-#[test]
-fn flows_and_classifications(rt: HostRuntime) -> Result<(), Fail> {
-    let alloc = rt.alloc();
+    holds(&rt, is_unknown(&Algorithm::new_unchecked(alloc, "es256")?));
+    holds(&rt, Algorithm::ES256 != Algorithm::ES384);
+    // Classifications and flows are two cases, equal where each flow has neither a name nor a description.
     let mut entries = List::new(alloc);
     entries.push(DataClassification::new(alloc, "inbound", "PII")?)?;
     let classes = Data::Classification(entries);
     let line = "<data|<dataflow|<classification flow=inbound|=PII|>classification|>dataflow|>data";
     let flows = denoted::<Data>(alloc, line, V5)?;
-    assert!(rt; matches!(&flows, Data::ServiceData(_)));
-    assert!(rt; classes == flows);
-    assert!(rt; flows.copy(alloc)? == classes);
+    holds(&rt, matches!(&flows, Data::ServiceData(_)));
+    holds(&rt, classes == flows);
+    holds(&rt, flows.copy(alloc)? == classes);
     Ok(())
 }

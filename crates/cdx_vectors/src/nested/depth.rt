@@ -1,136 +1,94 @@
 //! How deep components and services may stand in each other: 32 are read, and one inside them isn't.
 
+use crate::expect::row_is;
 use crate::forms::{V5, again, chain, read};
+use crate::rows::row;
 use cdx_json::{FromJson, ToJson};
 use cdx_leaf::FromXml;
 use cdx_nest::{Components, Services};
 use std::alloc::Global;
+use std::process::Abort;
 use std::test::Fail;
 
-// What stands before the next value inside, and after it.
-type Ends<'a> = (&'a str, &'a str);
+// What stands before the next value inside, and after it, where dots stand for that.
+fn ends(value: &str) -> (&str, &str) {
+    value.split_once("...").unwrap_or((value, ""))
+}
 
-// What 32 values give, or empty where that is the text itself.
-fn shallow<T: FromJson + ToJson + Drop>(alloc: Global, ends: Ends<'_>) -> Result<String, Fail> {
-    let text = chain(alloc, "[", ends, 32, "]")?;
-    let answer = again::<T>(alloc, text.as_str(), V5)?;
-    if answer == text {
-        return Ok(String::new(alloc));
+// Lists of each value are read and written where 32 stand in each other, and 33 are refused at the last one's path, which
+// leads through so many of the row's steps.
+fn nest_in_json<T: FromJson + ToJson + Drop>(
+    rt: &impl Abort,
+    alloc: Global,
+    rows: &str,
+) -> Result<(), Fail> {
+    for line in rows.lines() {
+        if let Some((value, step)) = row(line) {
+            let shallow = chain(alloc, "[", ends(value), 32, "]")?;
+            let answer = again::<T>(alloc, shallow.as_str(), V5)?;
+            row_is(rt, value, answer.as_str(), shallow.as_str());
+            let deep = chain(alloc, "[", ends(value), 33, "]")?;
+            let answer = again::<T>(alloc, deep.as_str(), V5)?;
+            let fault = chain(alloc, "TooDeep /0", (step, ""), 32, "")?;
+            row_is(rt, value, answer.as_str(), fault.as_str());
+        }
     }
-    Ok(answer)
+    Ok(())
 }
 
-// What 33 values give.
-fn deep<T: FromJson + ToJson + Drop>(alloc: Global, ends: Ends<'_>) -> Result<String, Fail> {
-    let text = chain(alloc, "[", ends, 33, "]")?;
-    again::<T>(alloc, text.as_str(), V5)
+const COMPONENTS: &str = r#"
+    {"components":[...],"name":"n","type":"file"} -> /components/0
+    {"name":"n","pedigree":{"ancestors":[...]},"type":"file"} -> /pedigree/ancestors/0
+"#;
+
+const SERVICES: &str = r#"
+    {"name":"n","services":[...]} -> /services/0
+"#;
+
+#[test]
+fn in_json(rt: HostRuntime) -> Result<(), Fail> {
+    let alloc = rt.alloc();
+    nest_in_json::<Components>(&rt, alloc, COMPONENTS)?;
+    nest_in_json::<Services>(&rt, alloc, SERVICES)
 }
 
-// Whether 33 are refused at the last one's path, which leads through so many steps.
-fn is_refused<T: FromJson + ToJson + Drop>(
+// In the element of a list 32 of each element are read as the row's values, and 33 are refused as it says.
+fn nest_in_xml<T: FromXml + ToJson>(
+    rt: &impl Abort,
     alloc: Global,
-    ends: Ends<'_>,
-    step: &str,
-) -> Result<bool, Fail> {
-    let expected = chain(alloc, "TooDeep /0", (step, ""), 32, "")?;
-    Ok(deep::<T>(alloc, ends)? == expected)
-}
-
-#[test]
-fn components_in_json(rt: HostRuntime) -> Result<(), Fail> {
-    let alloc = rt.alloc();
-    let ends = (r#"{"components":["#, r#"],"name":"n","type":"file"}"#);
-    assert_eq!(rt; shallow::<Components>(alloc, ends)?.as_str(), "");
-    assert!(rt; is_refused::<Components>(alloc, ends, "/components/0")?);
+    list: &str,
+    rows: &str,
+) -> Result<(), Fail> {
+    let (first, last) = ends(list);
+    for line in rows.lines() {
+        if let Some((element, answer)) = row(line) {
+            let (value, fault) = answer.split_once(" -> ").unwrap_or((answer, ""));
+            let shallow = chain(alloc, first, ends(element), 32, last)?;
+            let found = read::<T>(alloc, shallow.as_str(), V5)?;
+            let values = chain(alloc, "[", ends(value), 32, "]")?;
+            row_is(rt, element, found.as_str(), values.as_str());
+            let deep = chain(alloc, first, ends(element), 33, last)?;
+            let found = read::<T>(alloc, deep.as_str(), V5)?;
+            row_is(rt, element, found.as_str(), fault);
+        }
+    }
     Ok(())
 }
 
-#[test]
-fn pedigrees_in_json(rt: HostRuntime) -> Result<(), Fail> {
-    let alloc = rt.alloc();
-    let ends = (
-        r#"{"name":"n","pedigree":{"ancestors":["#,
-        r#"]},"type":"file"}"#,
-    );
-    assert_eq!(rt; shallow::<Components>(alloc, ends)?.as_str(), "");
-    assert!(rt; is_refused::<Components>(alloc, ends, "/pedigree/ancestors/0")?);
-    Ok(())
-}
+// The first component's start has place 2, and each one inside stands 5 places after the one around it, or 6 in a
+// pedigree.
+const COMPONENT_ELEMENTS: &str = r#"
+    <component type=file|<name|=n|>name|<components|...>components|>component| -> {"components":[...],"name":"n","type":"file"} -> too deep 162
+    <component type=file|<name|=n|>name|<pedigree|<variants|...>variants|>pedigree|>component| -> {"name":"n","pedigree":{"variants":[...]},"type":"file"} -> too deep 194
+"#;
+
+const SERVICE_ELEMENTS: &str = r#"
+    <service|<name|=n|>name|<services|...>services|>service| -> {"name":"n","services":[...]} -> too deep 162
+"#;
 
 #[test]
-fn services_in_json(rt: HostRuntime) -> Result<(), Fail> {
+fn in_xml(rt: HostRuntime) -> Result<(), Fail> {
     let alloc = rt.alloc();
-    let ends = (r#"{"name":"n","services":["#, "]}");
-    assert_eq!(rt; shallow::<Services>(alloc, ends)?.as_str(), "");
-    assert!(rt; is_refused::<Services>(alloc, ends, "/services/0")?);
-    Ok(())
-}
-
-// What so many elements give in that of a list.
-fn listed<T: FromXml + ToJson>(
-    alloc: Global,
-    list: Ends<'_>,
-    ends: Ends<'_>,
-    levels: usize,
-) -> Result<String, Fail> {
-    let line = chain(alloc, list.0, ends, levels, list.1)?;
-    read::<T>(alloc, line.as_str(), V5)
-}
-
-// Whether 32 are read as the values of this JSON.
-fn is_read<T: FromXml + ToJson>(
-    alloc: Global,
-    list: Ends<'_>,
-    ends: Ends<'_>,
-    json: Ends<'_>,
-) -> Result<bool, Fail> {
-    let expected = chain(alloc, "[", json, 32, "]")?;
-    Ok(listed::<T>(alloc, list, ends, 32)? == expected)
-}
-
-const COMPONENTS: (&str, &str) = ("<components|", ">components");
-
-// The first component's start has place 2, and each one inside stands 5 places after the one around it.
-#[test]
-fn components_in_xml(rt: HostRuntime) -> Result<(), Fail> {
-    let alloc = rt.alloc();
-    let ends = (
-        "<component type=file|<name|=n|>name|<components|",
-        ">components|>component|",
-    );
-    let json = (r#"{"components":["#, r#"],"name":"n","type":"file"}"#);
-    assert!(rt; is_read::<Components>(alloc, COMPONENTS, ends, json)?);
-    let deeper = listed::<Components>(alloc, COMPONENTS, ends, 33)?;
-    assert_eq!(rt; deeper.as_str(), "too deep 162");
-    Ok(())
-}
-
-// Here it is 6 places.
-#[test]
-fn pedigrees_in_xml(rt: HostRuntime) -> Result<(), Fail> {
-    let alloc = rt.alloc();
-    let ends = (
-        "<component type=file|<name|=n|>name|<pedigree|<variants|",
-        ">variants|>pedigree|>component|",
-    );
-    let json = (
-        r#"{"name":"n","pedigree":{"variants":["#,
-        r#"]},"type":"file"}"#,
-    );
-    assert!(rt; is_read::<Components>(alloc, COMPONENTS, ends, json)?);
-    let deeper = listed::<Components>(alloc, COMPONENTS, ends, 33)?;
-    assert_eq!(rt; deeper.as_str(), "too deep 194");
-    Ok(())
-}
-
-#[test]
-fn services_in_xml(rt: HostRuntime) -> Result<(), Fail> {
-    let alloc = rt.alloc();
-    let list = ("<services|", ">services");
-    let ends = ("<service|<name|=n|>name|<services|", ">services|>service|");
-    let json = (r#"{"name":"n","services":["#, "]}");
-    assert!(rt; is_read::<Services>(alloc, list, ends, json)?);
-    let deeper = listed::<Services>(alloc, list, ends, 33)?;
-    assert_eq!(rt; deeper.as_str(), "too deep 162");
-    Ok(())
+    nest_in_xml::<Components>(&rt, alloc, "<components|...>components", COMPONENT_ELEMENTS)?;
+    nest_in_xml::<Services>(&rt, alloc, "<services|...>services", SERVICE_ELEMENTS)
 }

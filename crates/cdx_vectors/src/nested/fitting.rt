@@ -1,62 +1,83 @@
 //! Which versions can hold a component without a version of its own, and tools as an object.
 
-use crate::forms::{V3, V4, V5, again, held, joined, kept};
+use crate::checks::{denotes, keeps, stays};
+use crate::expect::{holds, row_holds};
+use crate::forms::{V3, V4, V5, held};
+use crate::rows::row;
 use cdx_nest::{Component, Components, Metadata, Pedigree, Service, Services, Tools};
 use std::alloc::Global;
 use std::test::Fail;
 
 const BARE: &str = r#"{"name":"n","type":"file"}"#;
 
-// Whether 1.4 and 1.3 can hold the component around one without a version.
-fn component_fits(alloc: Global, before: &str, after: &str) -> Result<(bool, bool), Fail> {
-    let text = joined(alloc, &[before, BARE, after])?;
-    let component = held::<Component>(alloc, text.as_str(), V4)?;
-    Ok((component.fits(V4), component.fits(V3)))
+// Whether 1.4 and 1.3 can hold the component. A wide value is freed by `drop`: each other way out frees its fields one by
+// one, which takes long to prove.
+fn component_fits(alloc: Global, text: &str) -> Result<(bool, bool), Fail> {
+    let component = held::<Component>(alloc, text, V4)?;
+    let found = (component.fits(V4), component.fits(V3));
+    drop(component);
+    Ok(found)
 }
 
-// The same of the metadata around one.
-fn metadata_fits(alloc: Global, before: &str, after: &str) -> Result<(bool, bool), Fail> {
-    let text = joined(alloc, &[before, BARE, after])?;
-    let metadata = held::<Metadata>(alloc, text.as_str(), V5)?;
-    Ok((metadata.fits(V4), metadata.fits(V3)))
+// The same of the metadata.
+fn metadata_fits(alloc: Global, text: &str) -> Result<(bool, bool), Fail> {
+    let metadata = held::<Metadata>(alloc, text, V5)?;
+    let found = (metadata.fits(V4), metadata.fits(V3));
+    drop(metadata);
+    Ok(found)
 }
+
+// Components that only 1.3 can't hold.
+const WITHOUT_VERSION: &str = r#"
+    {"name":"n","type":"file"}
+    {"name":"n","type":"file","version":"1","components":[{"name":"n","type":"file"}]}
+    {"name":"n","type":"file","version":"1","pedigree":{"variants":[{"name":"n","type":"file"}]}}
+"#;
 
 #[test]
 fn versions_asked_in_1_3(rt: HostRuntime) -> Result<(), Fail> {
     let alloc = rt.alloc();
-    assert_eq!(rt;
-        again::<Component>(alloc, BARE, V3)?.as_str(),
-        "Missing /version"
-    );
-    assert_eq!(rt; again::<Component>(alloc, BARE, V4)?.as_str(), BARE);
-    let inside = r#"{"name":"n","type":"file","version":"1","components":["#;
-    let variant = r#"{"name":"n","type":"file","version":"1","pedigree":{"variants":["#;
-    for (before, after) in [("", ""), (inside, "]}"), (variant, "]}}")] {
-        assert_eq!(rt; component_fits(alloc, before, after)?, (true, false));
+    denotes::<Component>(
+        &rt,
+        alloc,
+        V3,
+        r#"{"name":"n","type":"file"} -> Missing /version"#,
+    )?;
+    denotes::<Component>(&rt, alloc, V4, BARE)?;
+    for line in WITHOUT_VERSION.lines() {
+        if let Some((text, _)) = row(line) {
+            row_holds(&rt, text, component_fits(alloc, text)? == (true, false));
+        }
     }
-    assert_eq!(rt;
-        metadata_fits(alloc, r#"{"component":"#, "}")?,
-        (true, false)
-    );
-    let tool = r#"{"tools":{"components":["#;
-    assert_eq!(rt; metadata_fits(alloc, tool, "]}}")?, (true, true));
+    let main = r#"{"component":{"name":"n","type":"file"}}"#;
+    holds(&rt, metadata_fits(alloc, main)? == (true, false));
+    let tool = r#"{"tools":{"components":[{"name":"n","type":"file"}]}}"#;
+    holds(&rt, metadata_fits(alloc, tool)? == (true, true));
     Ok(())
 }
 
-const TOOLS: &str =
-    r#"{"tools":{"components":[{"name":"n","type":"file"}],"services":[{"name":"n"}]}}"#;
+const TOOLS: &str = r#"
+    {"tools":{"components":[{"name":"n","type":"file"}],"services":[{"name":"n"}]}}
+"#;
+
+const TOOLS_READ_BEFORE_1_5: &str = r#"
+    {"tools":{"components":[{"name":"n","type":"file"}],"services":[{"name":"n"}]}} -> WrongKind /tools
+"#;
+
+const TOOLS_KEPT_BEFORE_1_5: &str = r#"
+    {"tools":{"components":[{"name":"n","type":"file"}],"services":[{"name":"n"}]}} -> {"tools":[]}
+"#;
 
 // Only 1.5 reads and keeps an object; before, it is kept as the empty list.
 #[test]
 fn tools_as_an_object(rt: HostRuntime) -> Result<(), Fail> {
     let alloc = rt.alloc();
-    let (wrong, empty) = ("WrongKind /tools", r#"{"tools":[]}"#);
-    for (v, read, stays) in [(V3, wrong, empty), (V4, wrong, empty), (V5, TOOLS, TOOLS)] {
-        assert_eq!(rt; again::<Metadata>(alloc, TOOLS, v)?.as_str(), read);
-        assert_eq!(rt; kept::<Metadata>(alloc, TOOLS, v)?.as_str(), stays);
+    for v in [V3, V4] {
+        denotes::<Metadata>(&rt, alloc, v, TOOLS_READ_BEFORE_1_5)?;
+        keeps::<Metadata>(&rt, alloc, v, TOOLS_KEPT_BEFORE_1_5)?;
     }
-    assert_eq!(rt; again::<Tools>(alloc, "7", V5)?.as_str(), "WrongKind ");
-    Ok(())
+    stays::<Metadata>(&rt, alloc, V5, TOOLS)?;
+    denotes::<Tools>(&rt, alloc, V5, "7 -> WrongKind")
 }
 
 // The list of one component.
@@ -67,20 +88,23 @@ fn holding(alloc: Global, text: &str) -> Result<Components, Fail> {
 }
 
 // Whether the first of the list is the component itself.
-fn holds(alloc: Global, text: &str) -> Result<bool, Fail> {
+fn is_first(alloc: Global, text: &str) -> Result<bool, Fail> {
+    let list = holding(alloc, text)?;
     let one = held::<Component>(alloc, text, V5)?;
-    Ok(holding(alloc, text)?.get(0) == Some(&one))
+    let is_first = list.get(0) == Some(&one);
+    drop(one);
+    Ok(is_first)
 }
 
 #[test]
 fn lists_of_components(rt: HostRuntime) -> Result<(), Fail> {
     let alloc = rt.alloc();
-    assert_eq!(rt; Components::new(alloc).len(), 0);
-    assert!(rt; holds(alloc, BARE)?);
+    holds(&rt, Components::new(alloc).len() == 0);
+    holds(&rt, is_first(alloc, BARE)?);
     let components = holding(alloc, BARE)?;
-    assert_eq!(rt; components.as_slice().len(), 1);
-    assert!(rt; components.get(1).is_none());
-    assert!(rt; components == holding(alloc, BARE)?);
+    holds(&rt, components.as_slice().len() == 1);
+    holds(&rt, components.get(1).is_none());
+    holds(&rt, components == holding(alloc, BARE)?);
     Ok(())
 }
 
@@ -89,9 +113,9 @@ fn lists_of_services(rt: HostRuntime) -> Result<(), Fail> {
     let alloc = rt.alloc();
     let mut services = Services::new(alloc);
     services.push(held::<Service>(alloc, r#"{"name":"n"}"#, V5)?)?;
-    assert_eq!(rt; services.len(), 1);
-    assert!(rt; services != Services::new(alloc));
-    assert!(rt; services.get(0).is_some());
-    assert!(rt; held::<Pedigree>(alloc, "{}", V5)?.fits(V3));
+    holds(&rt, services.len() == 1);
+    holds(&rt, services != Services::new(alloc));
+    holds(&rt, services.get(0).is_some());
+    holds(&rt, held::<Pedigree>(alloc, "{}", V5)?.fits(V3));
     Ok(())
 }

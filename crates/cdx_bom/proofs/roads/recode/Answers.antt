@@ -8,4 +8,4 @@ use Rattle.cdx_bom.proofs.roads.recode.Goals as goal
 pub returns : goal.returns
 returns c = λ x is.
     let hop : Hop = record { form = c.args.to; version = c.args.w } in
-    one_hop c.in_ok-spell.field-0 x c.args.v (hop_of hop) (bom_tree c.in_ok-read.read) (c.in_ok-read.ensures x is) (sym c.fits.ensures ∙ c.if-not-fits.false) c.in_ok-spell.ensures
+    one_hop c.in_ok-spell_freed.field-0 x c.args.v (hop_of hop) (bom_tree c.in_ok-read.read) (c.in_ok-read.ensures x is) (sym c.fits.ensures ∙ c.if-not-fits.false) c.in_ok-spell_freed.ensures
