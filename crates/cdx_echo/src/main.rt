@@ -1,6 +1,10 @@
 //! Reads one JSON value from standard input and writes its text: what `bench/road` measures the program against.
 #![tactic(auto)]
 
+ghost use Rattle.std.specs.Prelude.{◌≡◌, ◌++◌, [], ◌∷◌, false, IfOk, string_bytes};
+ghost use Rattle.serde_json.specs.View.{view};
+ghost use Rattle.serde_json.specs.Written.{has_float, compact_text};
+
 use serde_json::Value;
 use std::alloc::{AllocError, Global};
 use std::io::{self, Read, Write};
@@ -25,7 +29,10 @@ fn echoed(alloc: Global, bytes: &[u8]) -> Result<String, u8> {
     }
 }
 
-fn printed(alloc: Global, value: &Value) -> Result<String, AllocError> {
+// The value's compact text, which the contract tells where it holds no float, and a line feed.
+fn printed(alloc: Global, value: &Value) -> Result<String, AllocError>
+    ensures { IfOk result (λ t. has_float (view value.now) ≡ false → string_bytes t ≡ compact_text (view value.now) ++ 10 ∷ []) }
+{
     let mut text = value.to_string(alloc)?;
     text.push('\n')?;
     Ok(text)
