@@ -2,17 +2,13 @@
 #![tactic(auto)]
 
 #[cfg(test)]
+mod documents;
+#[cfg(test)]
 mod expect;
 #[cfg(test)]
 mod faults;
 #[cfg(test)]
-mod reading;
-#[cfg(test)]
-mod roads;
-#[cfg(test)]
 mod short;
-#[cfg(test)]
-mod sources;
 #[cfg(test)]
 mod values;
 #[cfg(test)]

@@ -10,14 +10,10 @@ use cdx_models::{JsonReadError, JsonWriteError, SpecVersion, XmlReadError, XmlWr
 use cdx_vectors::documents::{document, line_of};
 use cdx_vectors::faults::{of_json, of_xml};
 use cdx_vectors::forms::V5;
+use cdx_vectors::rows::parted;
 use serde_json::Value;
 use std::alloc::{AllocError, Global};
 use std::test::Fail;
-
-/// The first word and the rest.
-pub fn parted(text: &str) -> (&str, &str) {
-    text.split_once(' ').unwrap_or((text, ""))
-}
 
 /// The document of the short one. Any other text is itself.
 pub fn whole(alloc: Global, short: &str) -> Result<String, AllocError> {
@@ -43,12 +39,6 @@ pub fn hop_of(short: &str) -> Option<Hop> {
     };
     let version = SpecVersion::from_text(parted(words).0)?;
     Some(Hop { form, version })
-}
-
-/// The version that a row begins with, and what it reads or writes.
-pub fn versioned(given: &str) -> Option<(SpecVersion, &str)> {
-    let (version, rest) = parted(given);
-    Some((SpecVersion::from_text(version)?, rest))
 }
 
 pub fn parse_json(alloc: Global, value: &Value, v: SpecVersion) -> Result<Bom, JsonReadError> {

@@ -1,11 +1,11 @@
-//! Bills as values: new ones, copies, which are equal and which the same, how deep they are, and what versions keep.
+//! Bills as values: new ones, copies, which are equal and which the same, and how deep they are.
 
-use crate::expect::{holds, row_holds, row_is};
-use crate::short::{bill, label, told, versioned, whole};
+use crate::expect::{holds, row_holds, text_is};
+use crate::short::{bill, label, read, told, whole};
 use cdx_bom::{Bom, same};
 use cdx_component::{Component, Components};
-use cdx_json::{FromJson, Kept};
-use cdx_models::{HasTree, SpecVersion};
+use cdx_json::FromJson;
+use cdx_models::HasTree;
 use cdx_vectors::forms::{V3, V4, V5, chain};
 use cdx_vectors::rows::row;
 use serde_json::Value;
@@ -116,6 +116,11 @@ fn copies_and_equals(rt: HostRuntime) -> Result<(), Fail> {
 
 const NESTED: (&str, &str) = (r#"{"components":["#, r#"],"name":"a","type":"library"}"#);
 
+const ELEMENT: (&str, &str) = (
+    "<component type=library|<name|=a|>name|<components|",
+    ">components|>component|",
+);
+
 // The bill of one component around 32, each inside the one before. No document denotes it.
 fn deep(alloc: Global) -> Result<Bom, Fail> {
     let inner = Value::from_str(alloc, chain(alloc, "[", NESTED, 32, "]")?.as_str())?;
@@ -136,71 +141,22 @@ fn is_shallow(bill: Bom) -> bool {
     is_shallow
 }
 
+// 32 components may stand in each other, and one inside them is refused.
 #[test]
 fn depth(rt: HostRuntime) -> Result<(), Fail> {
     let alloc = rt.alloc();
     let (first, last) = (r#"json 1.5 "components":["#, "],");
-    let shallow = chain(alloc, first, NESTED, 32, last)?;
-    holds(&rt, is_shallow(bill(alloc, shallow.as_str())?));
+    let short = chain(alloc, first, NESTED, 32, last)?;
+    holds(&rt, is_shallow(bill(alloc, short.as_str())?));
+    let whole_text = whole(alloc, short.as_str())?;
+    holds(&rt, read(alloc, whole_text.as_str(), V5)? == whole_text);
+    let text = whole(alloc, chain(alloc, first, NESTED, 33, last)?.as_str())?;
+    let fault = chain(alloc, "TooDeep ", ("/components/0", ""), 33, "")?;
+    holds(&rt, read(alloc, text.as_str(), V5)? == fault);
     holds(&rt, !is_shallow(deep(alloc)?));
-    let text = chain(alloc, first, NESTED, 33, last)?;
-    holds(
-        &rt,
-        told(alloc, deep(alloc)?)? == whole(alloc, text.as_str())?,
-    );
-    Ok(())
-}
-
-// Whether 1.3 has all that it asks for. Later versions ask for no more than any bill has.
-const FITS: &str = r#"
-    json 1.5 -> fits
-    json 1.5 "components":[{"name":"a","type":"t","version":""}], -> fits
-    json 1.5 "components":[{"name":"a","type":"t"}], -> lacks
-    json 1.5 "metadata":{"component":{"name":"a","type":"t"}}, -> lacks
-    json 1.5 "metadata":{"tools":{"components":[{"name":"a","type":"t"}]}}, -> fits
-"#;
-
-// What the row's version keeps of the bill.
-const KEPT: &str = r#"
-    1.4 json 1.5 "metadata":{"tools":{"components":[{"name":"a","type":"library"}]}}, -> json 1.5 "metadata":{"tools":[]},
-    1.5 json 1.5 "metadata":{"tools":{"components":[]}}, -> json 1.5 "metadata":{"tools":{"components":[]}},
-    1.4 json 1.5 "components":[{"name":"a","type":"library"}], -> json 1.5 "components":[{"name":"a","type":"library"}],
-    1.3 json 1.5 "properties":[],"signature":{"algorithm":"ES256","value":"v"}, -> json 1.5
-    1.4 json 1.5 "properties":[],"signature":[], -> json 1.5 "signature":{"signers":[]},
-    1.5 json 1.5 "properties":[],"signature":[], -> json 1.5 "properties":[],"signature":{"signers":[]},
-"#;
-
-// Whether 1.3, and whether both later versions, can hold the bill.
-fn fitting(bill: Bom) -> (bool, bool) {
-    let found = (bill.fits(V3), bill.fits(V4) && bill.fits(V5));
-    drop(bill);
-    found
-}
-
-fn keep(alloc: Global, short: &str, w: SpecVersion) -> Result<Bom, Fail> {
-    let bill = bill(alloc, short)?;
-    let kept = bill.kept(alloc, w);
-    drop(bill);
-    Ok(kept?)
-}
-
-#[test]
-fn versions_and_what_they_keep(rt: HostRuntime) -> Result<(), Fail> {
-    let alloc = rt.alloc();
-    for line in FITS.lines() {
-        if let Some((short, answer)) = row(line) {
-            let found = fitting(bill(alloc, short)?);
-            row_holds(&rt, line, found == (answer == "fits", true));
-        }
-    }
-    for line in KEPT.lines() {
-        if let Some((given, answer)) = row(line) {
-            let (w, short) = versioned(given).expect(&rt, "a version");
-            let label = label(alloc, keep(alloc, short, w)?)?;
-            row_holds(&rt, line, label == format!(in alloc; "{} 1", w.as_str())?);
-            let found = told(alloc, keep(alloc, short, w)?)?;
-            row_is(&rt, line, found.as_str(), whole(alloc, answer)?.as_str());
-        }
-    }
+    holds(&rt, told(alloc, deep(alloc)?)? == text);
+    let short = chain(alloc, "xml 1.5 <components|", ELEMENT, 33, ">components|")?;
+    let found = read(alloc, whole(alloc, short.as_str())?.as_str(), V5)?;
+    text_is(&rt, found.as_str(), "too deep 163");
     Ok(())
 }

@@ -1,14 +1,20 @@
-//! Reads one JSON value from standard input and writes its text: what `bench/road` measures the program against.
+//! Reads one JSON value from standard input and writes its text: what `bench/road` measures the program against. Bytes
+//! come in and go out as the program's do, so that only what stands between differs.
 #![tactic(auto)]
 
 ghost use Rattle.std.specs.Prelude.{◌≡◌, ◌++◌, [], ◌∷◌, false, IfOk, string_bytes};
 ghost use Rattle.serde_json.specs.View.{view};
 ghost use Rattle.serde_json.specs.Written.{has_float, compact_text};
 
+use cdx_events::{ReadSource, Text, WriteSink};
+use cdx_tool::{InputError, put_answer, take_input};
 use serde_json::Value;
 use std::alloc::{AllocError, Global};
-use std::io::{self, Read, Write};
+use std::io;
 use std::process::ExitCode;
+
+// In bytes.
+const LIMIT: usize = 1_073_741_824;
 
 const NOT_JSON: u8 = 2;
 
@@ -39,15 +45,20 @@ fn printed(alloc: Global, value: &Value) -> Result<String, AllocError>
 }
 
 fn main(rt: HostRuntime) -> ExitCode {
-    let mut bytes = Vec::new(rt.alloc());
-    if rt.reader().read_to_end(&mut bytes).is_err() {
-        return ExitCode::from(FAULT);
-    }
-    match echoed(rt.alloc(), bytes.as_slice()) {
+    let alloc = rt.alloc();
+    let bytes = match take_input(alloc, &mut ReadSource::new(rt.reader()), LIMIT) {
+        Ok(bytes) => bytes,
+        Err(InputError::Memory(_)) => return ExitCode::from(NO_MEMORY),
+        Err(_) => return ExitCode::from(FAULT),
+    };
+    match echoed(alloc, bytes.as_slice()) {
         Err(status) => ExitCode::from(status),
-        Ok(text) => match io::writer(&rt).write_all(text.as_bytes()) {
-            Ok(()) => ExitCode::from(0),
-            Err(_) => ExitCode::from(FAULT),
-        },
+        Ok(text) => {
+            let mut sink = WriteSink::new(io::writer(&rt));
+            match put_answer(&Text::from_string(text), &mut sink) {
+                Ok(()) => ExitCode::from(0),
+                Err(_) => ExitCode::from(FAULT),
+            }
+        }
     }
 }

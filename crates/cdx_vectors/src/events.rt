@@ -1,12 +1,12 @@
 //! Lists of events: balanced or not, gathered, sent, copied; and versions and paths as texts.
 
-use crate::documents::list_of;
+use crate::documents::{line_of, list_of};
 use crate::expect::{holds, row_is, text_is};
-use crate::rows::row;
+use crate::forms::chain;
+use crate::rows::{parted, row};
 use cdx_events::{
-    Balance, Copied, EventReader, EventWriter, Events, EventsError, GatherError, List,
-    MemoryEventSink, MemoryEventSource, Namespace, OwnedAttribute, OwnedName, SendError, Text,
-    XmlEvent, gather, send,
+    Balance, Copied, EventReader, EventWriter, Events, EventsError, List, MemoryEventSink,
+    MemoryEventSource, OwnedAttribute, OwnedName, Text, XmlEvent, gather, send,
 };
 use cdx_models::{Path, SpecVersion, Step};
 use std::alloc::{AllocError, Global};
@@ -16,147 +16,137 @@ use std::test::Fail;
 const BILL: &str =
     "start|<bom xmlns=1.5 serialNumber=urn:uuid:3e671687-395b-41f5-a30f-a58921a69b79 version=1|<metadata|<tools|<tool|<name|=my_tool|>name|>tool|>tools|>metadata|>bom|end";
 
-fn numbers(alloc: Global, numbers: &[u64]) -> Result<List<u64>, AllocError> {
-    Ok(List::from_vec(numbers.to_vec(alloc)?))
-}
-
-// Where the list breaks, by `from_list`.
-fn place(alloc: Global, list: List<XmlEvent>) -> Option<usize> {
-    match Events::from_list(alloc, list) {
-        Err(EventsError::Unbalanced { place }) => Some(place),
-        _ => None,
+// The events, or where they break, by `from_list`.
+fn balanced(alloc: Global, line: &str) -> Result<String, AllocError> {
+    match Events::from_list(alloc, list_of(alloc, line)?) {
+        Ok(events) => line_of(alloc, events.into_list().as_slice()),
+        Err(error) => format!(in alloc; "{error:?}"),
     }
 }
 
-// Where the list breaks, by `finish`.
-fn place_written(alloc: Global, list: List<XmlEvent>) -> Result<Option<usize>, AllocError> {
+// The same, by `finish`.
+fn finished(alloc: Global, line: &str) -> Result<String, AllocError> {
     let mut writer = EventWriter::new(alloc);
-    for event in list.into_vec() {
+    for event in list_of(alloc, line)?.into_vec() {
         writer.write(event)?;
     }
     match writer.finish() {
-        Err(EventsError::Unbalanced { place }) => Ok(Some(place)),
-        _ => Ok(None),
+        Ok(events) => line_of(alloc, events.into_list().as_slice()),
+        Err(error) => format!(in alloc; "{error:?}"),
     }
 }
 
-fn told(alloc: Global, place: Option<usize>) -> Result<String, AllocError> {
-    match place {
-        Some(place) => format!(in alloc; "{place}"),
-        None => String::from_str(alloc, "balanced"),
-    }
-}
-
-const LISTS: &str = r#"
-    =text -> 0
-    start|=text|end -> 1
-    start|<a|>b -> 2
-    start|<recursiveTag|<innerTag|<recursiveTag|=Text|>recursiveTag|>innerTag -> 7
-    start|<a|>a|end -> balanced
-    start|<a|>a|end|end -> 4
-"#;
-
-#[test]
-fn unbalanced_lists(rt: HostRuntime) -> Result<(), Fail> {
-    let alloc = rt.alloc();
-    for line in LISTS.lines() {
-        if let Some((given, expected)) = row(line) {
-            let found = place(alloc, list_of(alloc, given)?);
-            row_is(&rt, given, told(alloc, found)?.as_str(), expected);
-            let found = place_written(alloc, list_of(alloc, given)?)?;
-            row_is(&rt, given, told(alloc, found)?.as_str(), expected);
+// The events that a reader gives one by one, where it tells the place of each.
+fn turned(alloc: Global, line: &str) -> Result<String, Fail> {
+    let events = Events::from_list(alloc, list_of(alloc, line)?)?;
+    let mut reader = EventReader::new(&events);
+    for at in 0..events.len() {
+        if reader.place() != at || reader.next() != events.get(at) {
+            return Err(Fail::new("another event"));
         }
     }
-    holds(&rt, place(alloc, List::new(alloc)) == Some(0));
-    Ok(())
+    if reader.next().is_some() || events.get(events.len()).is_some() {
+        return Err(Fail::new("another number of events"));
+    }
+    Ok(line_of(alloc, events.copy(alloc)?.into_list().as_slice())?)
 }
 
-// What gathering this answers, and None where it gives the list.
-fn gathers(
-    alloc: Global,
-    list: List<XmlEvent>,
-    budget: usize,
-    fails: u64,
-) -> Result<Option<GatherError>, AllocError> {
-    let mut source = MemoryEventSource::new(list, numbers(alloc, &[fails])?);
+// Two numbers, and the events after them, or those of the bill.
+fn asked(alloc: Global, words: &str) -> Result<(usize, List<u64>, List<XmlEvent>), Fail> {
+    let (one, rest) = parted(words);
+    let (other, line) = parted(rest);
+    let events = list_of(alloc, if line.is_empty() { BILL } else { line })?;
+    let mut fails = List::new(alloc);
+    fails.push(other.parse::<u64>()?)?;
+    Ok((one.parse::<usize>()?, fails, events))
+}
+
+// What a source of the events gives within a budget, or the fault.
+fn gathered(alloc: Global, words: &str) -> Result<String, Fail> {
+    let (budget, fails, events) = asked(alloc, words)?;
+    let mut source = MemoryEventSource::new(events, fails);
     match gather(alloc, &mut source, budget) {
-        Ok(_) => Ok(None),
-        Err(error) => Ok(Some(error)),
+        Ok(events) => Ok(line_of(alloc, events.into_list().as_slice())?),
+        Err(error) => Ok(format!(in alloc; "{error:?}")?),
     }
 }
 
-// Calls are counted from 1, so none fails where that is 0.
-#[test]
-fn gathered_from_a_source(rt: HostRuntime) -> Result<(), Fail> {
-    let alloc = rt.alloc();
-    for (budget, fails, expected) in [
-        (5usize, 0u64, Some(GatherError::Budget { taken: 5 })),
-        (12, 0, Some(GatherError::Budget { taken: 12 })),
-        (0, 1, Some(GatherError::Budget { taken: 0 })),
-        (13, 2, Some(GatherError::Fault { taken: 1 })),
-        (13, 14, None),
-    ] {
-        let found = gathers(alloc, list_of(alloc, BILL)?, budget, fails)?;
-        holds(&rt, found == expected);
+// What stands in a sink of some room that the events are sent into, after the fault.
+fn sent(alloc: Global, words: &str) -> Result<String, Fail> {
+    let (room, fails, events) = asked(alloc, words)?;
+    let mut sink = MemoryEventSink::new(alloc, room, fails)?;
+    let end = send(Events::from_list(alloc, events)?, &mut sink);
+    let line = line_of(alloc, sink.events())?;
+    match end {
+        Ok(()) => Ok(line),
+        Err(error) => Ok(format!(in alloc; "{error:?} {}", line.as_str())?),
     }
-    let found = gathers(alloc, list_of(alloc, "start|<a")?, 9, 0)?;
-    holds(&rt, found == Some(GatherError::Unbalanced { place: 2 }));
-    Ok(())
+}
+
+// Calls are counted from 1, so none fails where the second number is 0.
+const EVENTS: &str = r#"
+    balance =text -> Unbalanced { place: 0 }
+    balance start|=text|end -> Unbalanced { place: 1 }
+    balance start|<a|>b -> Unbalanced { place: 2 }
+    balance start|<recursiveTag|<innerTag|<recursiveTag|=Text|>recursiveTag|>innerTag -> Unbalanced { place: 7 }
+    balance start|<a|>a|end -> start|<a|>a|end
+    balance start|<a|>a|end|end -> Unbalanced { place: 4 }
+    read start|<a|<b|=x|>b|>a|end -> start|<a|<b|=x|>b|>a|end
+    gather 5 0 -> Budget { taken: 5 }
+    gather 12 0 -> Budget { taken: 12 }
+    gather 0 1 -> Budget { taken: 0 }
+    gather 13 2 -> Fault { taken: 1 }
+    gather 13 14 -> start|<bom xmlns=1.5 serialNumber=urn:uuid:3e671687-395b-41f5-a30f-a58921a69b79 version=1|<metadata|<tools|<tool|<name|=my_tool|>name|>tool|>tools|>metadata|>bom|end
+    gather 9 0 start|<a -> Unbalanced { place: 2 }
+    send 13 4 -> SendError { put: 3 } start|<bom xmlns=1.5 serialNumber=urn:uuid:3e671687-395b-41f5-a30f-a58921a69b79 version=1|<metadata
+    send 13 0 -> start|<bom xmlns=1.5 serialNumber=urn:uuid:3e671687-395b-41f5-a30f-a58921a69b79 version=1|<metadata|<tools|<tool|<name|=my_tool|>name|>tool|>tools|>metadata|>bom|end
+    send 2 0 -> SendError { put: 2 } start|<bom xmlns=1.5 serialNumber=urn:uuid:3e671687-395b-41f5-a30f-a58921a69b79 version=1
+"#;
+
+fn answer(alloc: Global, word: &str, given: &str) -> Result<String, Fail> {
+    match word {
+        "balance" => {
+            let answer = balanced(alloc, given)?;
+            if finished(alloc, given)? != answer {
+                return Err(Fail::new("a writer breaks elsewhere"));
+            }
+            Ok(answer)
+        }
+        "read" => turned(alloc, given),
+        "gather" => gathered(alloc, given),
+        "send" => sent(alloc, given),
+        _ => Err(Fail::new("no such word")),
+    }
 }
 
 #[test]
-fn gathered_whole(rt: HostRuntime) -> Result<(), Fail> {
+fn lists(rt: HostRuntime) -> Result<(), Fail> {
     let alloc = rt.alloc();
+    for line in EVENTS.lines() {
+        if let Some((given, expected)) = row(line) {
+            let (word, given) = parted(given);
+            row_is(&rt, line, answer(alloc, word, given)?.as_str(), expected);
+        }
+    }
     let mut source = MemoryEventSource::new(list_of(alloc, BILL)?, List::new(alloc));
-    match gather(alloc, &mut source, 13) {
-        Ok(events) => holds(&rt, events.into_list() == list_of(alloc, BILL)?),
-        Err(_) => holds(&rt, false),
-    }
+    holds(&rt, gather(alloc, &mut source, 13).is_ok());
     holds(&rt, source.calls() == 13);
     Ok(())
 }
 
-// The first event is read, and none stands past the last.
+// 100,000 elements, each in the one before it, and no events at all.
 #[test]
-fn read_in_turn(rt: HostRuntime) -> Result<(), Fail> {
+fn depth_does_not_matter(rt: HostRuntime) -> Result<(), Fail> {
     let alloc = rt.alloc();
-    let events = Events::from_list(alloc, list_of(alloc, BILL)?)?;
-    let mut reader = EventReader::new(&events);
-    holds(&rt, matches!(reader.next(), Some(XmlEvent::StartDocument)));
-    holds(&rt, reader.place() == 1);
-    holds(&rt, events.get(12).is_some() && events.get(13).is_none());
-    holds(&rt, events.len() == 13);
+    let deep = chain(alloc, "start|", ("<a|", ">a|"), 100_000, "end")?;
+    holds(&rt, balanced(alloc, deep.as_str())? == deep);
+    let asked = format!(in alloc; "200002 0 {}", deep.as_str())?;
+    holds(&rt, gathered(alloc, asked.as_str())? == deep);
+    let none = Events::from_list(alloc, List::new(alloc));
     holds(
         &rt,
-        events.copy(alloc)?.into_list() == list_of(alloc, BILL)?,
+        matches!(none, Err(EventsError::Unbalanced { place: 0 })),
     );
-    Ok(())
-}
-
-// How many events stand in a sink that a bill is sent into, and how many a failed sending tells.
-fn sends(alloc: Global, room: usize, fails: u64) -> Result<(usize, Option<usize>), Fail> {
-    let events = Events::from_list(alloc, list_of(alloc, BILL)?)?;
-    let mut sink = MemoryEventSink::new(alloc, room, numbers(alloc, &[fails])?)?;
-    let told = match send(events, &mut sink) {
-        Ok(()) => None,
-        Err(SendError { put }) => Some(put),
-    };
-    Ok((sink.events().len(), told))
-}
-
-#[test]
-fn sent_into_a_sink(rt: HostRuntime) -> Result<(), Fail> {
-    let alloc = rt.alloc();
-    holds(&rt, sends(alloc, 13, 4)? == (3, Some(3)));
-    holds(&rt, sends(alloc, 13, 0)? == (13, None));
-    holds(&rt, sends(alloc, 2, 0)? == (2, Some(2)));
-    let list = list_of(alloc, BILL)?;
-    let mut sink = MemoryEventSink::new(alloc, 13, List::new(alloc))?;
-    holds(
-        &rt,
-        send(Events::from_list(alloc, list_of(alloc, BILL)?)?, &mut sink).is_ok(),
-    );
-    holds(&rt, list.as_slice() == sink.events());
     Ok(())
 }
 
@@ -171,51 +161,26 @@ fn full_name(alloc: Global) -> Result<OwnedName, AllocError> {
     })
 }
 
+fn full_attribute(alloc: Global) -> Result<OwnedAttribute, AllocError> {
+    let value = Text::new(alloc, "1")?;
+    let name = full_name(alloc)?;
+    Ok(OwnedAttribute { name, value })
+}
+
+fn is_copied<T: Copied + PartialEq + Drop>(alloc: Global, value: T) -> Result<bool, AllocError> {
+    let copy = value.copied(alloc)?;
+    Ok(copy == value)
+}
+
 #[test]
 fn copies_are_equal(rt: HostRuntime) -> Result<(), Fail> {
     let alloc = rt.alloc();
-    let name = full_name(alloc)?;
-    holds(&rt, name.copied(alloc)? == name);
-    holds(&rt, name != OwnedName::local(alloc, "a")?);
-    let attribute = OwnedAttribute {
-        name,
-        value: Text::new(alloc, "1")?,
-    };
-    holds(&rt, attribute.copied(alloc)? == attribute);
-    let bill = list_of(alloc, BILL)?;
-    for event in bill.as_slice() {
-        holds(&rt, event.copied(alloc)? == *event);
+    holds(&rt, is_copied(alloc, full_name(alloc)?)?);
+    holds(&rt, is_copied(alloc, full_attribute(alloc)?)?);
+    holds(&rt, full_name(alloc)? != OwnedName::local(alloc, "a")?);
+    for event in list_of(alloc, BILL)?.into_vec() {
+        holds(&rt, is_copied(alloc, event)?);
     }
-    Ok(())
-}
-
-// So many elements, each in the one before it.
-fn deep(alloc: Global, depth: usize) -> Result<List<XmlEvent>, AllocError> {
-    let mut list = list_of(alloc, "start")?;
-    for _ in 0..depth {
-        list.push(XmlEvent::StartElement {
-            name: OwnedName::local(alloc, "a")?,
-            attributes: List::new(alloc),
-            namespace: Namespace { default: None },
-        })?;
-    }
-    for _ in 0..depth {
-        list.push(XmlEvent::EndElement {
-            name: OwnedName::local(alloc, "a")?,
-        })?;
-    }
-    list.push(XmlEvent::EndDocument)?;
-    Ok(list)
-}
-
-#[test]
-fn depth_does_not_matter(rt: HostRuntime) -> Result<(), Fail> {
-    let alloc = rt.alloc();
-    holds(&rt, place(alloc, deep(alloc, 100_000)?).is_none());
-    holds(
-        &rt,
-        gathers(alloc, deep(alloc, 100_000)?, 200_002, 0)?.is_none(),
-    );
     Ok(())
 }
 

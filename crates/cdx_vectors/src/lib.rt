@@ -12,9 +12,9 @@ mod expect;
 pub mod faults;
 pub mod forms;
 #[cfg(test)]
-mod leaves;
-#[cfg(test)]
 mod nested;
+#[cfg(test)]
+mod records;
 pub mod rows;
 #[cfg(test)]
 mod sinks;

@@ -51,20 +51,18 @@ fn takes<S: Source>(source: &mut S) -> Result<usize, Failed> {
 }
 
 #[test]
-fn reader_is_counted(rt: HostRuntime) {
+fn faults_are_counted(rt: HostRuntime) {
     let mut source = ReadSource::new(Faulty { calls: 0 });
     for (want, count) in [(Ok(1), 0), (Err(Failed), 1), (Ok(0), 1)] {
         holds(&rt, takes(&mut source) == want && source.count() == count);
     }
-}
-
-#[test]
-fn writer_is_counted(rt: HostRuntime) {
     let mut sink = WriteSink::new(Faulty { calls: 0 });
     for (want, count) in [(Ok(1), 0), (Err(Failed), 1), (Err(Failed), 2)] {
         holds(&rt, sink.put(b"ab") == want && sink.count() == count);
     }
     holds(&rt, sink.flush() == Err(Failed) && sink.count() == 3);
+    let mut null = NullSink::new();
+    holds(&rt, null.put(b"abc") == Ok(3) && null.flush() == Ok(()));
 }
 
 fn bytes(alloc: Global) -> Result<List<u8>, AllocError> {
@@ -81,11 +79,6 @@ fn takes_from_memory(rt: HostRuntime) -> Result<(), Fail> {
     for want in [2, 1, 0] {
         holds(&rt, takes(&mut sound) == Ok(want));
     }
-    Ok(())
-}
-
-#[test]
-fn takes_step_by_step(rt: HostRuntime) -> Result<(), Fail> {
     let fails = numbers(rt.alloc(), &[2])?;
     let mut source = MemorySource::new(bytes(rt.alloc())?, 1, fails);
     for (want, calls) in [
@@ -128,10 +121,4 @@ fn puts_into_memory(rt: HostRuntime) -> Result<(), Fail> {
         sink.written() == b"abc".as_slice() && sink.calls() == 5,
     );
     Ok(())
-}
-
-#[test]
-fn null_takes_all(rt: HostRuntime) {
-    let mut null = NullSink::new();
-    holds(&rt, null.put(b"abc") == Ok(3) && null.flush() == Ok(()));
 }

@@ -18,6 +18,7 @@ use cdx_write::{
     write_simple_tag, write_start_tag,
 };
 use std::alloc::{AllocError, Global};
+use std::fmt::Display;
 use std::test::Fail;
 
 fn text_answer(alloc: Global, answer: Result<Text, XmlReadError>) -> Result<String, AllocError> {
@@ -38,26 +39,22 @@ fn optional_answer(
     }
 }
 
+fn printed<T: Display + Drop>(
+    alloc: Global,
+    answer: Result<T, XmlReadError>,
+) -> Result<String, AllocError> {
+    match answer {
+        Ok(value) => format!(in alloc; "{value}"),
+        Err(fault) => of_xml(alloc, &fault),
+    }
+}
+
 fn list_answer(
     alloc: Global,
     answer: Result<List<Hash>, XmlReadError>,
 ) -> Result<String, AllocError> {
     match answer {
         Ok(hashes) => format!(in alloc; "{}", hashes.len()),
-        Err(fault) => of_xml(alloc, &fault),
-    }
-}
-
-fn number_answer(alloc: Global, answer: Result<u32, XmlReadError>) -> Result<String, AllocError> {
-    match answer {
-        Ok(number) => format!(in alloc; "{number}"),
-        Err(fault) => of_xml(alloc, &fault),
-    }
-}
-
-fn boolean_answer(alloc: Global, answer: Result<bool, XmlReadError>) -> Result<String, AllocError> {
-    match answer {
-        Ok(truth) => format!(in alloc; "{truth}"),
         Err(fault) => of_xml(alloc, &fault),
     }
 }
@@ -74,11 +71,13 @@ fn answer(alloc: Global, helper: &str, events: &Events) -> Result<String, AllocE
     let Root {
         mut reader,
         name,
+        attributes,
+        namespace,
         ..
     } = root_of(events);
     match helper {
-        "number" => number_answer(alloc, read_u32_tag(alloc, &mut reader, name)),
-        "boolean" => boolean_answer(alloc, read_boolean_tag(alloc, &mut reader, name)),
+        "number" => printed(alloc, read_u32_tag(alloc, &mut reader, name)),
+        "boolean" => printed(alloc, read_boolean_tag(alloc, &mut reader, name)),
         "optional" => optional_answer(alloc, read_optional_tag(alloc, &mut reader, name)),
         "simple" => text_answer(alloc, read_simple_tag(alloc, &mut reader, name)),
         "inner" => text_answer(alloc, inner_text_or_error(alloc, &mut reader, name)),
@@ -93,6 +92,8 @@ fn answer(alloc: Global, helper: &str, events: &Events) -> Result<String, AllocE
             read_lax_validation_tag(&mut reader, name);
             format!(in alloc; "{}", reader.place())
         }
+        "attribute-x" => text_answer(alloc, attribute_or_error(alloc, 1, name, attributes, "x")),
+        "namespace" => unit_answer(alloc, expected_namespace_or_error(alloc, V5, namespace)),
         _ => String::from_str(alloc, "no such helper"),
     }
 }
@@ -115,6 +116,10 @@ const READ: &str = r#"
     hashes <hashes|<note|>note|>hashes -> unexpected 2 hashes StartElement
     lax-hashes <hashes|<note|>note|>hashes -> 0
     lax <hashes|<note|>note|>hashes -> 5
+    attribute-x <a x=1|>a -> 1
+    attribute-x <a y=1|>a -> missing 1 a x
+    namespace <a|>a -> none for http://cyclonedx.org/schema/bom/1.5
+    namespace <a xmlns=1.5|>a -> closed
 "#;
 
 #[test]
@@ -136,61 +141,47 @@ fn read(rt: HostRuntime) -> Result<(), Fail> {
     Ok(())
 }
 
-#[test]
-fn values(rt: HostRuntime) -> Result<(), Fail> {
-    let alloc = rt.alloc();
-    let yes = boolean_answer(alloc, bool::from_xml_value(alloc, 1, "b", "yes"))?;
-    text_is(&rt, yes.as_str(), "parse 1 b yes xs:boolean");
-    holds(&rt, u32::from_xml_value(alloc, 1, "n", "8")? == 8);
-    holds(&rt, u32::from_xml_value(alloc, 1, "n", "+08")? == 8);
-    let plus = number_answer(alloc, u32::from_xml_value(alloc, 1, "n", "+"))?;
-    text_is(&rt, plus.as_str(), "parse 1 n + xs:integer");
-    text_is(&rt, bool::xml_type_display(), "xs:boolean");
-    text_is(&rt, u32::xml_type_display(), "xs:integer");
-    Ok(())
-}
-
-#[test]
-fn attributes(rt: HostRuntime) -> Result<(), Fail> {
-    let alloc = rt.alloc();
-    let events = document(alloc, "start|<a x=1|>a|end")?;
-    let root = root_of(&events);
-    let x = attribute_or_error(alloc, 1, root.name, root.attributes, "x")?;
-    text_is(&rt, x.as_str(), "1");
-    let y = attribute_or_error(alloc, 1, root.name, root.attributes, "y");
-    text_is(&rt, text_answer(alloc, y)?.as_str(), "missing 1 a y");
-    holds(&rt, optional_attribute(root.attributes, "y").is_none());
-    Ok(())
-}
-
-const NAMESPACES: &str = r#"
-    start|<a|>a|end -> none for http://cyclonedx.org/schema/bom/1.5
-    start|<a xmlns=1.5|>a|end -> closed
+// What the text is as an integer, and where it is none as a boolean.
+const VALUES: &str = r#"
+    8 -> 8 / parse 1 b 8 xs:boolean
+    +08 -> 8 / parse 1 b +08 xs:boolean
+    + -> parse 1 n + xs:integer / parse 1 b + xs:boolean
+    1 -> 1 / true
+    yes -> parse 1 n yes xs:integer / parse 1 b yes xs:boolean
 "#;
 
 #[test]
-fn namespaces(rt: HostRuntime) -> Result<(), Fail> {
+fn values(rt: HostRuntime) -> Result<(), Fail> {
     let alloc = rt.alloc();
-    for line in NAMESPACES.lines() {
-        if let Some((given, expected)) = row(line) {
-            let events = document(alloc, given)?;
-            let answer = expected_namespace_or_error(alloc, V5, root_of(&events).namespace);
-            row_is(&rt, given, unit_answer(alloc, answer)?.as_str(), expected);
+    for line in VALUES.lines() {
+        if let Some((text, expected)) = row(line) {
+            let number = printed(alloc, u32::from_xml_value(alloc, 1, "n", text))?;
+            let boolean = printed(alloc, bool::from_xml_value(alloc, 1, "b", text))?;
+            let found = format!(in alloc; "{} / {}", number.as_str(), boolean.as_str())?;
+            row_is(&rt, text, found.as_str(), expected);
         }
     }
-    let text = XmlEvent::Characters(Text::new(alloc, "x")?);
-    let fault = unexpected_element_error(alloc, 2, "a", &text)?;
-    text_is(
+    text_is(&rt, bool::xml_type_display(), "xs:boolean");
+    text_is(&rt, u32::xml_type_display(), "xs:integer");
+    let events = document(alloc, "start|<a x=1|>a|end")?;
+    let x = optional_attribute(root_of(&events).attributes, "x");
+    holds(&rt, x.is_some_and(|x| x.as_str() == "1"));
+    holds(
         &rt,
-        of_xml(alloc, &fault)?.as_str(),
-        "unexpected 2 a Characters",
+        optional_attribute(root_of(&events).attributes, "y").is_none(),
     );
+    let text = XmlEvent::Characters(Text::new(alloc, "x")?);
+    let fault = of_xml(alloc, &unexpected_element_error(alloc, 2, "a", &text)?)?;
+    text_is(&rt, fault.as_str(), "unexpected 2 a Characters");
     Ok(())
 }
 
 #[test]
-fn simple_tags_written(rt: HostRuntime) -> Result<(), Fail> {
+fn written(rt: HostRuntime) -> Result<(), Fail> {
     let alloc = rt.alloc();
+    let none: List<Hash> = List::new(alloc);
+    let mut texts = List::new(alloc);
+    texts.push(Text::new(alloc, "x")?)?;
     let mut writer = opened(alloc)?;
     write_simple_tag(alloc, &mut writer, "t", "x")?;
     write_simple_tag(alloc, &mut writer, "t", "")?;
@@ -198,21 +189,9 @@ fn simple_tags_written(rt: HostRuntime) -> Result<(), Fail> {
     write_simple_option_tag(alloc, &mut writer, "o", None)?;
     write_start_tag(alloc, &mut writer, "s")?;
     write_close_tag(alloc, &mut writer, "s")?;
-    let line = closed(alloc, writer)?;
-    text_is(&rt, line.as_str(), "<t|=x|>t|<t|=|>t|<o|=x|>o|<s|>s");
-    Ok(())
-}
-
-#[test]
-fn list_tags_written(rt: HostRuntime) -> Result<(), Fail> {
-    let alloc = rt.alloc();
-    let mut writer = opened(alloc)?;
-    let none: List<Hash> = List::new(alloc);
     write_list_tag(alloc, &mut writer, V5, "hashes", &none)?;
-    let mut texts = List::new(alloc);
-    texts.push(Text::new(alloc, "x")?)?;
     write_list_string_tag(alloc, &mut writer, "l", "c", &texts)?;
-    let line = closed(alloc, writer)?;
-    text_is(&rt, line.as_str(), "<hashes|>hashes|<l|<c|=x|>c|>l");
+    let line = "<t|=x|>t|<t|=|>t|<o|=x|>o|<s|>s|<hashes|>hashes|<l|<c|=x|>c|>l";
+    text_is(&rt, closed(alloc, writer)?.as_str(), line);
     Ok(())
 }

@@ -1,10 +1,9 @@
-//! Which versions can hold a component without a version of its own, and tools as an object.
+//! Which versions can hold a component without a version of its own, and lists of components and services.
 
-use crate::checks::{denotes, keeps, stays};
 use crate::expect::{holds, row_holds};
 use crate::forms::{V3, V4, V5, held};
 use crate::rows::row;
-use cdx_nest::{Component, Components, Metadata, Pedigree, Service, Services, Tools};
+use cdx_nest::{Component, Components, Metadata, Pedigree, Service, Services};
 use std::alloc::Global;
 use std::test::Fail;
 
@@ -37,13 +36,6 @@ const WITHOUT_VERSION: &str = r#"
 #[test]
 fn versions_asked_in_1_3(rt: HostRuntime) -> Result<(), Fail> {
     let alloc = rt.alloc();
-    denotes::<Component>(
-        &rt,
-        alloc,
-        V3,
-        r#"{"name":"n","type":"file"} -> Missing /version"#,
-    )?;
-    denotes::<Component>(&rt, alloc, V4, BARE)?;
     for line in WITHOUT_VERSION.lines() {
         if let Some((text, _)) = row(line) {
             row_holds(&rt, text, component_fits(alloc, text)? == (true, false));
@@ -54,30 +46,6 @@ fn versions_asked_in_1_3(rt: HostRuntime) -> Result<(), Fail> {
     let tool = r#"{"tools":{"components":[{"name":"n","type":"file"}]}}"#;
     holds(&rt, metadata_fits(alloc, tool)? == (true, true));
     Ok(())
-}
-
-const TOOLS: &str = r#"
-    {"tools":{"components":[{"name":"n","type":"file"}],"services":[{"name":"n"}]}}
-"#;
-
-const TOOLS_READ_BEFORE_1_5: &str = r#"
-    {"tools":{"components":[{"name":"n","type":"file"}],"services":[{"name":"n"}]}} -> WrongKind /tools
-"#;
-
-const TOOLS_KEPT_BEFORE_1_5: &str = r#"
-    {"tools":{"components":[{"name":"n","type":"file"}],"services":[{"name":"n"}]}} -> {"tools":[]}
-"#;
-
-// Only 1.5 reads and keeps an object; before, it is kept as the empty list.
-#[test]
-fn tools_as_an_object(rt: HostRuntime) -> Result<(), Fail> {
-    let alloc = rt.alloc();
-    for v in [V3, V4] {
-        denotes::<Metadata>(&rt, alloc, v, TOOLS_READ_BEFORE_1_5)?;
-        keeps::<Metadata>(&rt, alloc, v, TOOLS_KEPT_BEFORE_1_5)?;
-    }
-    stays::<Metadata>(&rt, alloc, V5, TOOLS)?;
-    denotes::<Tools>(&rt, alloc, V5, "7 -> WrongKind")
 }
 
 // The list of one component.

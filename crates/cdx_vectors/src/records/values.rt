@@ -1,14 +1,17 @@
 //! What constructors give, and values that no document tells apart.
 
 use crate::expect::{holds, row_holds, text_is};
-use crate::forms::{V3, V5, denoted, held};
+use crate::forms::{V3, V5, denoted, held, named, shown};
 use cdx_data::{Data, DataClassification};
 use cdx_events::{List, Text};
 use cdx_json::{FromJson, Kept};
 use cdx_license::Expression;
 use cdx_models::{ExternalReference, ExternalReferences, HasTree, OrganizationalEntity, Tool, Uri};
+use cdx_parts::ComponentEvidence;
+use cdx_patch::Source;
 use cdx_relations::BomReference;
 use cdx_signature::{Algorithm, Signature, Signer};
+use cdx_write::{Filled, ToInnerXml};
 use std::alloc::Global;
 use std::process::Abort;
 use std::test::Fail;
@@ -119,5 +122,47 @@ fn algorithms_and_flows(rt: HostRuntime) -> Result<(), Fail> {
     holds(&rt, matches!(&flows, Data::ServiceData(_)));
     holds(&rt, classes == flows);
     holds(&rt, flows.copy(alloc)? == classes);
+    Ok(())
+}
+
+// Whether the option has something to write, and what is written of it under a name.
+fn option_named<T: ToInnerXml + Drop>(
+    alloc: Global,
+    held: Option<T>,
+) -> Result<(bool, String), Fail> {
+    let will_write = held.will_write();
+    Ok((will_write, named(alloc, &held, V5, "n")?))
+}
+
+// What is there is written, whatever it holds.
+#[test]
+fn options(rt: HostRuntime) -> Result<(), Fail> {
+    let alloc = rt.alloc();
+    let hollow = held::<OrganizationalEntity>(alloc, r#"{"bomRef":"e"}"#, V5)?;
+    let (will_write, line) = option_named(alloc, Some(hollow))?;
+    text_is(&rt, line.as_str(), "<n bom-ref=e|>n");
+    holds(&rt, will_write);
+    let (will_write, line) = option_named::<OrganizationalEntity>(alloc, None)?;
+    text_is(&rt, line.as_str(), "");
+    holds(&rt, !will_write);
+    let signature: Option<Signature> = None;
+    text_is(&rt, shown(alloc, &signature, V5)?.as_str(), "");
+    Ok(())
+}
+
+fn is_hollow<T: FromJson + Filled + Drop>(alloc: Global, text: &str) -> Result<bool, Fail> {
+    Ok(held::<T>(alloc, text, V5)?.is_hollow())
+}
+
+#[test]
+fn hollow(rt: HostRuntime) -> Result<(), Fail> {
+    let alloc = rt.alloc();
+    holds(&rt, is_hollow::<Source>(alloc, "{}")?);
+    holds(&rt, !is_hollow::<Source>(alloc, r#"{"url":""}"#)?);
+    holds(&rt, is_hollow::<ComponentEvidence>(alloc, "{}")?);
+    holds(
+        &rt,
+        !is_hollow::<ComponentEvidence>(alloc, r#"{"copyright":[]}"#)?,
+    );
     Ok(())
 }

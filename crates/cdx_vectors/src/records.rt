@@ -1,9 +1,8 @@
 //! The records that hold neither components nor services.
 
 mod code;
-mod copies;
-mod json;
+mod licenses;
+mod models;
 mod parts;
+mod relations;
 mod values;
-mod writing;
-mod xml;
