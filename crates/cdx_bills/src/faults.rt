@@ -1,8 +1,8 @@
 //! Refusals of whole bills in one line each: the cause, and where it stands or how much went out.
 
 use cdx_bom::RoadError;
+use cdx_cases::faults::{of_json, of_xml};
 use cdx_models::{BomError, JsonWriteError, Lack, XmlWriteError};
-use cdx_vectors::faults::{of_json, of_xml};
 use std::alloc::{AllocError, Global};
 
 // The version that asks for what the bill lacks.

@@ -5,12 +5,12 @@
 
 use crate::faults::{of_json_writing, of_xml_writing};
 use cdx_bom::{Bom, Form, Hop};
+use cdx_cases::documents::{document, line_of};
+use cdx_cases::faults::{of_json, of_xml};
+use cdx_cases::forms::V5;
+use cdx_cases::rows::parted;
 use cdx_events::{Events, List};
 use cdx_models::{JsonReadError, JsonWriteError, SpecVersion, XmlReadError, XmlWriteError};
-use cdx_vectors::documents::{document, line_of};
-use cdx_vectors::faults::{of_json, of_xml};
-use cdx_vectors::forms::V5;
-use cdx_vectors::rows::parted;
 use serde_json::Value;
 use std::alloc::{AllocError, Global};
 use std::test::Fail;
@@ -108,18 +108,33 @@ pub fn told(alloc: Global, bill: Bom) -> Result<String, AllocError> {
     text
 }
 
-/// What a version reads of the document, as JSON of 1.5, or the fault.
-pub fn read(alloc: Global, text: &str, v: SpecVersion) -> Result<String, Fail> {
-    if text.starts_with("start|") {
-        return match parse_xml(alloc, &document(alloc, text)?, v) {
-            Ok(bill) => Ok(told(alloc, bill)?),
-            Err(error) => Ok(of_xml(alloc, &error)?),
-        };
+fn read_xml(alloc: Global, line: &str, v: SpecVersion) -> Result<String, Fail> {
+    let events = document(alloc, line)?;
+    match parse_xml(alloc, &events, v) {
+        Ok(bill) => Ok(told(alloc, bill)?),
+        Err(error) => Ok(of_xml(alloc, &error)?),
     }
-    match parse_json(alloc, &Value::from_str(alloc, text)?, v) {
+}
+
+fn read_json(alloc: Global, text: &str, v: SpecVersion) -> Result<String, Fail> {
+    let value = Value::from_str(alloc, text)?;
+    match parse_json(alloc, &value, v) {
         Ok(bill) => Ok(told(alloc, bill)?),
         Err(error) => Ok(of_json(alloc, &error)?),
     }
+}
+
+/// What a version reads of the document, as JSON of 1.5, or the fault.
+pub fn read(alloc: Global, text: &str, v: SpecVersion) -> Result<String, Fail> {
+    if text.starts_with("start|") {
+        return read_xml(alloc, text, v);
+    }
+    read_json(alloc, text, v)
+}
+
+/// What 1.5 reads of the short document.
+pub fn read_short(alloc: Global, short: &str) -> Result<String, Fail> {
+    read(alloc, whole(alloc, short)?.as_str(), V5)
 }
 
 /// The label and the version of the bill.

@@ -1,13 +1,13 @@
 //! Bills as values: new ones, copies, which are equal and which the same, and how deep they are.
 
 use crate::expect::{holds, row_holds, text_is};
-use crate::short::{bill, label, read, told, whole};
+use crate::short::{bill, label, read_short, told, whole};
 use cdx_bom::{Bom, same};
+use cdx_cases::forms::{V3, V4, V5, chain};
+use cdx_cases::rows::row;
 use cdx_component::{Component, Components};
 use cdx_json::FromJson;
 use cdx_models::HasTree;
-use cdx_vectors::forms::{V3, V4, V5, chain};
-use cdx_vectors::rows::row;
 use serde_json::Value;
 use std::alloc::{AllocError, Global};
 use std::process::Abort;
@@ -21,6 +21,13 @@ fn compare(one: Bom, other: Bom) -> (bool, bool) {
     found
 }
 
+// A new bill of version 2.
+fn second() -> Bom {
+    let mut second = Bom::new(V5);
+    second.version = 2;
+    second
+}
+
 #[test]
 fn new_bills(rt: HostRuntime) -> Result<(), Fail> {
     let alloc = rt.alloc();
@@ -29,12 +36,10 @@ fn new_bills(rt: HostRuntime) -> Result<(), Fail> {
         holds(&rt, label == format!(in alloc; "{} 1", v.as_str())?);
         holds(&rt, told(alloc, Bom::new(v))? == whole(alloc, "json 1.5")?);
     }
-    let (is_equal, _) = compare(Bom::new(V5), bill(alloc, "json 1.5")?);
-    holds(&rt, is_equal);
+    let read = bill(alloc, "json 1.5")?;
+    holds(&rt, compare(read, Bom::new(V5)).0);
     holds(&rt, compare(Bom::new(V4), Bom::new(V5)) == (false, false));
-    let mut second = Bom::new(V5);
-    second.version = 2;
-    holds(&rt, compare(second, Bom::new(V5)) == (false, false));
+    holds(&rt, compare(second(), Bom::new(V5)) == (false, false));
     Ok(())
 }
 
@@ -141,22 +146,40 @@ fn is_shallow(bill: Bom) -> bool {
     is_shallow
 }
 
+// The short document of so many components, each inside the one before.
+fn nested(alloc: Global, levels: usize) -> Result<String, AllocError> {
+    chain(alloc, r#"json 1.5 "components":["#, NESTED, levels, "],")
+}
+
 // 32 components may stand in each other, and one inside them is refused.
 #[test]
 fn depth(rt: HostRuntime) -> Result<(), Fail> {
     let alloc = rt.alloc();
-    let (first, last) = (r#"json 1.5 "components":["#, "],");
-    let short = chain(alloc, first, NESTED, 32, last)?;
-    holds(&rt, is_shallow(bill(alloc, short.as_str())?));
-    let whole_text = whole(alloc, short.as_str())?;
-    holds(&rt, read(alloc, whole_text.as_str(), V5)? == whole_text);
-    let text = whole(alloc, chain(alloc, first, NESTED, 33, last)?.as_str())?;
     let fault = chain(alloc, "TooDeep ", ("/components/0", ""), 33, "")?;
-    holds(&rt, read(alloc, text.as_str(), V5)? == fault);
-    holds(&rt, !is_shallow(deep(alloc)?));
-    holds(&rt, told(alloc, deep(alloc)?)? == text);
+    holds(
+        &rt,
+        read_short(alloc, nested(alloc, 33)?.as_str())? == fault,
+    );
     let short = chain(alloc, "xml 1.5 <components|", ELEMENT, 33, ">components|")?;
-    let found = read(alloc, whole(alloc, short.as_str())?.as_str(), V5)?;
-    text_is(&rt, found.as_str(), "too deep 163");
+    text_is(
+        &rt,
+        read_short(alloc, short.as_str())?.as_str(),
+        "too deep 163",
+    );
+    Ok(())
+}
+
+#[test]
+fn depth_of_values(rt: HostRuntime) -> Result<(), Fail> {
+    let alloc = rt.alloc();
+    let text = whole(alloc, nested(alloc, 33)?.as_str())?;
+    holds(&rt, told(alloc, deep(alloc)?)? == text);
+    holds(&rt, !is_shallow(deep(alloc)?));
+    let short = nested(alloc, 32)?;
+    holds(&rt, is_shallow(bill(alloc, short.as_str())?));
+    holds(
+        &rt,
+        read_short(alloc, short.as_str())? == whole(alloc, short.as_str())?,
+    );
     Ok(())
 }

@@ -15,10 +15,10 @@
 //!   where that is not the text; and after another what it reads of the element, where that is not what it keeps.
 
 use crate::expect::row_is;
-use crate::forms::{
+use cdx_cases::forms::{
     V5, again, denoted, held, kept, named as as_named, placed, read, shown, spelled,
 };
-use crate::rows::{Case, cases, parted};
+use cdx_cases::rows::{Case, cases, parted};
 use cdx_json::{FromJson, ToJson};
 use cdx_leaf::FromXml;
 use cdx_write::{Element, ToInnerXml, ToXml};

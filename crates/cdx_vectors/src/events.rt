@@ -1,9 +1,9 @@
 //! Lists of events: balanced or not, gathered, sent, copied; and versions and paths as texts.
 
-use crate::documents::{line_of, list_of};
 use crate::expect::{holds, row_is, text_is};
-use crate::forms::chain;
-use crate::rows::{parted, row};
+use cdx_cases::documents::{line_of, list_of};
+use cdx_cases::forms::chain;
+use cdx_cases::rows::{parted, row};
 use cdx_events::{
     Balance, Copied, EventReader, EventWriter, Events, EventsError, List, MemoryEventSink,
     MemoryEventSource, OwnedAttribute, OwnedName, Text, XmlEvent, gather, send,
@@ -36,17 +36,22 @@ fn finished(alloc: Global, line: &str) -> Result<String, AllocError> {
     }
 }
 
-// The events that a reader gives one by one, where it tells the place of each.
-fn turned(alloc: Global, line: &str) -> Result<String, Fail> {
-    let events = Events::from_list(alloc, list_of(alloc, line)?)?;
-    let mut reader = EventReader::new(&events);
+// Whether a reader gives the events one by one, and tells the place of each.
+fn is_in_turn(events: &Events) -> bool {
+    let mut reader = EventReader::new(events);
     for at in 0..events.len() {
         if reader.place() != at || reader.next() != events.get(at) {
-            return Err(Fail::new("another event"));
+            return false;
         }
     }
-    if reader.next().is_some() || events.get(events.len()).is_some() {
-        return Err(Fail::new("another number of events"));
+    reader.next().is_none() && events.get(events.len()).is_none()
+}
+
+// The events' copy, where they are in turn.
+fn turned(alloc: Global, line: &str) -> Result<String, Fail> {
+    let events = Events::from_list(alloc, list_of(alloc, line)?)?;
+    if !is_in_turn(&events) {
+        return Err(Fail::new("not in turn"));
     }
     Ok(line_of(alloc, events.copy(alloc)?.into_list().as_slice())?)
 }

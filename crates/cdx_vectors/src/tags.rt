@@ -1,18 +1,18 @@
 //! The helpers that read and write single elements.
 
-use crate::documents::document;
 use crate::expect::{holds, row_is, text_is};
-use crate::faults::of_xml;
-use crate::forms::{V5, closed, opened};
-use crate::rows::row;
-use cdx_events::{Events, List, Text, XmlEvent};
+use cdx_cases::documents::document;
+use cdx_cases::faults::of_xml;
+use cdx_cases::forms::{V5, closed, opened};
+use cdx_cases::rows::row;
+use cdx_events::{EventWriter, Events, List, Text, XmlEvent};
 use cdx_leaf::{
     FromXmlType, Root, attribute_or_error, closing_tag_or_error, expected_namespace_or_error,
     inner_text_or_error, inner_text_or_none, optional_attribute, read_boolean_tag,
     read_lax_validation_list_tag, read_lax_validation_tag, read_list_tag, read_optional_tag,
     read_simple_tag, read_u32_tag, root_of, unexpected_element_error,
 };
-use cdx_models::{Hash, XmlReadError};
+use cdx_models::{Hash, XmlReadError, XmlWriteError};
 use cdx_write::{
     write_close_tag, write_list_string_tag, write_list_tag, write_simple_option_tag,
     write_simple_tag, write_start_tag,
@@ -150,47 +150,73 @@ const VALUES: &str = r#"
     yes -> parse 1 n yes xs:integer / parse 1 b yes xs:boolean
 "#;
 
+fn value_answer(alloc: Global, text: &str) -> Result<String, AllocError> {
+    let number = printed(alloc, u32::from_xml_value(alloc, 1, "n", text))?;
+    let boolean = printed(alloc, bool::from_xml_value(alloc, 1, "b", text))?;
+    format!(in alloc; "{} / {}", number.as_str(), boolean.as_str())
+}
+
 #[test]
 fn values(rt: HostRuntime) -> Result<(), Fail> {
     let alloc = rt.alloc();
     for line in VALUES.lines() {
         if let Some((text, expected)) = row(line) {
-            let number = printed(alloc, u32::from_xml_value(alloc, 1, "n", text))?;
-            let boolean = printed(alloc, bool::from_xml_value(alloc, 1, "b", text))?;
-            let found = format!(in alloc; "{} / {}", number.as_str(), boolean.as_str())?;
-            row_is(&rt, text, found.as_str(), expected);
+            row_is(&rt, text, value_answer(alloc, text)?.as_str(), expected);
         }
     }
     text_is(&rt, bool::xml_type_display(), "xs:boolean");
     text_is(&rt, u32::xml_type_display(), "xs:integer");
-    let events = document(alloc, "start|<a x=1|>a|end")?;
-    let x = optional_attribute(root_of(&events).attributes, "x");
-    holds(&rt, x.is_some_and(|x| x.as_str() == "1"));
-    holds(
-        &rt,
-        optional_attribute(root_of(&events).attributes, "y").is_none(),
-    );
-    let text = XmlEvent::Characters(Text::new(alloc, "x")?);
-    let fault = of_xml(alloc, &unexpected_element_error(alloc, 2, "a", &text)?)?;
-    text_is(&rt, fault.as_str(), "unexpected 2 a Characters");
     Ok(())
+}
+
+// Whether an element with the attribute `x` has the attribute.
+fn has_attribute(alloc: Global, name: &str) -> Result<bool, Fail> {
+    let events = document(alloc, "start|<a x=1|>a|end")?;
+    Ok(optional_attribute(root_of(&events).attributes, name).is_some())
+}
+
+// What the fault of a text in the element tells.
+fn unexpected(alloc: Global, element: &str) -> Result<String, AllocError> {
+    let text = XmlEvent::Characters(Text::new(alloc, "x")?);
+    of_xml(alloc, &unexpected_element_error(alloc, 2, element, &text)?)
+}
+
+#[test]
+fn attributes_and_faults(rt: HostRuntime) -> Result<(), Fail> {
+    let alloc = rt.alloc();
+    holds(&rt, has_attribute(alloc, "x")?);
+    holds(&rt, !has_attribute(alloc, "y")?);
+    text_is(
+        &rt,
+        unexpected(alloc, "a")?.as_str(),
+        "unexpected 2 a Characters",
+    );
+    Ok(())
+}
+
+fn write_texts(alloc: Global, writer: &mut EventWriter) -> Result<(), XmlWriteError> {
+    write_simple_tag(alloc, writer, "t", "x")?;
+    write_simple_tag(alloc, writer, "t", "")?;
+    write_simple_option_tag(alloc, writer, "o", Some("x"))?;
+    write_simple_option_tag(alloc, writer, "o", None)?;
+    write_start_tag(alloc, writer, "s")?;
+    write_close_tag(alloc, writer, "s")
+}
+
+fn write_lists(alloc: Global, writer: &mut EventWriter) -> Result<(), Fail> {
+    let none: List<Hash> = List::new(alloc);
+    write_list_tag(alloc, writer, V5, "hashes", &none)?;
+    let mut texts = List::new(alloc);
+    texts.push(Text::new(alloc, "x")?)?;
+    Ok(write_list_string_tag(alloc, writer, "l", "c", &texts)?)
 }
 
 #[test]
 fn written(rt: HostRuntime) -> Result<(), Fail> {
     let alloc = rt.alloc();
-    let none: List<Hash> = List::new(alloc);
-    let mut texts = List::new(alloc);
-    texts.push(Text::new(alloc, "x")?)?;
     let mut writer = opened(alloc)?;
-    write_simple_tag(alloc, &mut writer, "t", "x")?;
-    write_simple_tag(alloc, &mut writer, "t", "")?;
-    write_simple_option_tag(alloc, &mut writer, "o", Some("x"))?;
-    write_simple_option_tag(alloc, &mut writer, "o", None)?;
-    write_start_tag(alloc, &mut writer, "s")?;
-    write_close_tag(alloc, &mut writer, "s")?;
-    write_list_tag(alloc, &mut writer, V5, "hashes", &none)?;
-    write_list_string_tag(alloc, &mut writer, "l", "c", &texts)?;
+    write_texts(alloc, &mut writer)?;
+    write_lists(alloc, &mut writer)?;
     let line = "<t|=x|>t|<t|=|>t|<o|=x|>o|<s|>s|<hashes|>hashes|<l|<c|=x|>c|>l";
     text_is(&rt, closed(alloc, writer)?.as_str(), line);
     Ok(())

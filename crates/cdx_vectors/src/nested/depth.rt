@@ -1,8 +1,8 @@
 //! How deep components and services may stand in each other: 32 are read, and one inside them isn't.
 
 use crate::expect::row_is;
-use crate::forms::{V5, again, chain, read};
-use crate::rows::row;
+use cdx_cases::forms::{V5, again, chain, read};
+use cdx_cases::rows::row;
 use cdx_json::{FromJson, ToJson};
 use cdx_leaf::FromXml;
 use cdx_nest::{Components, Services};

@@ -1,7 +1,7 @@
 //! What constructors give, and values that no document tells apart.
 
 use crate::expect::{holds, row_holds, text_is};
-use crate::forms::{V3, V5, denoted, held, named, shown};
+use cdx_cases::forms::{V3, V5, denoted, held, named, shown};
 use cdx_data::{Data, DataClassification};
 use cdx_events::{List, Text};
 use cdx_json::{FromJson, Kept};
@@ -12,7 +12,7 @@ use cdx_patch::Source;
 use cdx_relations::BomReference;
 use cdx_signature::{Algorithm, Signature, Signer};
 use cdx_write::{Filled, ToInnerXml};
-use std::alloc::Global;
+use std::alloc::{AllocError, Global};
 use std::process::Abort;
 use std::test::Fail;
 
@@ -53,23 +53,40 @@ fn is_link(uri: &Uri) -> bool {
     matches!(uri, Uri::BomLink(_))
 }
 
+fn address(alloc: Global, text: &str) -> Result<Uri, AllocError> {
+    Ok(Uri::from_text(Text::new(alloc, text)?))
+}
+
+fn plain_address(alloc: Global, text: &str) -> Result<Uri, AllocError> {
+    Ok(Uri::Url(Text::new(alloc, text)?))
+}
+
 // The addresses, parted by `|`, are taken as links or as none, and copied so. A link is equal to its text as no link.
-fn are_links(
-    rt: &impl Abort,
-    alloc: Global,
-    addresses: &str,
-    is_expected: bool,
-) -> Result<(), Fail> {
-    for address in addresses.split('|') {
-        let uri = Uri::from_text(Text::new(alloc, address)?);
-        let plain = Uri::Url(Text::new(alloc, address)?);
-        holds(rt, is_link(&uri) == is_expected);
-        holds(rt, is_link(&uri.copy(alloc)?) == is_expected);
-        holds(rt, !is_link(&plain.copy(alloc)?));
-        text_is(rt, uri.as_str(), address);
-        holds(rt, uri == plain);
+fn are_links(rt: &impl Abort, alloc: Global, texts: &str, is_so: bool) -> Result<(), AllocError> {
+    for text in texts.split('|') {
+        text_is(rt, address(alloc, text)?.as_str(), text);
+        holds(rt, is_link(&address(alloc, text)?) == is_so);
+        holds(rt, is_link(&address(alloc, text)?.copy(alloc)?) == is_so);
+        holds(rt, !is_link(&plain_address(alloc, text)?.copy(alloc)?));
+        holds(rt, address(alloc, text)? == plain_address(alloc, text)?);
     }
     Ok(())
+}
+
+fn reference(alloc: Global) -> Result<ExternalReference, Fail> {
+    held::<ExternalReference>(alloc, r#"{"type":"t","url":"urn:cdx:x"}"#, V5)
+}
+
+const REFERENCES: &str =
+    "<externalReferences|<reference type=t|<url|=urn:cdx:x|>url|>reference|>externalReferences";
+
+// Whether the one that the document lists is a link.
+fn is_read_as_link(alloc: Global) -> Result<bool, Fail> {
+    let references = denoted::<ExternalReferences>(alloc, REFERENCES, V5)?;
+    match references.0.as_slice() {
+        [reference] => Ok(is_link(&reference.url)),
+        _ => Ok(false),
+    }
 }
 
 // An address is a link to a bill where it begins with `urn:cdx:`.
@@ -78,17 +95,9 @@ fn addresses(rt: HostRuntime) -> Result<(), Fail> {
     let alloc = rt.alloc();
     are_links(&rt, alloc, "urn:cdx:|urn:cdx:x", true)?;
     are_links(&rt, alloc, "u|urn:cdx|URN:CDX:x| urn:cdx:x", false)?;
-    let text = r#"{"type":"t","url":"urn:cdx:x"}"#;
-    let reference = held::<ExternalReference>(alloc, text, V5)?;
-    holds(&rt, is_link(&reference.url));
-    let kept = reference.kept(alloc, V3)?;
-    holds(&rt, is_link(&kept.url));
-    let line =
-        "<externalReferences|<reference type=t|<url|=urn:cdx:x|>url|>reference|>externalReferences";
-    let references = denoted::<ExternalReferences>(alloc, line, V5)?;
-    for reference in references.0.as_slice() {
-        holds(&rt, is_link(&reference.url));
-    }
+    holds(&rt, is_link(&reference(alloc)?.url));
+    holds(&rt, is_link(&reference(alloc)?.kept(alloc, V3)?.url));
+    holds(&rt, is_read_as_link(alloc)?);
     Ok(())
 }
 
@@ -99,29 +108,47 @@ fn is_unknown(algorithm: &Algorithm) -> bool {
 const ALGORITHMS: &str =
     "RS256 RS384 RS512 PS256 PS384 PS512 ES256 ES384 ES512 Ed25519 Ed448 HS256 HS384 HS512";
 
+fn known(alloc: Global, name: &str) -> Result<Algorithm, AllocError> {
+    Algorithm::new_unchecked(alloc, name)
+}
+
+fn unknown(alloc: Global, name: &str) -> Result<Algorithm, AllocError> {
+    Ok(Algorithm::Unknown(Text::new(alloc, name)?))
+}
+
 #[test]
-fn algorithms_and_flows(rt: HostRuntime) -> Result<(), Fail> {
+fn algorithms(rt: HostRuntime) -> Result<(), Fail> {
     let alloc = rt.alloc();
     for name in ALGORITHMS.split(' ') {
-        let known = Algorithm::new_unchecked(alloc, name)?;
-        let unknown = Algorithm::Unknown(Text::new(alloc, name)?);
-        holds(&rt, !is_unknown(&known) && is_unknown(&unknown));
-        holds(&rt, !is_unknown(&known.copy(alloc)?));
-        holds(&rt, is_unknown(&unknown.copy(alloc)?));
-        text_is(&rt, known.as_str(), name);
-        holds(&rt, known == unknown);
+        text_is(&rt, known(alloc, name)?.as_str(), name);
+        holds(&rt, !is_unknown(&known(alloc, name)?));
+        holds(&rt, !is_unknown(&known(alloc, name)?.copy(alloc)?));
+        holds(&rt, is_unknown(&unknown(alloc, name)?.copy(alloc)?));
+        holds(&rt, known(alloc, name)? == unknown(alloc, name)?);
     }
-    holds(&rt, is_unknown(&Algorithm::new_unchecked(alloc, "es256")?));
+    holds(&rt, is_unknown(&known(alloc, "es256")?));
     holds(&rt, Algorithm::ES256 != Algorithm::ES384);
-    // Classifications and flows are two cases, equal where each flow has neither a name nor a description.
+    Ok(())
+}
+
+fn classes(alloc: Global) -> Result<Data, AllocError> {
     let mut entries = List::new(alloc);
     entries.push(DataClassification::new(alloc, "inbound", "PII")?)?;
-    let classes = Data::Classification(entries);
+    Ok(Data::Classification(entries))
+}
+
+fn flows(alloc: Global) -> Result<Data, Fail> {
     let line = "<data|<dataflow|<classification flow=inbound|=PII|>classification|>dataflow|>data";
-    let flows = denoted::<Data>(alloc, line, V5)?;
-    holds(&rt, matches!(&flows, Data::ServiceData(_)));
-    holds(&rt, classes == flows);
-    holds(&rt, flows.copy(alloc)? == classes);
+    denoted::<Data>(alloc, line, V5)
+}
+
+// Classifications and flows are two cases, equal where each flow has neither a name nor a description.
+#[test]
+fn classes_and_flows(rt: HostRuntime) -> Result<(), Fail> {
+    let alloc = rt.alloc();
+    holds(&rt, matches!(flows(alloc)?, Data::ServiceData(_)));
+    holds(&rt, classes(alloc)? == flows(alloc)?);
+    holds(&rt, flows(alloc)?.copy(alloc)? == classes(alloc)?);
     Ok(())
 }
 

@@ -1,0 +1,7 @@
+//! For tests: the rows of tables, documents as lines, faults as texts, and what a text or a document comes to.
+#![tactic(auto)]
+
+pub mod documents;
+pub mod faults;
+pub mod forms;
+pub mod rows;
