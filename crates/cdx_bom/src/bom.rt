@@ -25,7 +25,7 @@ use copied::copy_bom;
 use std::alloc::{AllocError, Global};
 
 /// A bill of materials.
-#[derive(Debug, Drop)]
+#[derive(Debug)]
 pub struct Bom {
     /// The bill's label: the version of the format that it names.
     pub spec_version: SpecVersion,
@@ -45,6 +45,25 @@ pub struct Bom {
     pub properties: Option<Properties>,
     /// Known from 1.4 on.
     pub signature: Option<Signature>,
+}
+
+// By hand, so that one is freed by a call wherever it ends, and not field by field.
+impl Drop for Bom {
+    fn drop(self) {
+        let Bom {
+            spec_version: _,
+            version: _,
+            serial_number: _,
+            metadata: _,
+            components: _,
+            services: _,
+            external_references: _,
+            dependencies: _,
+            compositions: _,
+            properties: _,
+            signature: _,
+        } = self;
+    }
 }
 
 impl Bom {

@@ -10,12 +10,23 @@ use cdx_models::{HasTree, copy_row, same_row};
 use std::alloc::{AllocError, Global};
 
 /// Who did something, and when.
-#[derive(Debug, Drop)]
+#[derive(Debug)]
 pub struct IdentifiableAction {
     /// A date with time and zone by CycloneDX, which isn't checked.
     pub timestamp: Option<Text>,
     pub name: Option<Text>,
     pub email: Option<Text>,
+}
+
+// By hand, so that one is freed by a call wherever it ends, and not field by field.
+impl Drop for IdentifiableAction {
+    fn drop(self) {
+        let IdentifiableAction {
+            timestamp: _,
+            name: _,
+            email: _,
+        } = self;
+    }
 }
 
 impl HasTree for IdentifiableAction {
@@ -49,7 +60,7 @@ impl PartialEq for IdentifiableAction {
 }
 
 /// A commit of a component's source.
-#[derive(Debug, Drop)]
+#[derive(Debug)]
 pub struct Commit {
     /// The name that the version control system gives it.
     pub uid: Option<Text>,
@@ -57,6 +68,19 @@ pub struct Commit {
     pub author: Option<IdentifiableAction>,
     pub committer: Option<IdentifiableAction>,
     pub message: Option<Text>,
+}
+
+// By hand, so that one is freed by a call wherever it ends, and not field by field.
+impl Drop for Commit {
+    fn drop(self) {
+        let Commit {
+            uid: _,
+            url: _,
+            author: _,
+            committer: _,
+            message: _,
+        } = self;
+    }
 }
 
 impl HasTree for Commit {

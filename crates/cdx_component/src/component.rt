@@ -25,7 +25,7 @@ use std::alloc::{AllocError, Global};
 
 /// A component: software, a part of it, or a device.
 #[cycle(component)]
-#[derive(Debug, Drop)]
+#[derive(Debug)]
 pub struct Component {
     /// What it is, as `library`.
     pub component_type: Text,
@@ -62,6 +62,39 @@ pub struct Component {
     pub signature: Option<Signature>,
 }
 
+// By hand, so that one is freed by a call wherever it ends, and not field by field.
+impl Drop for Component {
+    #[cycle(freed)]
+    fn drop(self) {
+        let Component {
+            component_type: _,
+            mime_type: _,
+            bom_ref: _,
+            supplier: _,
+            author: _,
+            publisher: _,
+            group: _,
+            name: _,
+            version: _,
+            description: _,
+            scope: _,
+            hashes: _,
+            licenses: _,
+            copyright: _,
+            cpe: _,
+            purl: _,
+            swid: _,
+            modified: _,
+            pedigree: _,
+            external_references: _,
+            properties: _,
+            components: _,
+            evidence: _,
+            signature: _,
+        } = self;
+    }
+}
+
 /// A list of components.
 #[cycle(component)]
 #[derive(Debug, Drop)]
@@ -71,7 +104,7 @@ pub struct Components {
 
 /// What a component came from, and how it was changed.
 #[cycle(component)]
-#[derive(Debug, Drop)]
+#[derive(Debug)]
 pub struct Pedigree {
     pub ancestors: Option<Components>,
     pub descendants: Option<Components>,
@@ -79,6 +112,21 @@ pub struct Pedigree {
     pub commits: Option<Commits>,
     pub patches: Option<Patches>,
     pub notes: Option<Text>,
+}
+
+// By hand, so that one is freed by a call wherever it ends, and not field by field.
+impl Drop for Pedigree {
+    #[cycle(freed)]
+    fn drop(self) {
+        let Pedigree {
+            ancestors: _,
+            descendants: _,
+            variants: _,
+            commits: _,
+            patches: _,
+            notes: _,
+        } = self;
+    }
 }
 
 impl Components {

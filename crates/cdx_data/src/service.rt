@@ -12,12 +12,22 @@ use cdx_models::{HasTree, copy_row, same_row};
 use std::alloc::{AllocError, Global};
 
 /// How sensitive data is.
-#[derive(Debug, Drop)]
+#[derive(Debug)]
 pub struct DataClassification {
     /// Whether the data goes in or out, as `inbound`.
     pub flow: Text,
     /// The data's class, as `PII`.
     pub classification: Text,
+}
+
+// By hand, so that one is freed by a call wherever it ends, and not field by field.
+impl Drop for DataClassification {
+    fn drop(self) {
+        let DataClassification {
+            flow: _,
+            classification: _,
+        } = self;
+    }
 }
 
 impl DataClassification {
@@ -64,11 +74,22 @@ impl PartialEq for DataClassification {
 }
 
 /// Data with a name and a description. Known from 1.5 on.
-#[derive(Debug, Drop)]
+#[derive(Debug)]
 pub struct ServiceData {
     pub name: Option<Text>,
     pub description: Option<Text>,
     pub classification: DataClassification,
+}
+
+// By hand, so that one is freed by a call wherever it ends, and not field by field.
+impl Drop for ServiceData {
+    fn drop(self) {
+        let ServiceData {
+            name: _,
+            description: _,
+            classification: _,
+        } = self;
+    }
 }
 
 impl HasTree for ServiceData {

@@ -13,9 +13,10 @@ use std::alloc::{AllocError, Global};
 use std::io;
 use std::process::ExitCode;
 
-// In bytes.
+// The bytes that are taken in at most.
 const LIMIT: usize = 1_073_741_824;
 
+// The statuses: the input is no JSON value; it is longer, or can't be read or written; memory ran out.
 const NOT_JSON: u8 = 2;
 
 const FAULT: u8 = 3;

@@ -51,7 +51,7 @@ impl PartialEq for LicenseIdentifier {
 }
 
 /// A license.
-#[derive(Debug, Drop)]
+#[derive(Debug)]
 pub struct License {
     /// The name by which the rest of the bill refers to it. Known from 1.5 on.
     pub bom_ref: Option<Text>,
@@ -62,6 +62,19 @@ pub struct License {
     pub url: Option<Text>,
     /// Known from 1.5 on.
     pub properties: Option<Properties>,
+}
+
+// By hand, so that one is freed by a call wherever it ends, and not field by field.
+impl Drop for License {
+    fn drop(self) {
+        let License {
+            bom_ref: _,
+            license_identifier: _,
+            text: _,
+            url: _,
+            properties: _,
+        } = self;
+    }
 }
 
 impl HasTree for License {

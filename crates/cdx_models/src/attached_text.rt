@@ -10,13 +10,24 @@ use cdx_events::Text;
 use std::alloc::{AllocError, Global};
 
 /// A text of a license, a diff or a SWID tag, as it stands in its source.
-#[derive(Debug, Drop)]
+#[derive(Debug)]
 pub struct AttachedText {
     /// Its MIME type.
     pub content_type: Option<Text>,
     /// How `content` is encoded, as `base64`.
     pub encoding: Option<Text>,
     pub content: Text,
+}
+
+// By hand, so that one is freed by a call wherever it ends, and not field by field.
+impl Drop for AttachedText {
+    fn drop(self) {
+        let AttachedText {
+            content_type: _,
+            encoding: _,
+            content: _,
+        } = self;
+    }
 }
 
 impl HasTree for AttachedText {

@@ -10,13 +10,25 @@ use cdx_events::{List, Text};
 use std::alloc::{AllocError, Global};
 
 /// A person to turn to, or an author.
-#[derive(Debug, Drop)]
+#[derive(Debug)]
 pub struct OrganizationalContact {
     /// The name by which the rest of the bill refers to it.
     pub bom_ref: Option<Text>,
     pub name: Option<Text>,
     pub email: Option<Text>,
     pub phone: Option<Text>,
+}
+
+// By hand, so that one is freed by a call wherever it ends, and not field by field.
+impl Drop for OrganizationalContact {
+    fn drop(self) {
+        let OrganizationalContact {
+            bom_ref: _,
+            name: _,
+            email: _,
+            phone: _,
+        } = self;
+    }
 }
 
 impl HasTree for OrganizationalContact {
@@ -52,7 +64,7 @@ impl PartialEq for OrganizationalContact {
 }
 
 /// An organization, as a supplier or a manufacturer.
-#[derive(Debug, Drop)]
+#[derive(Debug)]
 pub struct OrganizationalEntity {
     /// The name by which the rest of the bill refers to it.
     pub bom_ref: Option<Text>,
@@ -60,6 +72,18 @@ pub struct OrganizationalEntity {
     /// The organization's addresses in the web.
     pub url: Option<List<Text>>,
     pub contact: Option<List<OrganizationalContact>>,
+}
+
+// By hand, so that one is freed by a call wherever it ends, and not field by field.
+impl Drop for OrganizationalEntity {
+    fn drop(self) {
+        let OrganizationalEntity {
+            bom_ref: _,
+            name: _,
+            url: _,
+            contact: _,
+        } = self;
+    }
 }
 
 impl OrganizationalEntity {

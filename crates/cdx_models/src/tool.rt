@@ -12,7 +12,7 @@ use cdx_events::Text;
 use std::alloc::{AllocError, Global};
 
 /// A tool that took part in making the bill.
-#[derive(Debug, Drop)]
+#[derive(Debug)]
 pub struct Tool {
     pub vendor: Option<Text>,
     pub name: Option<Text>,
@@ -20,6 +20,19 @@ pub struct Tool {
     pub hashes: Option<Hashes>,
     /// Known from 1.4 on.
     pub external_references: Option<ExternalReferences>,
+}
+
+// By hand, so that one is freed by a call wherever it ends, and not field by field.
+impl Drop for Tool {
+    fn drop(self) {
+        let Tool {
+            vendor: _,
+            name: _,
+            version: _,
+            hashes: _,
+            external_references: _,
+        } = self;
+    }
 }
 
 impl Default for Tool {

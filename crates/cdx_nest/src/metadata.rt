@@ -22,7 +22,7 @@ use copied::copy_metadata;
 use std::alloc::{AllocError, Global};
 
 /// What a bill says of itself and of the component that it is of.
-#[derive(Debug, Drop)]
+#[derive(Debug)]
 pub struct Metadata {
     /// When the bill was made: a date with time and zone by CycloneDX, which isn't checked.
     pub timestamp: Option<Text>,
@@ -38,6 +38,22 @@ pub struct Metadata {
     /// The licenses of the bill itself.
     pub licenses: Option<Licenses>,
     pub properties: Option<Properties>,
+}
+
+// By hand, so that one is freed by a call wherever it ends, and not field by field.
+impl Drop for Metadata {
+    fn drop(self) {
+        let Metadata {
+            timestamp: _,
+            tools: _,
+            authors: _,
+            component: _,
+            manufacture: _,
+            supplier: _,
+            licenses: _,
+            properties: _,
+        } = self;
+    }
 }
 
 impl Default for Metadata {

@@ -11,7 +11,7 @@ use cdx_models::{AttachedText, HasTree, copy_row, same_row};
 use std::alloc::{AllocError, Global};
 
 /// A tag of a software identification (ISO/IEC 19770-2).
-#[derive(Debug, Drop)]
+#[derive(Debug)]
 pub struct Swid {
     pub tag_id: Text,
     /// The name of the software that the tag is of.
@@ -26,6 +26,21 @@ pub struct Swid {
     pub text: Option<AttachedText>,
     /// Where the tag can be found.
     pub url: Option<Text>,
+}
+
+// By hand, so that one is freed by a call wherever it ends, and not field by field.
+impl Drop for Swid {
+    fn drop(self) {
+        let Swid {
+            tag_id: _,
+            name: _,
+            version: _,
+            tag_version: _,
+            patch: _,
+            text: _,
+            url: _,
+        } = self;
+    }
 }
 
 impl HasTree for Swid {
@@ -123,10 +138,20 @@ impl PartialEq for MimeType {
 }
 
 /// What was found in a component's files.
-#[derive(Debug, Drop)]
+#[derive(Debug)]
 pub struct ComponentEvidence {
     pub licenses: Option<Licenses>,
     pub copyright: Option<CopyrightTexts>,
+}
+
+// By hand, so that one is freed by a call wherever it ends, and not field by field.
+impl Drop for ComponentEvidence {
+    fn drop(self) {
+        let ComponentEvidence {
+            licenses: _,
+            copyright: _,
+        } = self;
+    }
 }
 
 impl HasTree for ComponentEvidence {

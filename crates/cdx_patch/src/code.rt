@@ -10,12 +10,19 @@ use cdx_models::{AttachedText, HasTree, copy_row, same_row};
 use std::alloc::{AllocError, Global};
 
 /// What a patch changes.
-#[derive(Debug, Drop)]
+#[derive(Debug)]
 pub struct Diff {
     /// The change itself.
     pub text: Option<AttachedText>,
     /// Where the change can be found.
     pub url: Option<Text>,
+}
+
+// By hand, so that one is freed by a call wherever it ends, and not field by field.
+impl Drop for Diff {
+    fn drop(self) {
+        let Diff { text: _, url: _ } = self;
+    }
 }
 
 impl HasTree for Diff {
@@ -46,10 +53,17 @@ impl PartialEq for Diff {
 }
 
 /// Where an issue is told of.
-#[derive(Debug, Drop)]
+#[derive(Debug)]
 pub struct Source {
     pub name: Option<Text>,
     pub url: Option<Text>,
+}
+
+// By hand, so that one is freed by a call wherever it ends, and not field by field.
+impl Drop for Source {
+    fn drop(self) {
+        let Source { name: _, url: _ } = self;
+    }
 }
 
 impl HasTree for Source {
@@ -80,7 +94,7 @@ impl PartialEq for Source {
 }
 
 /// A defect, a wish or a weakness that a patch resolves.
-#[derive(Debug, Drop)]
+#[derive(Debug)]
 pub struct Issue {
     /// What it is, as `defect` or `security`.
     pub issue_type: Text,
@@ -91,6 +105,20 @@ pub struct Issue {
     pub source: Option<Source>,
     /// Addresses of what else tells of it.
     pub references: Option<List<Text>>,
+}
+
+// By hand, so that one is freed by a call wherever it ends, and not field by field.
+impl Drop for Issue {
+    fn drop(self) {
+        let Issue {
+            issue_type: _,
+            id: _,
+            name: _,
+            description: _,
+            source: _,
+            references: _,
+        } = self;
+    }
 }
 
 impl HasTree for Issue {
@@ -130,13 +158,24 @@ impl PartialEq for Issue {
 }
 
 /// A change of a component that is not in its own source.
-#[derive(Debug, Drop)]
+#[derive(Debug)]
 pub struct Patch {
     /// What it is, as `backport`.
     pub patch_type: Text,
     pub diff: Option<Diff>,
     /// The issues that it resolves.
     pub resolves: Option<List<Issue>>,
+}
+
+// By hand, so that one is freed by a call wherever it ends, and not field by field.
+impl Drop for Patch {
+    fn drop(self) {
+        let Patch {
+            patch_type: _,
+            diff: _,
+            resolves: _,
+        } = self;
+    }
 }
 
 impl HasTree for Patch {

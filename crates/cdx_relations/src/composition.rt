@@ -48,7 +48,7 @@ impl PartialEq for BomReference {
 }
 
 /// How complete the bill knows some of its parts.
-#[derive(Debug, Drop)]
+#[derive(Debug)]
 pub struct Composition {
     /// The name by which the rest of the bill refers to it. Known from 1.5 on.
     pub bom_ref: Option<Text>,
@@ -62,6 +62,20 @@ pub struct Composition {
     pub vulnerabilities: Option<List<BomReference>>,
     /// Known from 1.4 on.
     pub signature: Option<Signature>,
+}
+
+// By hand, so that one is freed by a call wherever it ends, and not field by field.
+impl Drop for Composition {
+    fn drop(self) {
+        let Composition {
+            bom_ref: _,
+            aggregate: _,
+            assemblies: _,
+            dependencies: _,
+            vulnerabilities: _,
+            signature: _,
+        } = self;
+    }
 }
 
 impl HasTree for Composition {

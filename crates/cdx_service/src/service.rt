@@ -21,7 +21,7 @@ use std::alloc::{AllocError, Global};
 
 /// A service that a component calls, or that is described by itself.
 #[cycle(service)]
-#[derive(Debug, Drop)]
+#[derive(Debug)]
 pub struct Service {
     /// The name by which the rest of the bill refers to it.
     pub bom_ref: Option<Text>,
@@ -47,6 +47,30 @@ pub struct Service {
     pub signature: Option<Signature>,
     /// Known from 1.5 on.
     pub trust_zone: Option<Text>,
+}
+
+// By hand, so that one is freed by a call wherever it ends, and not field by field.
+impl Drop for Service {
+    fn drop(self) {
+        let Service {
+            bom_ref: _,
+            provider: _,
+            group: _,
+            name: _,
+            version: _,
+            description: _,
+            endpoints: _,
+            authenticated: _,
+            x_trust_boundary: _,
+            data_items: _,
+            licenses: _,
+            external_references: _,
+            properties: _,
+            services: _,
+            signature: _,
+            trust_zone: _,
+        } = self;
+    }
 }
 
 /// A list of services.

@@ -123,11 +123,21 @@ impl PartialEq for Algorithm {
 }
 
 /// One signature: its algorithm and its value.
-#[derive(Debug, Drop)]
+#[derive(Debug)]
 pub struct Signer {
     pub algorithm: Algorithm,
     /// The signature itself, in base64url by the JSON Signature Format, which isn't checked.
     pub value: Text,
+}
+
+// By hand, so that one is freed by a call wherever it ends, and not field by field.
+impl Drop for Signer {
+    fn drop(self) {
+        let Signer {
+            algorithm: _,
+            value: _,
+        } = self;
+    }
 }
 
 impl Signer {

@@ -51,8 +51,13 @@ pub(crate) fn read_component_element(
         services: depth.services,
     };
     let mut part = begin_component(alloc, place, element, attributes)?;
-    read_component_rows(alloc, reader, v, element, inner, &mut part)?;
-    finish_component(alloc, reader.place() - 1, v, element, part)
+    match read_component_rows(alloc, reader, v, element, inner, &mut part) {
+        Ok(()) => finish_component(alloc, reader.place() - 1, v, element, part),
+        Err(error) => {
+            drop(part);
+            Err(error)
+        }
+    }
 }
 
 // Reads a component's children up to the element's end.

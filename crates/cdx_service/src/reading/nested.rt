@@ -134,8 +134,13 @@ pub(crate) fn read_service_element(
         services: depth.services + 1,
     };
     let mut part = begin_service(alloc, attributes)?;
-    read_service_children(alloc, reader, v, element, inner, &mut part)?;
-    finish_service(alloc, reader.place() - 1, element, part)
+    match read_service_children(alloc, reader, v, element, inner, &mut part) {
+        Ok(()) => finish_service(alloc, reader.place() - 1, element, part),
+        Err(error) => {
+            drop(part);
+            Err(error)
+        }
+    }
 }
 
 // Reads the children up to the element's end.

@@ -282,20 +282,19 @@ read_component_element-returns-in_err-part t c = λ d ns p nodes rest st.
     let nested = component_nested c.args.v c.args.element.now c.args.attributes.now ns (depth_of c.args.depth) p nodes c.if-depth-ge32.false in
     rw (q.1, q.2) (begin_fails component c.args.v c.args.element.now c.args.attributes.now ns (depth_of c.args.depth) (in_component (depth_of c.args.depth)) p nodes rest c.args.reader.now component_tree c.in_err-part.field-0.0 c.place-place.result nested st c.place-place.ensures (c.in_err-part.ensures c.args.v))
 
-pub read_component_element-returns-in_err-read_component_rows : goal.read_component_element-returns-in_err-read_component_rows
-read_component_element-returns-in_err-read_component_rows t c = λ d ns p nodes rest st.
-    let q = err_from_is_err_and c.from_residual-in_err-read_component_rows.result c.from_residual-in_err-read_component_rows.ensures.1 in
+pub read_component_element-returns-in-Err : goal.read_component_element-returns-in-Err
+read_component_element-returns-in-Err t c = λ d ns p nodes rest st.
     let nested = component_nested c.args.v c.args.element.now c.args.attributes.now ns (depth_of c.args.depth) p nodes c.if-depth-ge32.false in
-    rw (q.1, q.2) (rows_fail component c.args.v c.args.element.now c.args.attributes.now ns (depth_of c.args.depth) (in_component (depth_of c.args.depth)) p nodes rest c.args.reader.now component_tree c.read_component_rows.new.reader c.in_err-read_component_rows.field-0.0 c.place-place.result (component_part c.in_ok-part.part) nested st c.place-place.ensures (c.in_ok-part.ensures c.args.v) (c.in_err-read_component_rows.ensures nodes rest st.at))
+    rows_fail component c.args.v c.args.element.now c.args.attributes.now ns (depth_of c.args.depth) (in_component (depth_of c.args.depth)) p nodes rest c.args.reader.now component_tree c.read_component_rows.new.reader c.in-Err.error c.place-place.result (component_part c.in_ok-part.part) nested st c.place-place.ensures (c.in_ok-part.ensures c.args.v) (c.in-Err.ensures nodes rest st.at)
 
-pub read_component_element-overflow_sub-place-2 : goal.read_component_element-overflow_sub-place-2
-read_component_element-overflow_sub-place-2 t c =
-    past_start c.args.reader.now c.read_component_rows.new.reader c.place.result c.requires.nodes c.requires.rest ((c.in_ok-read_component_rows.ensures c.requires.nodes c.requires.rest c.requires.stands.at).1) c.place.ensures
+pub read_component_element-overflow_sub-place-in-Ok : goal.read_component_element-overflow_sub-place-in-Ok
+read_component_element-overflow_sub-place-in-Ok t c =
+    past_start c.args.reader.now c.read_component_rows.new.reader c.place.result c.requires.nodes c.requires.rest ((c.in-Ok.ensures c.requires.nodes c.requires.rest c.requires.stands.at).1) c.place.ensures
 
-pub read_component_element-returns : goal.read_component_element-returns
-read_component_element-returns t c = λ d ns p nodes rest st.
+pub read_component_element-returns-in-Ok : goal.read_component_element-returns-in-Ok
+read_component_element-returns-in-Ok t c = λ d ns p nodes rest st.
     let nested = component_nested c.args.v c.args.element.now c.args.attributes.now ns (depth_of c.args.depth) p nodes c.if-depth-ge32.false in
-    rows_finish component c.args.v c.args.element.now c.args.attributes.now ns (depth_of c.args.depth) (in_component (depth_of c.args.depth)) p nodes rest c.args.reader.now component_tree (λ x. fields_of (component_tree x)) c.read_component_rows.new.reader c.place-place.result c.place.result (component_part c.in_ok-part.part) (component_part c.read_component_rows.new.part) c.finish_component.result component_whole nested st c.place-place.ensures (c.in_ok-part.ensures c.args.v) (c.in_ok-read_component_rows.ensures nodes rest st.at) c.place.ensures c.finish_component.ensures
+    rows_finish component c.args.v c.args.element.now c.args.attributes.now ns (depth_of c.args.depth) (in_component (depth_of c.args.depth)) p nodes rest c.args.reader.now component_tree (λ x. fields_of (component_tree x)) c.read_component_rows.new.reader c.place-place.result c.place.result (component_part c.in_ok-part.part) (component_part c.read_component_rows.new.part) c.finish_component.result component_whole nested st c.place-place.ensures (c.in_ok-part.ensures c.args.v) (c.in-Ok.ensures nodes rest st.at) c.place.ensures c.finish_component.ensures
 
 pub read_pedigree_element-returns-in_err-read_pedigree_rows : goal.read_pedigree_element-returns-in_err-read_pedigree_rows
 read_pedigree_element-returns-in_err-read_pedigree_rows t c = λ d ns p nodes rest st.

@@ -231,14 +231,13 @@ pub read_service_element-returns-then-depth-ge32 : goal.read_service_element-ret
 read_service_element-returns-then-depth-ge32 t c =
     deep_reads service_tree service c.args.v c.args.element.now c.args.attributes.now (depth_of c.args.depth) c.args.reader.now c.place.result (service_is_deep (depth_of c.args.depth) (omega arith)) c.place.ensures
 
-pub read_service_element-returns-in_err-read_service_children : goal.read_service_element-returns-in_err-read_service_children
-read_service_element-returns-in_err-read_service_children t c = λ d ns p nodes rest st.
-    let q = err_from_is_err_and c.from_residual-in_err-read_service_children.result c.from_residual-in_err-read_service_children.ensures.1 in
-    rw (q.1, q.2) (rows_fail service c.args.v c.args.element.now c.args.attributes.now ns (depth_of c.args.depth) (in_service (depth_of c.args.depth)) p nodes rest c.args.reader.now service_tree c.read_service_children.new.reader c.in_err-read_service_children.field-0.0 c.args.reader.now.place (service_part c.in_ok-part.part) (service_nested c.args.v c.args.element.now c.args.attributes.now ns (depth_of c.args.depth) p nodes (omega arith)) st refl (c.in_ok-part.ensures c.args.v c.args.element.now.local_name (c.args.reader.now.place - 1)) (c.in_err-read_service_children.ensures nodes rest st.at))
+pub read_service_element-returns-in-Err : goal.read_service_element-returns-in-Err
+read_service_element-returns-in-Err t c = λ d ns p nodes rest st.
+    rows_fail service c.args.v c.args.element.now c.args.attributes.now ns (depth_of c.args.depth) (in_service (depth_of c.args.depth)) p nodes rest c.args.reader.now service_tree c.read_service_children.new.reader c.in-Err.error c.args.reader.now.place (service_part c.in_ok-part.part) (service_nested c.args.v c.args.element.now c.args.attributes.now ns (depth_of c.args.depth) p nodes (omega arith)) st refl (c.in_ok-part.ensures c.args.v c.args.element.now.local_name (c.args.reader.now.place - 1)) (c.in-Err.ensures nodes rest st.at)
 
-pub read_service_element-returns : goal.read_service_element-returns
-read_service_element-returns t c = λ d ns p nodes rest st.
-    rows_finish service c.args.v c.args.element.now c.args.attributes.now ns (depth_of c.args.depth) (in_service (depth_of c.args.depth)) p nodes rest c.args.reader.now service_tree (λ x. fields_of (service_tree x)) c.read_service_children.new.reader c.args.reader.now.place c.place-2.result (service_part c.in_ok-part.part) (service_part c.read_service_children.new.part) c.finish_service.result whole_service (service_nested c.args.v c.args.element.now c.args.attributes.now ns (depth_of c.args.depth) p nodes (omega arith)) st refl (c.in_ok-part.ensures c.args.v c.args.element.now.local_name (c.args.reader.now.place - 1)) (c.in_ok-read_service_children.ensures nodes rest st.at) c.place-2.ensures (c.finish_service.ensures c.args.v)
+pub read_service_element-returns-in-Ok : goal.read_service_element-returns-in-Ok
+read_service_element-returns-in-Ok t c = λ d ns p nodes rest st.
+    rows_finish service c.args.v c.args.element.now c.args.attributes.now ns (depth_of c.args.depth) (in_service (depth_of c.args.depth)) p nodes rest c.args.reader.now service_tree (λ x. fields_of (service_tree x)) c.read_service_children.new.reader c.args.reader.now.place c.place-in-Ok.result (service_part c.in_ok-part.part) (service_part c.read_service_children.new.part) c.finish_service.result whole_service (service_nested c.args.v c.args.element.now c.args.attributes.now ns (depth_of c.args.depth) p nodes (omega arith)) st refl (c.in_ok-part.ensures c.args.v c.args.element.now.local_name (c.args.reader.now.place - 1)) (c.in-Ok.ensures nodes rest st.at) c.place-in-Ok.ensures (c.finish_service.ensures c.args.v)
 
 pub read_services_element-returns-in_err-read_items : goal.read_services_element-returns-in_err-read_items
 read_services_element-returns-in_err-read_items t c = λ d ns p nodes rest st.
