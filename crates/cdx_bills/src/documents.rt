@@ -10,7 +10,7 @@
 
 use crate::expect::{holds, row_is, text_is};
 use crate::faults::of_road;
-use crate::short::{bill, hop_of, label, only, parse_xml, read, told, whole};
+use crate::short::{bill, hop_of, label, only, parse_xml, read, shown, whole};
 use cdx_bom::{Bom, Doc, Hop, RoadError, into_road, recode, road};
 use cdx_cases::documents::{document, line_of, list_of};
 use cdx_cases::faults::{of_json, of_xml};
@@ -29,11 +29,11 @@ use std::test::Fail;
 fn labelled(alloc: Global, text: &str, v: SpecVersion) -> Result<String, Fail> {
     if !text.starts_with("start|") {
         let value = Value::from_str(alloc, text)?;
-        return Ok(label(alloc, Bom::parse_json(alloc, &value, v)?)?);
+        return Ok(label(alloc, &Bom::parse_json(alloc, &value, v)?)?);
     }
     let events = document(alloc, text)?;
-    let found = label(alloc, parse_xml(alloc, &events, v)?)?;
-    if label(alloc, Bom::read_xml_document(alloc, &events, v)?)? != found {
+    let found = label(alloc, &parse_xml(alloc, &events, v)?)?;
+    if label(alloc, &Bom::read_xml_document(alloc, &events, v)?)? != found {
         return Err(Fail::new("another label"));
     }
     Ok(found)
@@ -42,7 +42,7 @@ fn labelled(alloc: Global, text: &str, v: SpecVersion) -> Result<String, Fail> {
 fn passed(alloc: Global, text: &str, v: SpecVersion) -> Result<String, Fail> {
     let value = Value::from_str(alloc, text)?;
     match Bom::from_json(alloc, &value, v) {
-        Ok(bill) => Ok(told(alloc, bill)?),
+        Ok(bill) => Ok(shown(alloc, &bill)?),
         Err(error) => Ok(of_json(alloc, &error)?),
     }
 }
@@ -69,7 +69,7 @@ fn told_source(
     budget: usize,
 ) -> Result<String, AllocError> {
     match Bom::parse_from_xml_source(alloc, source, v, budget) {
-        Ok(bill) => told(alloc, bill),
+        Ok(bill) => shown(alloc, &bill),
         Err(error) => of_xml(alloc, &error),
     }
 }
@@ -77,24 +77,16 @@ fn told_source(
 fn fitting(alloc: Global, short: &str, w: SpecVersion) -> Result<String, Fail> {
     let bill = bill(alloc, short)?;
     let found = if bill.fits(w) { "fits" } else { "lacks" };
-    drop(bill);
     Ok(String::from_str(alloc, found)?)
-}
-
-fn keep(alloc: Global, short: &str, w: SpecVersion) -> Result<Bom, Fail> {
-    let bill = bill(alloc, short)?;
-    let kept = bill.kept(alloc, w);
-    drop(bill);
-    Ok(kept?)
 }
 
 // The label of what is kept is the version.
 fn kept(alloc: Global, short: &str, w: SpecVersion) -> Result<String, Fail> {
-    let label = label(alloc, keep(alloc, short, w)?)?;
-    if label != format!(in alloc; "{} 1", w.as_str())? {
+    let kept = bill(alloc, short)?.kept(alloc, w)?;
+    if label(alloc, &kept)? != format!(in alloc; "{} 1", w.as_str())? {
         return Err(Fail::new("another label"));
     }
-    Ok(told(alloc, keep(alloc, short, w)?)?)
+    Ok(shown(alloc, &kept)?)
 }
 
 // The document of the text.

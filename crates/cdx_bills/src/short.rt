@@ -100,18 +100,10 @@ pub fn shown(alloc: Global, bill: &Bom) -> Result<String, AllocError> {
     written(alloc, bill, Hop { form, version })
 }
 
-/// The bill as JSON of 1.5. Here and elsewhere a bill is freed by `drop`: each other way out frees its fields one by one,
-/// which takes long to prove.
-pub fn told(alloc: Global, bill: Bom) -> Result<String, AllocError> {
-    let text = shown(alloc, &bill);
-    drop(bill);
-    text
-}
-
 fn read_xml(alloc: Global, line: &str, v: SpecVersion) -> Result<String, Fail> {
     let events = document(alloc, line)?;
     match parse_xml(alloc, &events, v) {
-        Ok(bill) => Ok(told(alloc, bill)?),
+        Ok(bill) => Ok(shown(alloc, &bill)?),
         Err(error) => Ok(of_xml(alloc, &error)?),
     }
 }
@@ -119,7 +111,7 @@ fn read_xml(alloc: Global, line: &str, v: SpecVersion) -> Result<String, Fail> {
 fn read_json(alloc: Global, text: &str, v: SpecVersion) -> Result<String, Fail> {
     let value = Value::from_str(alloc, text)?;
     match parse_json(alloc, &value, v) {
-        Ok(bill) => Ok(told(alloc, bill)?),
+        Ok(bill) => Ok(shown(alloc, &bill)?),
         Err(error) => Ok(of_json(alloc, &error)?),
     }
 }
@@ -138,10 +130,8 @@ pub fn read_short(alloc: Global, short: &str) -> Result<String, Fail> {
 }
 
 /// The label and the version of the bill.
-pub fn label(alloc: Global, bill: Bom) -> Result<String, AllocError> {
-    let text = format!(in alloc; "{} {}", bill.spec_version.as_str(), bill.version);
-    drop(bill);
-    text
+pub fn label(alloc: Global, bill: &Bom) -> Result<String, AllocError> {
+    format!(in alloc; "{} {}", bill.spec_version.as_str(), bill.version)
 }
 
 /// The list of one number.

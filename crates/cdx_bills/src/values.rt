@@ -1,7 +1,7 @@
 //! Bills as values: new ones, copies, which are equal and which the same, and how deep they are.
 
 use crate::expect::{holds, row_holds, text_is};
-use crate::short::{bill, label, read_short, told, whole};
+use crate::short::{bill, label, read_short, shown, whole};
 use cdx_bom::{Bom, same};
 use cdx_cases::forms::{V3, V4, V5, chain};
 use cdx_cases::rows::row;
@@ -15,10 +15,7 @@ use std::test::Fail;
 
 // Whether the bills are equal, and whether they are the same.
 fn compare(one: Bom, other: Bom) -> (bool, bool) {
-    let found = (one == other, same(&one, &other));
-    drop(one);
-    drop(other);
-    found
+    (one == other, same(&one, &other))
 }
 
 // A new bill of version 2.
@@ -32,9 +29,12 @@ fn second() -> Bom {
 fn new_bills(rt: HostRuntime) -> Result<(), Fail> {
     let alloc = rt.alloc();
     for v in [V3, V4, V5] {
-        let label = label(alloc, Bom::new(v))?;
+        let label = label(alloc, &Bom::new(v))?;
         holds(&rt, label == format!(in alloc; "{} 1", v.as_str())?);
-        holds(&rt, told(alloc, Bom::new(v))? == whole(alloc, "json 1.5")?);
+        holds(
+            &rt,
+            shown(alloc, &Bom::new(v))? == whole(alloc, "json 1.5")?,
+        );
     }
     let read = bill(alloc, "json 1.5")?;
     holds(&rt, compare(read, Bom::new(V5)).0);
@@ -67,9 +67,8 @@ fn equal(alloc: Global, one: &Bom) -> Result<usize, Fail> {
     let mut count = 0usize;
     for line in DIFFERENT.lines() {
         if let Some((short, _)) = row(line) {
-            let other = bill(alloc, short)?;
-            count = count.saturating_add(usize::from(other == *one));
-            drop(other);
+            let is_equal = bill(alloc, short)? == *one;
+            count = count.saturating_add(usize::from(is_equal));
         }
     }
     Ok(count)
@@ -77,10 +76,7 @@ fn equal(alloc: Global, one: &Bom) -> Result<usize, Fail> {
 
 // Whether a copy of the bill is equal to it.
 fn is_copied(alloc: Global, one: &Bom) -> Result<bool, AllocError> {
-    let copy = one.copy(alloc)?;
-    let is_equal = copy == *one;
-    drop(copy);
-    Ok(is_equal)
+    Ok(one.copy(alloc)? == *one)
 }
 
 // What of the bill isn't as it should be beside the other, or how the two compare.
@@ -101,10 +97,8 @@ fn beside(alloc: Global, one: &Bom, object: &Bom) -> Result<&'static str, Fail> 
 fn all_beside(rt: &impl Abort, alloc: Global, object: &Bom) -> Result<(), Fail> {
     for line in DIFFERENT.lines() {
         if let Some((short, answer)) = row(line) {
-            let one = bill(alloc, short)?;
-            let found = beside(alloc, &one, object);
-            drop(one);
-            row_holds(rt, line, found? == answer);
+            let found = beside(alloc, &bill(alloc, short)?, object)?;
+            row_holds(rt, line, found == answer);
         }
     }
     Ok(())
@@ -114,9 +108,7 @@ fn all_beside(rt: &impl Abort, alloc: Global, object: &Bom) -> Result<(), Fail> 
 fn copies_and_equals(rt: HostRuntime) -> Result<(), Fail> {
     let alloc = rt.alloc();
     let object = bill(alloc, r#"json 1.5 "metadata":{"tools":{}},"#)?;
-    let found = all_beside(&rt, alloc, &object);
-    drop(object);
-    found
+    all_beside(&rt, alloc, &object)
 }
 
 const NESTED: (&str, &str) = (r#"{"components":["#, r#"],"name":"a","type":"library"}"#);
@@ -138,12 +130,6 @@ fn deep(alloc: Global) -> Result<Bom, Fail> {
     let mut deep = Bom::new(V5);
     deep.components = Some(components);
     Ok(deep)
-}
-
-fn is_shallow(bill: Bom) -> bool {
-    let is_shallow = bill.shallow();
-    drop(bill);
-    is_shallow
 }
 
 // The short document of so many components, each inside the one before.
@@ -173,10 +159,11 @@ fn depth(rt: HostRuntime) -> Result<(), Fail> {
 fn depth_of_values(rt: HostRuntime) -> Result<(), Fail> {
     let alloc = rt.alloc();
     let text = whole(alloc, nested(alloc, 33)?.as_str())?;
-    holds(&rt, told(alloc, deep(alloc)?)? == text);
-    holds(&rt, !is_shallow(deep(alloc)?));
+    let deep = deep(alloc)?;
+    holds(&rt, shown(alloc, &deep)? == text);
+    holds(&rt, !deep.shallow());
     let short = nested(alloc, 32)?;
-    holds(&rt, is_shallow(bill(alloc, short.as_str())?));
+    holds(&rt, bill(alloc, short.as_str())?.shallow());
     holds(
         &rt,
         read_short(alloc, short.as_str())? == whole(alloc, short.as_str())?,

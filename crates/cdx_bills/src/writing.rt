@@ -41,9 +41,7 @@ fn is_written(rt: &impl Abort, alloc: Global, bill: &Bom) -> Result<(), Fail> {
 #[test]
 fn every_field(rt: HostRuntime) -> Result<(), Fail> {
     let bill = bill(rt.alloc(), EVERY)?;
-    let found = is_written(&rt, rt.alloc(), &bill);
-    drop(bill);
-    found
+    is_written(&rt, rt.alloc(), &bill)
 }
 
 // The events that a bill appends to a writer.
@@ -58,11 +56,9 @@ fn appended(alloc: Global, bill: &Bom, w: SpecVersion) -> Result<String, Fail> {
 fn into_writers(rt: HostRuntime) -> Result<(), Fail> {
     let alloc = rt.alloc();
     let bill = bill(alloc, r#"json 1.5 "serialNumber":"U","signature":[],"#)?;
-    let (will_write, found) = (bill.will_write(), appended(alloc, &bill, V4));
-    drop(bill);
-    holds(&rt, will_write);
+    holds(&rt, bill.will_write());
     let line = "start|<bom xmlns=1.4 serialNumber=U version=1|>bom|end";
-    text_is(&rt, found?.as_str(), line);
+    text_is(&rt, appended(alloc, &bill, V4)?.as_str(), line);
     Ok(())
 }
 
@@ -114,9 +110,7 @@ fn refused(rt: HostRuntime) -> Result<(), Fail> {
         rt.alloc(),
         r#"json 1.5 "components":[{"name":"a","type":"t"}],"#,
     )?;
-    let found = is_refused(&rt, rt.alloc(), &bill);
-    drop(bill);
-    found
+    is_refused(&rt, rt.alloc(), &bill)
 }
 
 const NUMBER: &str = r#"json 1.5 "serialNumber":"urn:uuid:3e671687-395b-41f5-a30f-a58921a69b79","#;
@@ -150,9 +144,7 @@ fn puts_json(rt: &impl Abort, alloc: Global, bill: &Bom) -> Result<(), Fail> {
 #[test]
 fn json_into_sinks(rt: HostRuntime) -> Result<(), Fail> {
     let bill = bill(rt.alloc(), NUMBER)?;
-    let found = puts_json(&rt, rt.alloc(), &bill);
-    drop(bill);
-    found
+    puts_json(&rt, rt.alloc(), &bill)
 }
 
 // The same of the events that are put.
@@ -180,9 +172,7 @@ fn puts_events(rt: &impl Abort, alloc: Global, bill: &Bom) -> Result<(), Fail> {
 #[test]
 fn events_into_sinks(rt: HostRuntime) -> Result<(), Fail> {
     let bill = bill(rt.alloc(), "json 1.5")?;
-    let found = puts_events(&rt, rt.alloc(), &bill);
-    drop(bill);
-    found
+    puts_events(&rt, rt.alloc(), &bill)
 }
 
 #[test]

@@ -9,21 +9,16 @@ use std::test::Fail;
 
 const BARE: &str = r#"{"name":"n","type":"file"}"#;
 
-// Whether 1.4 and 1.3 can hold the component. A wide value is freed by `drop`: each other way out frees its fields one by
-// one, which takes long to prove.
+// Whether 1.4 and 1.3 can hold the component.
 fn component_fits(alloc: Global, text: &str) -> Result<(bool, bool), Fail> {
     let component = held::<Component>(alloc, text, V4)?;
-    let found = (component.fits(V4), component.fits(V3));
-    drop(component);
-    Ok(found)
+    Ok((component.fits(V4), component.fits(V3)))
 }
 
 // The same of the metadata.
 fn metadata_fits(alloc: Global, text: &str) -> Result<(bool, bool), Fail> {
     let metadata = held::<Metadata>(alloc, text, V5)?;
-    let found = (metadata.fits(V4), metadata.fits(V3));
-    drop(metadata);
-    Ok(found)
+    Ok((metadata.fits(V4), metadata.fits(V3)))
 }
 
 // Components that only 1.3 can't hold.
@@ -57,11 +52,8 @@ fn holding(alloc: Global, text: &str) -> Result<Components, Fail> {
 
 // Whether the first of the list is the component itself.
 fn is_first(alloc: Global, text: &str) -> Result<bool, Fail> {
-    let list = holding(alloc, text)?;
     let one = held::<Component>(alloc, text, V5)?;
-    let is_first = list.get(0) == Some(&one);
-    drop(one);
-    Ok(is_first)
+    Ok(holding(alloc, text)?.get(0) == Some(&one))
 }
 
 #[test]
