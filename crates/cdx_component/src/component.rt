@@ -1,6 +1,6 @@
 //! Components, their pedigrees and lists of them.
 
-ghost use Rattle.std.specs.Prelude.{◌≡◌, [], ◌∷◌, ◌++◌, OnOk, OnErr, length, slice_get, option_copied, is_some, nat_lt};
+ghost use Rattle.std.specs.Prelude.{◌≡◌, [], ◌∷◌, ◌++◌, IfOk, OnOk, OnErr, length, slice_get, option_copied, is_some, nat_lt};
 ghost use Rattle.cdx_models.specs.Same.{same};
 ghost use Rattle.cdx_models.specs.SameLaws.{same_laws};
 ghost use Rattle.cdx_component.specs.Trees.{component_tree, components_tree, pedigree_tree, listed};
@@ -137,6 +137,14 @@ impl Components {
         Components {
             items: Vec::new(alloc),
         }
+    }
+
+    /// The empty list, with room for so many components. Only want of memory refuses.
+    pub fn with_capacity(alloc: Global, capacity: usize) -> Result<Components, AllocError>
+        ensures { IfOk result (λ l. listed l ≡ []) }
+    {
+        let items = Vec::with_capacity(alloc, capacity)?;
+        Ok(Components { items })
     }
 
     /// Appends a component. Where there is no memory, the list is as before and the component is dropped.

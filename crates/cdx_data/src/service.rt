@@ -220,7 +220,7 @@ pub(crate) fn classifications(
 ) -> Result<List<DataClassification>, AllocError>
     ensures { IfOk result (λ r. list_tree classification_tree r ≡ list_tree service_classification held.now) }
 {
-    let mut copies = List::new(alloc);
+    let mut copies = List::with_capacity(alloc, held.len())?;
     for item in held.as_slice() {
         copies.push(item.classification.copy(alloc)?)?;
     }

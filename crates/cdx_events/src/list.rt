@@ -28,6 +28,14 @@ impl<T> List<T> {
         }
     }
 
+    /// The empty list, with room for so many items. Only want of memory refuses.
+    pub fn with_capacity(alloc: Global, capacity: usize) -> Result<List<T>, AllocError>
+        ensures { IfOk result (λ l. l ≡ []) }
+    {
+        let items = Vec::with_capacity(alloc, capacity)?;
+        Ok(List { items })
+    }
+
     /// The list of a vector's items. It takes no memory.
     pub fn from_vec(items: Vec<T>) -> List<T>
         ensures { result ≡ items.items }

@@ -132,7 +132,7 @@ pub fn list_from_items<T: FromJson + Drop>(
     ensures { Gives (list_tree T.tree) result
         (list_read (items_view items.now.items) version T.kind (depth_of depth)) }
 {
-    let mut held = List::new(alloc);
+    let mut held = List::with_capacity(alloc, items.len())?;
     for (i, item) in items.iter().enumerate() {
         match T::from_json_at(alloc, item, version, depth) {
             Ok(one) => held.push(one)?,

@@ -94,7 +94,7 @@ pub fn keep_list<T: Kept + Drop>(
     ensures { (l : Lists) → IsListOf T.kind l → IfOk result
         (λ r. list_tree T.tree r ≡ kept version label (list_tree T.tree held.now) (a_list l)) }
 {
-    let mut copies = List::new(alloc);
+    let mut copies = List::with_capacity(alloc, held.len())?;
     for item in held.as_slice() {
         copies.push(item.kept_as(alloc, version, label)?)?;
     }
@@ -110,7 +110,7 @@ pub fn list_to_value<T: ToJson + Drop>(
     ensures { (l : Lists) → IsListOf T.kind l → IfOk result
         (λ v. view v ≡ jspell (keep version (list_tree T.tree held.now) (a_list l)) version (a_list l)) }
 {
-    let mut values = Vec::new(alloc);
+    let mut values = Vec::with_capacity(alloc, held.len())?;
     for item in held.as_slice() {
         values.push(item.to_value(alloc, version)?)?;
     }

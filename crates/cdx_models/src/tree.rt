@@ -71,7 +71,7 @@ impl<T: HasTree + Drop> HasTree for List<T> {
     ghost there = { λ x. refl };
 
     fn copy(&self, alloc: Global) -> Result<List<T>, AllocError> {
-        let mut copies = List::new(alloc);
+        let mut copies = List::with_capacity(alloc, self.len())?;
         for item in self.as_slice() {
             copies.push(item.copy(alloc)?)?;
         }

@@ -1,6 +1,6 @@
 //! Services and lists of them.
 
-ghost use Rattle.std.specs.Prelude.{◌≡◌, [], ◌∷◌, ◌++◌, OnOk, OnErr, length, slice_get, option_copied, is_some, nat_lt};
+ghost use Rattle.std.specs.Prelude.{◌≡◌, [], ◌∷◌, ◌++◌, IfOk, OnOk, OnErr, length, slice_get, option_copied, is_some, nat_lt};
 ghost use Rattle.cdx_models.specs.Same.{same};
 ghost use Rattle.cdx_models.specs.SameLaws.{same_laws};
 ghost use Rattle.cdx_service.specs.Trees.{service_tree, services_tree, services_listed};
@@ -88,6 +88,14 @@ impl Services {
         Services {
             items: Vec::new(alloc),
         }
+    }
+
+    /// The empty list, with room for so many services. Only want of memory refuses.
+    pub fn with_capacity(alloc: Global, capacity: usize) -> Result<Services, AllocError>
+        ensures { IfOk result (λ l. services_listed l ≡ []) }
+    {
+        let items = Vec::with_capacity(alloc, capacity)?;
+        Ok(Services { items })
     }
 
     /// Appends a service. Where there is no memory, the list is as before and the service is dropped.

@@ -19,7 +19,7 @@ pub(crate) trait Shown {
 pub(crate) fn items_to_json<S: Shown>(alloc: Global, items: &[S]) -> Result<Value, AllocError>
     ensures { IfOk result (λ v. view v ≡ array (items_of (each S.shown items.now))) }
 {
-    let mut values = Vec::new(alloc);
+    let mut values = Vec::with_capacity(alloc, items.len())?;
     for item in items {
         values.push(item.to_json(alloc)?)?;
     }

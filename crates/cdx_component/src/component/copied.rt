@@ -147,7 +147,7 @@ pub(crate) fn copy_components(
 ) -> Result<Components, AllocError>
     ensures { IfOk result (λ r. components_tree r ≡ components_tree components.now) }
 {
-    let mut copies = Components::new(alloc);
+    let mut copies = Components::with_capacity(alloc, components.len())?;
     for item in &components.items {
         copies.push(copy_component(item, alloc)?)?;
     }

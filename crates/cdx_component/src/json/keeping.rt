@@ -64,7 +64,7 @@ pub(crate) fn keep_components(
 ) -> Result<Components, AllocError>
     ensures { IfOk result (λ r. components_tree r ≡ kept version label (components_tree held.now) (a_list components)) }
 {
-    let mut copies = Components::new(alloc);
+    let mut copies = Components::with_capacity(alloc, held.len())?;
     for item in &held.items {
         copies.push(keep_component(item, alloc, version, label)?)?;
     }

@@ -110,7 +110,7 @@ fn components_from_items(
     ensures { Gives components_tree result
         (list_read (items_view items.now.items) version (a_record component) (depth_of depth)) }
 {
-    let mut list = Components::new(alloc);
+    let mut list = Components::with_capacity(alloc, items.len())?;
     for (i, item) in items.iter().enumerate() {
         match read_component(alloc, item, version, depth) {
             Ok(held) => list.push(held)?,

@@ -45,7 +45,7 @@ pub(crate) fn write_components(
 ) -> Result<Value, AllocError>
     ensures { IfOk result (λ v. view v ≡ jspell (keep version (components_tree held.now) (a_list components)) version (a_list components)) }
 {
-    let mut values = Vec::new(alloc);
+    let mut values = Vec::with_capacity(alloc, held.len())?;
     for item in &held.items {
         values.push(write_component(item, alloc, version)?)?;
     }

@@ -55,7 +55,7 @@ pub(crate) fn keep_services(
 ) -> Result<Services, AllocError>
     ensures { IfOk result (λ r. services_tree r ≡ kept version label (services_tree held.now) (a_list services)) }
 {
-    let mut copies = Services::new(alloc);
+    let mut copies = Services::with_capacity(alloc, held.len())?;
     for item in &held.items {
         copies.push(keep_service(item, alloc, version, label)?)?;
     }

@@ -101,7 +101,7 @@ fn services_from_items(
     ensures { Gives services_tree result
         (list_read (items_view items.now.items) version (a_record service) (depth_of depth)) }
 {
-    let mut list = Services::new(alloc);
+    let mut list = Services::with_capacity(alloc, items.len())?;
     for (i, item) in items.iter().enumerate() {
         match read_service(alloc, item, version, depth) {
             Ok(held) => list.push(held)?,

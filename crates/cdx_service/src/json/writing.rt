@@ -42,7 +42,7 @@ pub(crate) fn write_services(
 ) -> Result<Value, AllocError>
     ensures { IfOk result (λ v. view v ≡ jspell (keep version (services_tree held.now) (a_list services)) version (a_list services)) }
 {
-    let mut values = Vec::new(alloc);
+    let mut values = Vec::with_capacity(alloc, held.len())?;
     for item in &held.items {
         values.push(write_service(item, alloc, version)?)?;
     }

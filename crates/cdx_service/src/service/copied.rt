@@ -92,7 +92,7 @@ pub(crate) fn copy_service(service: &Service, alloc: Global) -> Result<Service, 
 pub(crate) fn copy_services(services: &Services, alloc: Global) -> Result<Services, AllocError>
     ensures { IfOk result (λ r. services_tree r ≡ services_tree services.now) }
 {
-    let mut copies = Services::new(alloc);
+    let mut copies = Services::with_capacity(alloc, services.len())?;
     for item in &services.items {
         copies.push(copy_service(item, alloc)?)?;
     }

@@ -113,7 +113,7 @@ pub fn events_to_json(alloc: Global, events: &Events) -> Result<Value, AllocErro
     ensures { IfOk result (λ v. view v ≡ events_value events.now.list) }
 {
     let mut reader = EventReader::new(events);
-    let mut values = Vec::new(alloc);
+    let mut values = Vec::with_capacity(alloc, events.len())?;
     while let Some(event) = reader.next() {
         values.push(event.to_json(alloc)?)?;
     }
