@@ -8,3 +8,4 @@ pub mod Taking
 pub mod Taken
 pub mod Put
 pub mod Telling
+pub mod EmptyTexts

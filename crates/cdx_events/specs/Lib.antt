@@ -12,3 +12,4 @@ pub mod Counts
 pub mod Told
 pub mod Gather
 pub mod Send
+pub mod EmptyTexts

@@ -1,3 +1,5 @@
+//! Values that have copies.
+
 ghost use Rattle.std.specs.Prelude.{◌≡◌, IfOk};
 
 use std::alloc::{AllocError, Global};

@@ -1,3 +1,5 @@
+//! Events of XML documents.
+
 ghost use Rattle.std.specs.Prelude.{◌≡◌, IfOk};
 ghost use Rattle.cdx_events.specs.Event.{kind_of};
 
@@ -10,28 +12,44 @@ use std::alloc::{AllocError, Global};
 /// An event of an XML document.
 #[derive(Debug, Drop, PartialEq, Eq)]
 pub enum XmlEvent {
+    /// The document begins.
     StartDocument,
+    /// The document ends.
     EndDocument,
+    /// An element begins.
     StartElement {
+        /// The name in its start tag.
         name: OwnedName,
+        /// The attributes, in the order of the start tag.
         attributes: List<OwnedAttribute>,
+        /// What namespace stands without a prefix inside it.
         namespace: Namespace,
     },
+    /// An element ends.
     EndElement {
+        /// The name in its end tag.
         name: OwnedName,
     },
+    /// A text, with its references already put in.
     Characters(Text),
+    /// A text of a CDATA section.
     CData(Text),
 }
 
 /// What an event is, without its name or its text.
 #[derive(Clone, Copy, Debug, PartialEq, Eq)]
 pub enum EventKind {
+    /// The begin of the document.
     StartDocument,
+    /// The end of the document.
     EndDocument,
+    /// The begin of an element.
     StartElement,
+    /// The end of an element.
     EndElement,
+    /// A text.
     Characters,
+    /// A text of a CDATA section.
     CData,
 }
 

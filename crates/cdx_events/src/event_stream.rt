@@ -1,3 +1,5 @@
+//! Where events come from and go to.
+
 ghost use Rattle.std.specs.Prelude.{◌≡◌, List, ℕ, Option, [], ◌∷◌, MatchResult};
 ghost use Rattle.cdx_events.specs.declared.event.XmlEvent.{XmlEvent};
 ghost use Rattle.cdx_events.specs.Causes.{HasCause};
@@ -17,7 +19,8 @@ pub trait EventSource {
     /// Takes the first event that is left, or gives `None` exactly where none is. `Failed` comes only where the
     /// count rose, and leaves what is left.
     fn next(&mut self) -> Result<Option<XmlEvent>, Failed>
-        ensures events { MatchResult result (λ given. Gives (left self.old) (left self.new) given) (λ _. Keeps (left self.old) (left self.new)) }
+        ensures events { MatchResult result (λ given. Gives (left self.old) (left self.new) given)
+            (λ _. Keeps (left self.old) (left self.new)) }
         ensures cause { HasCause (faults self.old) (faults self.new) result };
 }
 
@@ -31,6 +34,8 @@ pub trait EventSink {
 
     /// Appends the event. `Failed` comes only where the count rose, and leaves what was written.
     fn put(&mut self, event: XmlEvent) -> Result<(), Failed>
-        ensures events { MatchResult result (λ _. Gains (written self.old) (written self.new) (event ∷ [])) (λ _. Keeps (written self.old) (written self.new)) }
+        ensures events { MatchResult result
+            (λ _. Gains (written self.old) (written self.new) (event ∷ []))
+            (λ _. Keeps (written self.old) (written self.new)) }
         ensures cause { HasCause (faults self.old) (faults self.new) result };
 }

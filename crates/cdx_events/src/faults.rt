@@ -1,3 +1,5 @@
+//! Counts of faults.
+
 ghost use Rattle.std.specs.Prelude.{◌≡◌, ◌≤◌};
 ghost use Rattle.cdx_events.specs.Counts.{one_more};
 

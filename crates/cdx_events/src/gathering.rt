@@ -1,3 +1,5 @@
+//! Taking a document from a source of events.
+
 ghost use Rattle.std.specs.Prelude.{◌≡◌};
 ghost use Rattle.cdx_events.specs.Gather.{is_end, Gathers, TakesEvents};
 
@@ -57,7 +59,8 @@ fn take_events<E: EventSource>(
     source: &mut E,
     budget: usize,
 ) -> Result<List<XmlEvent>, GatherError>
-    ensures { TakesEvents budget (E.left source.old) (E.left source.new) (E.faults source.old) (E.faults source.new) result }
+    ensures { TakesEvents budget (E.left source.old) (E.left source.new) (E.faults source.old)
+        (E.faults source.new) result }
 {
     let mut list = List::new(alloc);
     for taken in 0..budget {
@@ -87,7 +90,8 @@ pub fn gather<E: EventSource>(
     source: &mut E,
     budget: usize,
 ) -> Result<Events, GatherError>
-    ensures { Gathers budget (E.left source.old) (E.left source.new) (E.faults source.old) (E.faults source.new) result }
+    ensures { Gathers budget (E.left source.old) (E.left source.new) (E.faults source.old)
+        (E.faults source.new) result }
 {
     let list = take_events(alloc, source, budget)?;
     Ok(Events::from_list(alloc, list)?)

@@ -3,6 +3,7 @@
 
 mod balance;
 mod copied;
+mod empty_texts;
 mod event;
 mod event_stream;
 mod events;
@@ -22,6 +23,7 @@ mod writer;
 
 pub use balance::Balance;
 pub use copied::Copied;
+pub use empty_texts::without_empty_texts;
 pub use event::{EventKind, XmlEvent};
 pub use event_stream::{EventSink, EventSource};
 pub use events::{Events, EventsError};

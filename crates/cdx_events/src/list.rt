@@ -1,3 +1,5 @@
+//! Lists that can only grow.
+
 ghost use Rattle.std.specs.Prelude.{◌≡◌, [], ◌∷◌, ◌++◌, IfOk, OnOk, OnErr, length, ◌<◌, ◌^◌, slice_get, option_copied, is_some, nat_lt};
 
 use crate::copied::Copied;

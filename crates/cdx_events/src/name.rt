@@ -1,3 +1,5 @@
+//! Names, attributes and namespaces.
+
 ghost use Rattle.std.specs.Prelude.{◌≡◌, IfOk};
 ghost use Rattle.cdx_events.specs.Name.{local};
 
@@ -9,21 +11,27 @@ use std::alloc::{AllocError, Global};
 /// A name. Two names are equal where all three parts are.
 #[derive(Debug, Drop, PartialEq, Eq)]
 pub struct OwnedName {
+    /// The name without its prefix.
     pub local_name: Text,
+    /// The namespace that the prefix or the default stands for, where there is one.
     pub namespace: Option<Text>,
+    /// The prefix, where there is one.
     pub prefix: Option<Text>,
 }
 
 /// An attribute of a start tag.
 #[derive(Debug, Drop, PartialEq, Eq)]
 pub struct OwnedAttribute {
+    /// The name, as the document spells it.
     pub name: OwnedName,
+    /// The value, with its references already put in.
     pub value: Text,
 }
 
 /// The default namespace in scope.
 #[derive(Debug, Drop, PartialEq, Eq)]
 pub struct Namespace {
+    /// The namespace of names without a prefix, where there is one.
     pub default: Option<Text>,
 }
 

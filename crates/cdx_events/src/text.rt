@@ -1,3 +1,5 @@
+//! Texts.
+
 ghost use Rattle.std.specs.Prelude.{◌≡◌, IfOk, bytes_eq, string_bytes};
 
 use crate::copied::Copied;

@@ -16,6 +16,7 @@ pub struct AttachedText {
     pub content_type: Option<Text>,
     /// How `content` is encoded, as `base64`.
     pub encoding: Option<Text>,
+    /// The text, in that encoding.
     pub content: Text,
 }
 

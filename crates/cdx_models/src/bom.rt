@@ -13,8 +13,11 @@ use std::alloc::{AllocError, Global};
 /// A version of the format.
 #[derive(Clone, Copy, Debug, PartialEq, Eq)]
 pub enum SpecVersion {
+    /// Version 1.3.
     V1_3,
+    /// Version 1.4.
     V1_4,
+    /// Version 1.5.
     V1_5,
 }
 

@@ -31,7 +31,9 @@ pub enum BomError {
 /// A step of a path into a JSON value: to a member of an object, or to an item of an array, from 0.
 #[derive(Debug, Drop)]
 pub enum Step {
+    /// To the member of an object with this name.
     Member(Text),
+    /// To the item of an array, counted from 0.
     Item(usize),
 }
 
@@ -96,41 +98,59 @@ pub enum ReadKind {
 pub enum XmlReadError {
     /// The events could not be gathered, or are no document.
     ElementReadError {
+        /// Why no events could be had.
         kind: ReadKind,
+        /// The place of the event, counted from 0.
         place: usize,
     },
     /// An event that the format doesn't know there, in the innermost open element.
     UnexpectedElementReadError {
+        /// The place of the event, counted from 0.
         place: usize,
+        /// The local name of the element in which it is met.
         element: Text,
+        /// What stands there.
         found: EventKind,
     },
     /// An element lacks a required attribute, at its start, or a required child, at its end.
     RequiredDataMissing {
+        /// The place of the event, counted from 0.
         place: usize,
+        /// The local name of the element in which it is met.
         element: Text,
+        /// What is missing.
         required_field: Text,
     },
     /// Kept for the crate's sake, and never answered.
     RequiredAttributeMissing {
+        /// The place of the event, counted from 0.
         place: usize,
+        /// The local name of the element in which it is met.
         element: Text,
+        /// The local name of the attribute.
         attribute: Text,
     },
     /// A text that is no value of the data type, in the attribute or the element of this name.
     InvalidParseError {
+        /// The place of the event, counted from 0.
         place: usize,
+        /// The local name of the element in which it is met.
         element: Text,
+        /// The text that is no such value.
         value: Text,
+        /// What the text should be.
         data_type: Text,
     },
     /// The root's default namespace isn't that of the version.
     InvalidNamespaceError {
+        /// The namespace of the version.
         expected_namespace: Text,
+        /// The default namespace of the root, where there is one.
         actual_namespace: Option<Text>,
     },
     /// A component stands inside 32 components, or a service inside 32 services.
     TooDeep {
+        /// The place of the event, counted from 0.
         place: usize,
     },
     /// Memory ran out.
@@ -197,7 +217,8 @@ impl XmlReadError {
         required_field: &str,
         element: &OwnedName,
     ) -> Result<XmlReadError, AllocError>
-        ensures { IfOk result (λ e. e ≡ XmlReadError.RequiredDataMissing place element.now.local_name required_field.now) }
+        ensures { IfOk result (λ e. e ≡ XmlReadError.RequiredDataMissing place
+            element.now.local_name required_field.now) }
     {
         Ok(XmlReadError::RequiredDataMissing {
             place,

@@ -84,7 +84,9 @@ impl PartialEq for Uri {
 pub struct ExternalReference {
     /// What the resource is, as `website`.
     pub external_reference_type: Text,
+    /// Where it leads.
     pub url: Uri,
+    /// What there is to say of it.
     pub comment: Option<Text>,
     /// Hashes of the resource's content.
     pub hashes: Option<Hashes>,
@@ -135,6 +137,7 @@ impl PartialEq for ExternalReference {
     }
 }
 
+/// External references, in order.
 #[derive(Debug, Drop)]
 pub struct ExternalReferences(pub List<ExternalReference>);
 

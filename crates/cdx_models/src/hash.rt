@@ -42,6 +42,7 @@ impl PartialEq for HashValue {
 pub struct Hash {
     /// The algorithm, as `SHA-256`.
     pub alg: Text,
+    /// The value, as the algorithm gives it.
     pub content: HashValue,
 }
 
@@ -72,6 +73,7 @@ impl PartialEq for Hash {
     }
 }
 
+/// Hashes, in order.
 #[derive(Debug, Drop)]
 pub struct Hashes(pub List<Hash>);
 

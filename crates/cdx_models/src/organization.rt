@@ -14,8 +14,11 @@ use std::alloc::{AllocError, Global};
 pub struct OrganizationalContact {
     /// The name by which the rest of the bill refers to it.
     pub bom_ref: Option<Text>,
+    /// The name of the person or the role.
     pub name: Option<Text>,
+    /// The address for mail.
     pub email: Option<Text>,
+    /// The number to call.
     pub phone: Option<Text>,
 }
 
@@ -68,9 +71,11 @@ impl PartialEq for OrganizationalContact {
 pub struct OrganizationalEntity {
     /// The name by which the rest of the bill refers to it.
     pub bom_ref: Option<Text>,
+    /// The name of the organization.
     pub name: Option<Text>,
     /// The organization's addresses in the web.
     pub url: Option<List<Text>>,
+    /// Whom to ask there.
     pub contact: Option<List<OrganizationalContact>>,
 }
 
@@ -89,7 +94,8 @@ impl Drop for OrganizationalEntity {
 impl OrganizationalEntity {
     /// The organization with this name and nothing else.
     pub fn new(alloc: Global, name: &str) -> Result<OrganizationalEntity, AllocError>
-        ensures { IfOk result (λ r. r ≡ record { bom_ref = None; name = Some name.now; url = None; contact = None }) }
+        ensures { IfOk result
+            (λ r. r ≡ record { bom_ref = None; name = Some name.now; url = None; contact = None }) }
     {
         Ok(OrganizationalEntity {
             bom_ref: None,

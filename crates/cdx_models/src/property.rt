@@ -14,6 +14,7 @@ use std::alloc::{AllocError, Global};
 pub struct Property {
     /// It may be there more than once in a list.
     pub name: Text,
+    /// What stands under the name.
     pub value: Text,
 }
 
@@ -44,6 +45,7 @@ impl PartialEq for Property {
     }
 }
 
+/// Properties, in order; a name may stand more than once.
 #[derive(Debug, Drop)]
 pub struct Properties(pub List<Property>);
 

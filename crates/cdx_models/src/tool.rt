@@ -14,9 +14,13 @@ use std::alloc::{AllocError, Global};
 /// A tool that took part in making the bill.
 #[derive(Debug)]
 pub struct Tool {
+    /// Who makes it.
     pub vendor: Option<Text>,
+    /// Its name.
     pub name: Option<Text>,
+    /// Its own version.
     pub version: Option<Text>,
+    /// The hashes of its file.
     pub hashes: Option<Hashes>,
     /// Known from 1.4 on.
     pub external_references: Option<ExternalReferences>,
@@ -36,7 +40,14 @@ impl Drop for Tool {
 }
 
 impl Default for Tool {
-    ghost is_default = { λ tool. tool ≡ record { vendor = None; name = None; version = None; hashes = None; external_references = None } };
+    ghost is_default = { λ tool. tool ≡ record {
+      vendor = None;
+      name = None;
+      version = None;
+      hashes =
+          None;
+      external_references = None;
+    } };
 
     /// The tool without any field.
     fn default() -> Tool {

@@ -1,3 +1,5 @@
+//! A sink of events in memory.
+
 ghost use Rattle.std.specs.Prelude.{◌≡◌, [], ◌∷◌, not, is_ok, IfOk, Some, MatchResult};
 ghost use Rattle.cdx_events.specs.Causes.{HasCause};
 ghost use Rattle.cdx_events.specs.Counts.{AfterCall};
@@ -15,7 +17,12 @@ impl MemoryEventSink {
     /// Reserves room for so many events. The calls whose numbers, from 1, stand in `fails` fail, and those for
     /// which there is no room. Only want of memory refuses.
     pub fn new(alloc: Global, room: usize, fails: List<u64>) -> Result<MemoryEventSink, AllocError>
-        ensures { IfOk result (λ s. s ≡ record { written = []; room = room; counts = record { fails = fails; calls = 0; faults = 0 } }) }
+        ensures { IfOk result (λ s. s ≡ record {
+          written = [];
+          room = room;
+          counts = record
+              { fails = fails; calls = 0; faults = 0 };
+        }) }
     {
         Ok(MemoryEventSink {
             held: Vec::with_capacity(alloc, room)?,
@@ -45,7 +52,9 @@ impl EventSink for MemoryEventSink {
     ghost faults = { λ s. s.counts.faults };
 
     fn put(&mut self, event: XmlEvent) -> Result<(), Failed>
-        ensures events { MatchResult result (λ _. Gains (Some self.old.written) (Some self.new.written) (event ∷ [])) (λ _. Keeps (Some self.old.written) (Some self.new.written)) }
+        ensures events { MatchResult result
+            (λ _. Gains (Some self.old.written) (Some self.new.written) (event ∷ []))
+            (λ _. Keeps (Some self.old.written) (Some self.new.written)) }
         ensures cause { HasCause self.old.counts.faults self.new.counts.faults result }
         // Exactly the calls that are told, and those for which there is no room, fail.
         ensures exact { is_ok result ≡ not (event_put_fails self.old) }

@@ -1,3 +1,5 @@
+//! A source of events in memory.
+
 ghost use Rattle.std.specs.Prelude.{◌≡◌, not, is_ok, Some, MatchResult};
 ghost use Rattle.cdx_events.specs.Causes.{HasCause};
 ghost use Rattle.cdx_events.specs.Counts.{is_told, AfterCall};
@@ -14,7 +16,8 @@ impl MemoryEventSource {
     /// Gives the events in order. Exactly the calls whose numbers, from 1, stand in `fails` fail. It takes no
     /// memory.
     pub fn new(events: List<XmlEvent>, fails: List<u64>) -> MemoryEventSource
-        ensures { result ≡ record { left = events; counts = record { fails = fails; calls = 0; faults = 0 } } }
+        ensures { result
+            ≡ record { left = events; counts = record { fails = fails; calls = 0; faults = 0 } } }
     {
         MemoryEventSource {
             waiting: VecDeque::from(events.into_vec()),
@@ -36,7 +39,9 @@ impl EventSource for MemoryEventSource {
     ghost faults = { λ s. s.counts.faults };
 
     fn next(&mut self) -> Result<Option<XmlEvent>, Failed>
-        ensures events { MatchResult result (λ given. Gives (Some self.old.left) (Some self.new.left) given) (λ _. Keeps (Some self.old.left) (Some self.new.left)) }
+        ensures events { MatchResult result
+            (λ given. Gives (Some self.old.left) (Some self.new.left) given)
+            (λ _. Keeps (Some self.old.left) (Some self.new.left)) }
         ensures cause { HasCause self.old.counts.faults self.new.counts.faults result }
         // Exactly the calls that are told fail.
         ensures exact { is_ok result ≡ not (is_told self.old.counts) }

@@ -1,3 +1,5 @@
+//! A sink that drops what it is given.
+
 ghost use Rattle.std.specs.Prelude.{◌≡◌, length, None};
 
 use super::NullSink;

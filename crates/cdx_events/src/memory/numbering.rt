@@ -1,3 +1,5 @@
+//! The numbers of calls, and which of them fails.
+
 ghost use Rattle.std.specs.Prelude.{◌≡◌, ◌≤◌, not, is_ok};
 ghost use Rattle.cdx_events.specs.Causes.{HasCause};
 ghost use Rattle.cdx_events.specs.Counts.{Counts, is_told, one_more, AfterCall};

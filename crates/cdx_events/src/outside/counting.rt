@@ -1,3 +1,5 @@
+//! What a reader or a writer answers, with a count of what failed.
+
 ghost use Rattle.std.specs.Prelude.{◌≡◌, ◌≤◌, ◌<◌, length, IfOk, None};
 ghost use Rattle.std.specs.Io.{ReadsAtMost, WritesAtMost};
 ghost use Rattle.std.specs.Io.KnownBytes.{ReadConsumes, WriteAppends, Keeps};
@@ -35,7 +37,8 @@ impl<R: Read> Source for ReadSource<R> {
 
     fn take(&mut self, buf: &mut [u8]) -> Result<usize, Failed>
         ensures bound { ReadsAtMost result buf.new }
-        ensures bytes { ReadConsumes (R.remaining self.old.object) (R.remaining self.new.object) result buf.new }
+        ensures bytes { ReadConsumes (R.remaining self.old.object) (R.remaining self.new.object)
+            result buf.new }
         ensures cause { HasCause self.old.faults self.new.faults result }
         ensures count { self.new.faults ≡ counted self.old.faults result }
     {
@@ -76,7 +79,8 @@ impl<W: Write> Sink for WriteSink<W> {
     fn put(&mut self, bytes: &[u8]) -> Result<usize, Failed>
         ensures bound { WritesAtMost result bytes.now }
         ensures some { IfOk result (λ n. 0 < length bytes.now → 0 < n) }
-        ensures bytes { WriteAppends (W.contents self.old.object) (W.contents self.new.object) result bytes.now }
+        ensures bytes { WriteAppends (W.contents self.old.object) (W.contents self.new.object)
+            result bytes.now }
         ensures cause { HasCause self.old.faults self.new.faults result }
         ensures count { self.new.faults ≡ counted self.old.faults result }
     {
