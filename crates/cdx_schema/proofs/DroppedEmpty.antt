@@ -1,5 +1,5 @@
 -- Where each attached text, license id and license name stands in the spelling without empty texts, none is empty.
-use Rattle.std.specs.Prelude.{◌≡◌, refl, ℕ, suc, ◌+◌, List, [], ◌∷◌, ◌++◌, length, Bool, true, false, not, ◌&&◌, ◌||◌, if◌then◌else◌, ◌⊎◌, Option, Some, None, codes}
+use Rattle.std.specs.Prelude.{◌≡◌, refl, ℕ, suc, ◌+◌, List, [], ◌∷◌, ◌++◌, Bool, true, false, not, ◌&&◌, ◌||◌, if◌then◌else◌, ◌⊎◌, Option, Some, None, codes}
 use Rattle.std.proofs.Common.{true≢false, inl, inr}
 use Rattle.std.specs.Str.{bytes_eq}
 use mathlib.Core.Path.{ap, sym, ◌∙◌, subst}
@@ -16,11 +16,12 @@ use Rattle.cdx_models.specs.declared.errors.XmlReadError.{XmlReadError}
 use Rattle.cdx_schema.specs.Trips.{is_hollow, is_passed_over}
 use Rattle.cdx_schema.specs.XmlReading.{Plan, find_child, record_plan, plan_of_list, tools_plan, content_from}
 use Rattle.cdx_schema.specs.XmlSpelling.{nodes_of, items_nodes, fields_nodes, row_nodes, wrapped, lone, tag_of, named}
-use Rattle.cdx_schema.specs.Dropped.{lean, lean_nodes, earlier, record_hole, child_hole, node_hole, hole, holes, has_empty, have_empty, any_empty}
-use Rattle.cdx_schema.proofs.JsonBack.{is_in, distinct, same_itself, or_false, if_true, if_false, apart_first, is_in_first, and_true, same_name, Held, AllHeld, FieldsHeld, RowHeld}
+use Rattle.cdx_events.specs.EmptyTexts.{lean, lean_nodes}
+use Rattle.cdx_schema.specs.Dropped.{earlier, record_hole, child_hole, node_hole, hole, holes, has_empty, have_empty, any_empty}
+use Rattle.cdx_schema.proofs.JsonBack.{if_true, and_true, same_name, Held, AllHeld, FieldsHeld, RowHeld}
 use Rattle.cdx_schema.proofs.XmlBack.{row_written}
 use Rattle.cdx_schema.proofs.XmlLaw.{is_plain, tag_plain, optional_text}
-use Rattle.cdx_schema.proofs.JsonBack.{one_text_of, required_held, held_text, IsTextHeld, IsNumberHeld}
+use Rattle.cdx_schema.proofs.JsonBack.{one_text_of}
 use Rattle.cdx_schema.proofs.HeldKept.{held_kept, fits_first}
 use Rattle.cdx_schema.specs.Membership.{IsListOf}
 use Rattle.cdx_schema.specs.Keeping.{keep}

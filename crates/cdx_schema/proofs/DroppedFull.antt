@@ -16,7 +16,8 @@ use Rattle.cdx_models.specs.declared.errors.XmlReadError.{XmlReadError}
 use Rattle.cdx_schema.specs.Trips.{is_hollow, is_passed_over}
 use Rattle.cdx_schema.specs.XmlReading.{Plan, Child, Place, last, all, once, find_child, row_children, record_plan, plan_of_list, tools_plan, data_plan, signature_plan, content_from}
 use Rattle.cdx_schema.specs.XmlSpelling.{nodes_of, items_nodes, fields_nodes, row_nodes, wrapped, lone, tag_of, named}
-use Rattle.cdx_schema.specs.Dropped.{lean, lean_nodes, earlier, record_hole, child_hole, node_hole, hole, holes, has_empty, have_empty, any_empty}
+use Rattle.cdx_events.specs.EmptyTexts.{lean, lean_nodes}
+use Rattle.cdx_schema.specs.Dropped.{earlier, record_hole, child_hole, node_hole, hole, holes, has_empty, have_empty, any_empty}
 use Rattle.cdx_schema.proofs.JsonBack.{is_in, distinct, same_itself, or_false, apart_first, is_in_first, and_true, same_name, Held, AllHeld, FieldsHeld, RowHeld}
 use Rattle.cdx_schema.proofs.XmlBack.{child_names, all_child_names, find_row, finds_first, passes_first, plan_of, append_lists, names_append, row_written, child_names_distinct}
 use Rattle.cdx_schema.proofs.XmlLaw.{is_plain, tag_plain, finds_list, finds_tool, not_false, optional_text}

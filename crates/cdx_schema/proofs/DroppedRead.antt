@@ -17,7 +17,8 @@ use Rattle.cdx_models.specs.Entries.{entry_of}
 use Rattle.cdx_schema.specs.JsonReading.{is_required}
 use Rattle.cdx_schema.specs.XmlTexts.{boolean_of, number_of, boolean_tree, of_text}
 use Rattle.cdx_schema.specs.XmlReading.{Reading, Child, Plan, record_plan, plan_of_list, tools_plan, data_plan, signature_plan, no_plan, find_child, stored, stray, unknown, is_second, child_read, find_attribute, parsed, attribute_read, attribute_or_read, row_attribute, attributes_read, in_force, after_text, text_in, exact_text, Content, no_content, any_text, one_text_alone, content_from, owed, lacks, lacking_row, filled, ended, Element, end_of, text_read, number_alone, number_in, list_of, content_read, record_so_far, record_read, tools_object_of, tools_of, data_of, signature_of, in_namespace, kind_read, xread, nodes_read, xml_denotes}
-use Rattle.cdx_schema.specs.Dropped.{lean, lean_nodes, earlier, if_nothing, record_hole, kind_hole, child_hole, hole, holes, unless}
+use Rattle.cdx_events.specs.EmptyTexts.{lean, lean_nodes}
+use Rattle.cdx_schema.specs.Dropped.{earlier, if_nothing, record_hole, kind_hole, child_hole, hole, holes, unless}
 use Rattle.cdx_events.specs.declared.event.EventKind.TheVariants as kinds
 use Rattle.cdx_events.specs.declared.name.OwnedAttribute.{OwnedAttribute}
 use Rattle.cdx_events.specs.declared.name.OwnedName.{OwnedName}

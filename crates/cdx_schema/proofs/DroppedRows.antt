@@ -3,7 +3,8 @@ use Rattle.std.specs.Prelude.{◌≡◌, refl, [], ◌∷◌, codes, Some}
 use Rattle.cdx_models.specs.declared.bom.SpecVersion.TheVariants.{V1_5}
 use Rattle.cdx_schema.specs.Kinds.{a_bill}
 use Rattle.cdx_schema.specs.Faults.{unexpected}
-use Rattle.cdx_schema.specs.Dropped.{lean, hole}
+use Rattle.cdx_events.specs.EmptyTexts.{lean}
+use Rattle.cdx_schema.specs.Dropped.{hole}
 use Rattle.cdx_schema.proofs.Literals.{◌⊳◌, at, el, tag, txt, leaf, bom, reading_on_literals}
 use Rattle.cdx_events.specs.declared.event.EventKind.TheVariants as kinds
 use Rattle.cdx_events.specs.Nodes.{Node, no_nodes}

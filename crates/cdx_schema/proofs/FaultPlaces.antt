@@ -86,7 +86,7 @@ row_place r as' v around p f h = by r.xml h
     by the_version g = known_place (knows r.since v) (Ok (text (label v))) f p g (λ i. ok_err i)
     by _ g = ok_err g
 
-attributes_place : (rs : List Row) (as' : List OwnedAttribute) (v : SpecVersion) (around : List ℕ) (p : ℕ) (f : XmlReadError) → attributes_read rs as' v around p ≡ Err f → fault_place f ≡ p
+pub attributes_place : (rs : List Row) (as' : List OwnedAttribute) (v : SpecVersion) (around : List ℕ) (p : ℕ) (f : XmlReadError) → attributes_read rs as' v around p ≡ Err f → fault_place f ≡ p
 unfolding attributes_read
 attributes_place [] as' v around p f h = ok_err h
 attributes_place (r ∷ rs) as' v around p f h =
@@ -102,7 +102,7 @@ either_place : (b : Bool) (r s : Result Trees XmlReadError) (f : XmlReadError) (
 either_place true r s f p h g k = g h
 either_place false r s f p h g k = k h
 
-ended_place : (rs : List Row) (ts : Trees) (v : SpecVersion) (around : List ℕ) (p : ℕ) (f : XmlReadError) → ended rs ts v around p ≡ Err f → fault_place f ≡ p
+pub ended_place : (rs : List Row) (ts : Trees) (v : SpecVersion) (around : List ℕ) (p : ℕ) (f : XmlReadError) → ended rs ts v around p ≡ Err f → fault_place f ≡ p
 unfolding ended
 ended_place [] ts v around p f h = ok_err h
 ended_place (r ∷ rs) none v around p f h = ok_err h
@@ -384,7 +384,7 @@ find_no_bill v q (c ∷ cs) h =
     by i true g = i
     by i false g = g
 
-stray_place : (r : Rule) (s : EventKind) (around : List ℕ) (p : ℕ) (ts : Trees) (f : XmlReadError) → stray r s around p ts ≡ Err f → fault_place f ≡ p
+pub stray_place : (r : Rule) (s : EventKind) (around : List ℕ) (p : ℕ) (ts : Trees) (f : XmlReadError) → stray r s around p ts ≡ Err f → fault_place f ≡ p
 stray_place passing s around p ts f h = ok_err h
 stray_place lax s around p ts f h = ap fault_place (sym (err_same h))
 stray_place strict s around p ts f h = ap fault_place (sym (err_same h))

@@ -11,7 +11,6 @@ use Rattle.cdx_schema.specs.Kinds.{Kind, a_text, a_boolean, a_number, a_version,
 use Rattle.cdx_schema.specs.Table.{rows}
 use Rattle.cdx_schema.specs.Held.{held_kind}
 use Rattle.cdx_models.specs.Entries.{is_flow}
-use Rattle.cdx_schema.specs.Faults.{JsonFault}
 use Rattle.cdx_schema.specs.Depth.{Depth, inside, name_too_deep}
 use Rattle.cdx_schema.specs.JsonReading.{jread, when_nothing}
 use Rattle.cdx_schema.specs.JsonSpelling.{jspell, is_written}

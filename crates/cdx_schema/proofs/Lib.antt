@@ -46,3 +46,14 @@ pub mod DroppedLaw
 pub mod DroppedFull
 pub mod DroppedEmpty
 mod DroppedRows
+pub mod PlainNames
+pub mod EarlyBalance
+pub mod EarlyFaults
+pub mod EarlyLaws
+pub mod EarlyRoot
+pub mod EarlyFrames
+pub mod EarlyEnds
+pub mod EarlyStated
+pub mod EarlyClosed
+mod EarlyRows
+pub mod EarlySoon

@@ -16,7 +16,7 @@ use Rattle.cdx_schema.specs.XmlTexts.{number_of}
 use Rattle.cdx_schema.specs.XmlReading.{Reading, Child, Plan, find_child, stored, is_second, child_read, node_read, after_text, text_in, number_alone, number_in, record_read, in_namespace, xread, nodes_read, xml_denotes}
 use Rattle.cdx_schema.specs.Membership.{Never}
 use Rattle.cdx_schema.specs.Locality.{fault_place, root_of, IsLocal, StandsInside}
-use Rattle.cdx_schema.proofs.FaultPlaces.{ok_err, err_same, bind_err, err_bind, no_bill, no_bills, elem, kind_out, record_out, after_place, text_within, number_within, NoBillIn, find_no_bill, nodes_within, denoted_within}
+use Rattle.cdx_schema.proofs.FaultPlaces.{ok_err, err_same, bind_err, err_bind, no_bill, no_bills, elem, kind_out, record_out, after_place, text_within, number_within, NoBillIn, find_no_bill, nodes_within, xread_within, denoted_within}
 use Rattle.cdx_events.specs.declared.event.EventKind.TheVariants as kinds
 use Rattle.cdx_events.specs.declared.name.OwnedAttribute.{OwnedAttribute}
 use Rattle.cdx_events.specs.declared.event.XmlEvent.{XmlEvent}
@@ -367,7 +367,7 @@ same_front (suc n) (e ∷ es) rest l = (refl, same_front n es rest (omega (arith
 same_front (suc n) [] rest l = absurd (omega (arith, l))
 
 mutual
-  length_events : (x : Node) → length (events_of x) ≡ places x
+  pub length_events : (x : Node) → length (events_of x) ≡ places x
   length_events (characters t) = refl
   length_events (cdata t) = refl
   length_events (element n as' c xs) = ap suc (length-append (events_of_all xs) (EndElement n ∷ []) ∙ (ap (λ i. i + 1) (length_all xs) ∙ one_more (places_of xs)))
@@ -375,11 +375,11 @@ mutual
       one_more : (i : ℕ) → i + 1 ≡ suc i
       one_more i = omega arith
 
-  length_all : (xs : Nodes) → length (events_of_all xs) ≡ places_of xs
+  pub length_all : (xs : Nodes) → length (events_of_all xs) ≡ places_of xs
   length_all no_nodes = refl
   length_all (node x xs) = length-append (events_of x) (events_of_all xs) ∙ (ap (λ i. i + length (events_of_all xs)) (length_events x) ∙ ap (λ i. places x + i) (length_all xs))
 
-length_document : (x : Node) → length (document x) ≡ suc (places x + 1)
+pub length_document : (x : Node) → length (document x) ≡ suc (places x + 1)
 length_document x = ap suc (length-append (events_of x) (EndDocument ∷ []) ∙ ap (λ i. i + 1) (length_events x))
 
 pub stands_inside : StandsInside
@@ -390,3 +390,16 @@ local_faults events b v f h rest c = local_same (root_of b) (root_of c) v f h
     (subst (λ (es : List XmlEvent). AreSame (suc (fault_place f)) es (document (root_of c))) b.whole
     (subst (λ (es : List XmlEvent). AreSame (suc (fault_place f)) events es) c.whole
     (same_front (suc (fault_place f)) events rest (stands_inside events b v f h))))
+
+-- ---- one element
+
+same_begin : (es rest rest' : List XmlEvent) → AreSame (length es) (es ++ rest) (es ++ rest')
+same_begin [] rest rest' = tt
+same_begin (e ∷ es) rest rest' = (refl, same_begin es rest rest')
+
+-- A first fault of an element depends on no event after its place, whatever comes after the element.
+pub element_local : (es rest rest' r r' : List XmlEvent) (x y : Node) (v : SpecVersion) (k : Kind) (s : ℕ) (d : Depth) (f : XmlReadError) → no_bill k ≡ true → events_of x ++ r ≡ es ++ rest → events_of y ++ r' ≡ es ++ rest' → fault_place f < s + length es → xread x v k s d ≡ Err f → xread y v k s d ≡ Err f
+element_local [] rest rest' r r' x y v k s d f b g h l i = absurd (omega (arith, l, (xread_within x v k s d f b i).0))
+element_local (e ∷ es) rest rest' r r' x y v k s d f b g h l i =
+    xread_agree x y (fault_place f) v k s d f b (le_self (fault_place f))
+    (node_parts x y (fault_place f) s (length es) r r' (omega (arith, l)) (subst (λ (a : List XmlEvent). AreSame (suc (length es)) a (events_of y ++ r')) (sym g) (subst (λ (a : List XmlEvent). AreSame (suc (length es)) ((e ∷ es) ++ rest) a) (sym h) (same_begin (e ∷ es) rest rest')))).0 i

@@ -4,7 +4,7 @@ use Rattle.std.proofs.Common.{true≢false, Ordering, Less, Equal, Greater}
 use Rattle.std.specs.Ordering.{nat_cmp, match_ordering}
 use Rattle.std.specs.Cmp.Lexicographic.{slice_cmp}
 use mathlib.Core.Path.{ap, ◌∙◌}
-use Rattle.serde_json.specs.Data.{Data, Items, Members, no_members, put}
+use Rattle.serde_json.specs.Data.{Data, Members, no_members, put}
 use Rattle.serde_json.specs.Data as json
 use Rattle.cdx_models.specs.declared.bom.SpecVersion.{SpecVersion}
 use Rattle.cdx_models.specs.Trees.{Name, license, bill, Tree, absent, text, number, boolean, items, fields, Trees, none, more}

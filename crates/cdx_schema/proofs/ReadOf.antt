@@ -15,7 +15,7 @@ use Rattle.cdx_schema.specs.Kinds.{signer_list, chain_list, tool_list, Kind, a_t
 use Rattle.cdx_schema.specs.Table.{rows, list}
 use Rattle.cdx_schema.specs.Results.{◌>>=◌}
 use Rattle.cdx_models.specs.declared.errors.Step.{Step}
-use Rattle.cdx_schema.specs.Faults.{JsonFault, to_member, to_item, under, here, missing, wrong_kind, out_of_range, bad_spec_version, too_deep}
+use Rattle.cdx_schema.specs.Faults.{JsonFault, to_member, to_item, under, here, wrong_kind, out_of_range, bad_spec_version, too_deep}
 use Rattle.cdx_schema.specs.Depth.{Depth, top, inside, name_too_deep, is_too_deep}
 use Rattle.cdx_models.specs.Entries.{is_flow, entry_of}
 use Rattle.cdx_schema.specs.JsonReading.{Reading, Found, nothing, a_null, found, Object, jread, items_read, seen, as_found, rows_read, row_read, member_read, found_read, when_nothing, when_null, own_read, no_own, record_read, under_name, id_read, name_read, is_lone_license, choice_read, license_read, signature_read, chain_read, tools_read, entry_read, bill_read, format_read, object_read, text_read, boolean_read, integer_read, number_read, version_read, item_kind, array_read, json_denotes, first_float}

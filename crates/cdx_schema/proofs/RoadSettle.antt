@@ -24,7 +24,7 @@ use Rattle.cdx_schema.proofs.Alike.{kept_alike}
 use Rattle.cdx_schema.proofs.BareTwice.{bare_twice}
 use Rattle.cdx_schema.proofs.Written.{is_low, kept_low, root_alike}
 use Rattle.cdx_schema.proofs.Unwritten.{root_unsupplied}
-use Rattle.cdx_schema.proofs.RoadAfter.{lowest_sym, lowest_more, kept_trips, after_more, taken, IsNext, hop, fits_all_alike}
+use Rattle.cdx_schema.proofs.RoadAfter.{lowest_sym, lowest_more, kept_trips, after_more, IsNext, hop, fits_all_alike}
 use Rattle.cdx_schema.proofs.RoadJoin.{Known, known, choose, refuted, road_fails, road_lacks, road_leads}
 
 -- ---- counts
@@ -165,13 +165,13 @@ same_at in_xml b g h a c of p q versions lows counts =
 -- ---- the documents of a road
 
 low_alike : (w : SpecVersion) (x y s t : Tree) → is_low w ≡ true → settled x a_bill ≡ settled s a_bill → settled y a_bill ≡ settled t a_bill → keep w s a_bill ≡ keep w t a_bill
-    → IsAlike (written in_json w (keep w x a_bill)) (written in_json w (keep w y a_bill))
+    → IsAlike w (written in_json w (keep w x a_bill)) (written in_json w (keep w y a_bill))
 low_alike w x y s t l p q e = inl (ap (λ z. json (jspell z w a_bill)) (kept_low w w x s a_bill l p ∙ (e ∙ sym (kept_low w w y t a_bill l q))))
 
-written_alike : (f : Form) (w : SpecVersion) (x y s t : Tree) → settled x a_bill ≡ settled s a_bill → settled y a_bill ≡ settled t a_bill → SameAt f w s t → IsAlike (written f w (keep w x a_bill)) (written f w (keep w y a_bill))
+written_alike : (f : Form) (w : SpecVersion) (x y s t : Tree) → settled x a_bill ≡ settled s a_bill → settled y a_bill ≡ settled t a_bill → SameAt f w s t → IsAlike w (written f w (keep w x a_bill)) (written f w (keep w y a_bill))
 written_alike in_json V1_3 x y s t p q e = low_alike V1_3 x y s t refl p q e
 written_alike in_json V1_4 x y s t p q e = low_alike V1_4 x y s t refl p q e
-written_alike in_json V1_5 x y s t p q e = inr (keep V1_5 x a_bill, keep V1_5 y a_bill, refl, refl, kept_alike V1_5 V1_5 x s a_bill p ∙ (ap (λ z. settled z a_bill) e ∙ sym (kept_alike V1_5 V1_5 y t a_bill q)))
+written_alike in_json V1_5 x y s t p q e = inr (refl, (keep V1_5 x a_bill, keep V1_5 y a_bill, refl, refl, kept_alike V1_5 V1_5 x s a_bill p ∙ (ap (λ z. settled z a_bill) e ∙ sym (kept_alike V1_5 V1_5 y t a_bill q))))
 written_alike in_xml w x y s t p q e = inl (ap xml (root_alike (keep w x a_bill) (keep w s a_bill) w (kept_alike w w x s a_bill p) ∙ (e ∙ sym (root_alike (keep w y a_bill) (keep w t a_bill) w (kept_alike w w y t a_bill q)))))
 
 nothing_more : (hs : List Hop) → hs ++ [] ≡ hs
@@ -225,6 +225,6 @@ roads_settle bills x v g g' h h' a c docs docs' o o' forms versions lows counts 
     let q : (d : Tree) × (doc_after h docs' x ≡ written c.form c.version (keep c.version d a_bill)) × (settled d a_bill ≡ settled (after_all n.0 h) a_bill) = n.3 in
     let one : n.0 ≡ b = ok_same (sym n.1 ∙ m.1) in
     let left : doc_after g docs x ≡ written c.form c.version (keep c.version p.0 a_bill) = p.1 ∙ (ap (λ f. written f a.version (keep a.version p.0 a_bill)) forms ∙ ap (λ w. written c.form w (keep w p.0 a_bill)) versions) in
-    let both : IsAlike (written c.form c.version (keep c.version p.0 a_bill)) (written c.form c.version (keep c.version q.0 a_bill)) =
+    let both : IsAlike c.version (written c.form c.version (keep c.version p.0 a_bill)) (written c.form c.version (keep c.version q.0 a_bill)) =
     written_alike c.form c.version p.0 q.0 (after_all b g) (after_all b h) p.2 (q.2 ∙ ap (λ t. settled (after_all t h) a_bill) one) (same_at c.form b g h a c m.2 forms refl versions lows counts) in
-    subst (λ (y : Doc). IsAlike y (doc_after h docs' x)) (sym left) (subst (λ (y : Doc). IsAlike (written c.form c.version (keep c.version p.0 a_bill)) y) (sym q.1) both)
+    subst (λ (y : Doc). IsAlike c.version y (doc_after h docs' x)) (sym left) (subst (λ (y : Doc). IsAlike c.version (written c.form c.version (keep c.version p.0 a_bill)) y) (sym q.1) both)

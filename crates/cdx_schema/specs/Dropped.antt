@@ -8,8 +8,7 @@ use Rattle.cdx_schema.specs.Table.{rows}
 use Rattle.cdx_models.specs.declared.errors.XmlReadError.{XmlReadError}
 use Rattle.cdx_events.specs.declared.event.EventKind.TheVariants as kinds
 use Rattle.cdx_schema.specs.Faults.{unexpected}
-use Rattle.cdx_events.specs.declared.event.XmlEvent.{XmlEvent}
-use Rattle.cdx_events.specs.declared.event.XmlEvent.TheVariants.{Characters, CData}
+use Rattle.cdx_events.specs.EmptyTexts.{without_empty, lean}
 use Rattle.cdx_events.specs.Nodes.{Node, characters, cdata, element, Nodes, no_nodes, node, document}
 use Rattle.cdx_schema.specs.Nodes.{places}
 use Rattle.cdx_schema.specs.Depth.{top}
@@ -17,24 +16,6 @@ use Rattle.cdx_schema.specs.Membership.{HasShape}
 use Rattle.cdx_schema.specs.Keeping.{keep, fits, is_shallow}
 use Rattle.cdx_schema.specs.XmlSpelling.{root}
 use Rattle.cdx_schema.specs.XmlReading.{xml_denotes, Plan, Child, find_child, plan_of_list, record_plan, tools_plan, data_plan, signature_plan, no_plan, Content, no_content, any_text, one_text_alone, content_from}
-
-abbrev pub without_empty : List XmlEvent → List XmlEvent
-without_empty [] = []
-without_empty (Characters [] ∷ es) = without_empty es
-without_empty (CData [] ∷ es) = without_empty es
-without_empty (e ∷ es) = e ∷ without_empty es
-
-abbrev mutual
-  pub lean : Node → Node
-  lean (characters s) = characters s
-  lean (cdata s) = cdata s
-  lean (element n as' default xs) = element n as' default (lean_nodes xs)
-
-  pub lean_nodes : Nodes → Nodes
-  lean_nodes no_nodes = no_nodes
-  lean_nodes (node (characters []) xs) = lean_nodes xs
-  lean_nodes (node (cdata []) xs) = lean_nodes xs
-  lean_nodes (node x xs) = node (lean x) (lean_nodes xs)
 
 -- ---- the first element without content that has to have one text
 

@@ -169,12 +169,12 @@ doc_after [] (y ∷ ys) x = y
 doc_after (h ∷ hs) (y ∷ ys) x = doc_after hs ys x
 
 -- Equal, save that in JSON 1.5 the one may have an empty tool list where the other has a tools object without parts.
-abbrev pub IsAlike : Doc → Doc → Type 0
-IsAlike x y = (x ≡ y) ⊎ ((s : Tree) × (t : Tree) × (x ≡ json (jspell s V1_5 a_bill)) × (y ≡ json (jspell t V1_5 a_bill)) × IsSame s t)
+abbrev pub IsAlike : SpecVersion → Doc → Doc → Type 0
+IsAlike w x y = (x ≡ y) ⊎ ((w ≡ V1_5) × ((s : Tree) × (t : Tree) × (x ≡ json (jspell s V1_5 a_bill)) × (y ≡ json (jspell t V1_5 a_bill)) × IsSame s t))
 
 -- Two hops of the same form and version, with the same lowest version so far and as many hops through XML so far, counted to two, give the same document.
 abbrev pub RoadsSettle : Type 0
 RoadsSettle = (x : Doc) (v : SpecVersion) (g g' h h' : List Hop) (a c : Hop) (docs docs' : List Doc)
     → road x v (g ++ (a ∷ g')) ≡ Ok docs → road x v (h ++ (c ∷ h')) ≡ Ok docs'
     → a.form ≡ c.form → a.version ≡ c.version → lowest_with g a ≡ lowest_with h c → xml_count 2 (g ++ (a ∷ [])) ≡ xml_count 2 (h ++ (c ∷ []))
-    → IsAlike (doc_after g docs x) (doc_after h docs' x)
+    → IsAlike c.version (doc_after g docs x) (doc_after h docs' x)

@@ -3,6 +3,7 @@ pub mod Table
 pub mod Results
 pub mod Faults
 pub mod Depth
+pub mod Plain
 pub mod Held
 pub mod Membership
 pub mod JsonReading
@@ -20,3 +21,7 @@ pub mod Laws
 pub mod Locality
 pub mod RowLaws
 pub mod Dropped
+pub mod Soon
+pub mod Early
+pub mod OpenRoot
+pub mod EarlyLaws

@@ -2,4 +2,7 @@
 //! what a trip through XML takes, roads of rewritings, and their laws.
 #![tactic(auto)]
 
+pub mod kinded;
 pub mod laws;
+
+pub use kinded::{Kinded, Record};
