@@ -8,12 +8,10 @@ use Rattle.cdx_models.specs.Trees.{Name, Tree, fields, Trees, none, more, ◌⧺
 use Rattle.cdx_models.proofs.Lists.{count}
 use Rattle.cdx_schema.specs.Kinds.{Row, a_record}
 use Rattle.cdx_schema.specs.Table.{rows}
-use Rattle.cdx_schema.specs.Results.{◌>>=◌}
 use Rattle.cdx_schema.specs.Keeping.{kept, keep}
 use Rattle.cdx_schema.specs.JsonSpelling.{jspell, heading}
 use Rattle.cdx_json.specs.KeptRows.{since_kept, rows_held, rows_put}
 use Rattle.cdx_json.proofs.Spelled.{record_spelled}
-use Rattle.cdx_json.specs.Groups.{group}
 
 pub held_split : (w l : SpecVersion) (ts us : Trees) (rs ss : List Row) → count ts ≡ length rs → rows_held w l (ts ⧺ us) (rs ++ ss) ≡ rows_held w l ts rs ⧺ rows_held w l us ss
 unfolding rows_held
@@ -54,7 +52,7 @@ put_split w (more t ts) us (r ∷ rs) ss ms e = put_split w ts us rs ss _ (omega
 -- an object whose members are those of a record's rows
 pub tree_spelled : (m : BTreeMap (String Global) Value) (n : Name) (w : SpecVersion) (t : Tree) (ts : Trees) → t ≡ fields n ts → heading n ≡ no_members
     → members_view m.entries ≡ rows_put ts w (rows n) no_members → view (object_of m) ≡ jspell (keep w t (a_record n)) w (a_record n)
-tree_spelled m n w t ts is plain e = record_spelled m n w (fields n ts) (refl, plain) e ∙ ap (λ u. jspell (keep w u (a_record n)) w (a_record n)) (sym is)
+tree_spelled m n w t ts is plain e = record_spelled m n w (fields n ts) refl plain e ∙ ap (λ u. jspell (keep w u (a_record n)) w (a_record n)) (sym is)
 
 -- ---- one level deeper
 

@@ -1,16 +1,15 @@
 -- What is kept and written by rows is what the schema keeps and writes.
 use Rattle.std.proofs.Common.{◌≡◌, Bool, true, false, Result, Ok, Err, IfOk, ◌&&◌, not, if◌then◌else◌, List, [], ◌∷◌, refl, sym, ap, ◌∙◌}
-use Rattle.serde_json.specs.Data.{Data, put, Members, no_members, object}
+use Rattle.serde_json.specs.Data.{Members, no_members, object}
 use Rattle.cdx_models.specs.declared.bom.SpecVersion.{SpecVersion}
 use Rattle.cdx_models.specs.declared.bom.SpecVersion.TheVariants.{V1_3, V1_4, V1_5}
 use Rattle.cdx_models.specs.Versions.{knows}
-use Rattle.cdx_models.specs.Trees.{Name, Tree, absent, text, number, boolean, items, fields, Trees, none, more, is_absent}
+use Rattle.cdx_models.specs.Trees.{Name, Tree, absent, text, number, boolean, items, fields, fields_of, Trees, none, more, is_absent}
 use Rattle.cdx_schema.specs.Kinds.{Kind, a_record, Member, member, merged, Need, optional, required, required_first, else_empty, Row}
 use Rattle.cdx_schema.specs.Table.{rows}
 use Rattle.cdx_schema.specs.Keeping.{kept, keep, rows_kept}
 use Rattle.cdx_schema.specs.JsonSpelling.{jspell, is_written, set_member, own_members, members_spelled, heading}
-use Rattle.cdx_json.specs.KeptRows.{parts, late_kept, since_kept, rows_held, put_kept, put_filled, put_own, put_need, put_member, late_put, since_put, rows_put}
-use Rattle.cdx_json.specs.Stays.{IsPlain}
+use Rattle.cdx_json.specs.KeptRows.{late_kept, since_kept, rows_held, put_kept, put_filled, put_own, put_member, late_put, since_put, rows_put}
 
 -- ---- what is kept
 
@@ -33,8 +32,8 @@ record_kept V1_3 l n ts = refl
 record_kept V1_4 l n ts = refl
 record_kept V1_5 l n ts = refl
 
-pub record_held : (w l : SpecVersion) (n : Name) (t : Tree) → t ≡ fields n (parts t) → fields n (rows_held w l (parts t) (rows n)) ≡ kept w l t (a_record n)
-record_held w l n t e = ap (fields n) (rows_held_are w l (parts t) (rows n)) ∙ record_kept w l n (parts t) ∙ ap (λ u. kept w l u (a_record n)) (sym e)
+pub record_held : (w l : SpecVersion) (n : Name) (t : Tree) → t ≡ fields n (fields_of t) → fields n (rows_held w l (fields_of t) (rows n)) ≡ kept w l t (a_record n)
+record_held w l n t e = ap (fields n) (rows_held_are w l (fields_of t) (rows n)) ∙ record_kept w l n (fields_of t) ∙ ap (λ u. kept w l u (a_record n)) (sym e)
 
 -- ---- what is written
 
@@ -104,9 +103,9 @@ record_object : (n : Name) (w : SpecVersion) (ts : Trees) → heading n ≡ no_m
 unfolding jspell
 record_object n w ts h = ap object (rows_put_are ts w (rows n) no_members) ∙ rw h refl
 
-pub record_put : (n : Name) (w : SpecVersion) (t : Tree) → IsPlain n t → object (rows_put (parts t) w (rows n) no_members) ≡ jspell (keep w t (a_record n)) w (a_record n)
-record_put n w t p = record_object n w (parts t) p.1 ∙ ap (λ u. jspell u w (a_record n)) (record_kept w w n (parts t) ∙ ap (λ u. kept w w u (a_record n)) (sym p.0))
+pub record_put : (n : Name) (w : SpecVersion) (t : Tree) → t ≡ fields n (fields_of t) → heading n ≡ no_members → object (rows_put (fields_of t) w (rows n) no_members) ≡ jspell (keep w t (a_record n)) w (a_record n)
+record_put n w t e h = record_object n w (fields_of t) h ∙ ap (λ u. jspell u w (a_record n)) (record_kept w w n (fields_of t) ∙ ap (λ u. kept w w u (a_record n)) (sym e))
 
-pub record_is_kept : {A E : Type 0} (see : A → Tree) (r : Result A E) (w l : SpecVersion) (n : Name) (t : Tree) → IsPlain n t → IfOk r (λ x. see x ≡ fields n (rows_held w l (parts t) (rows n))) → IfOk r (λ x. see x ≡ kept w l t (a_record n))
-record_is_kept see (Ok x) w l n t p h = h ∙ record_held w l n t p.0
-record_is_kept see (Err m) w l n t p h = tt
+pub record_is_kept : {A E : Type 0} (see : A → Tree) (r : Result A E) (w l : SpecVersion) (n : Name) (t : Tree) → t ≡ fields n (fields_of t) → IfOk r (λ x. see x ≡ fields n (rows_held w l (fields_of t) (rows n))) → IfOk r (λ x. see x ≡ kept w l t (a_record n))
+record_is_kept see (Ok x) w l n t e h = h ∙ record_held w l n t e
+record_is_kept see (Err m) w l n t e h = tt

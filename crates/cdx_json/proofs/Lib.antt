@@ -1,3 +1,4 @@
+pub mod OnRows
 pub mod ByRowsLaws
 pub mod Rows
 pub mod Values

@@ -1,5 +1,5 @@
 -- One row, as a reader of the code finds it.
-use Rattle.std.proofs.Common.{◌≡◌, ℕ, Bool, true, false, if◌then◌else◌, List, [], ◌∷◌, ◌++◌, Option, Some, None, is_some, option_map, Result, Ok, Err, Ordering, Less, Equal, Greater, refl, sym, ap, ◌∙◌, subst}
+use Rattle.std.proofs.Common.{◌≡◌, ℕ, Bool, true, false, if◌then◌else◌, List, [], ◌∷◌, Option, Some, None, is_some, option_map, Result, Ok, Err, Ordering, Less, Equal, Greater, refl, sym, ap, ◌∙◌, subst}
 use Rattle.std.specs.Ordering.{nat_cmp, match_ordering}
 use Rattle.std.specs.Cmp.Lexicographic.{slice_cmp}
 use Rattle.serde_json.specs.Data.{Data, Members, no_members}
@@ -21,7 +21,7 @@ use Rattle.cdx_schema.specs.JsonReading.{Object, Found, nothing, a_null, found, 
 use Rattle.cdx_json.specs.ByRows.{found_as, member_of, late_read}
 use Rattle.cdx_models.specs.declared.errors.JsonReadError.{JsonReadError}
 use Rattle.cdx_models.specs.declared.errors.JsonReadError.TheVariants.{JsonElementReadError, BomError, Memory}
-use Rattle.cdx_json.specs.Gives.{Fails, Gives, IsFaultAt, IsWithin, fault, is_null, non_null, stands, is_found}
+use Rattle.cdx_json.specs.Gives.{Fails, Gives, IsFaultAt, IsWithin, fault, non_null, stands, is_found}
 
 abbrev pub as_seen : Option Data → Found
 as_seen None = nothing

@@ -1,21 +1,20 @@
 -- What the writers build is the spelling of what is kept.
-use Rattle.std.proofs.Common.{◌≡◌, Bool, true, false, ℕ, ◌≤◌, IfOk, if◌then◌else◌, Option, Some, None, Result, Ok, Err, OnOk, List, [], ◌∷◌, length, map, take, Vec, Global, BTreeMap, String, refl, sym, ap, ◌∙◌, arith}
+use Rattle.std.proofs.Common.{◌≡◌, Bool, true, false, ℕ, ◌≤◌, IfOk, if◌then◌else◌, None, Result, Ok, Err, OnOk, List, [], ◌∷◌, length, map, take, Vec, Global, BTreeMap, String, refl, sym, ap, ◌∙◌, arith}
 use Rattle.std.proofs.lemmas.List.{take_all}
-use Rattle.serde_json.specs.Data.{Data, put, Items, no_items, item, array, Members, no_members, object}
+use Rattle.serde_json.specs.Data.{Data, put, item, array, Members, no_members, object}
 use Rattle.serde_json.specs.View.{view, items_of, members_view}
 use Rattle.serde_json.specs.declared.value.Value.{Value, Array, Object}
 use Rattle.serde_json.proofs.Views.{view-Array, view-Object}
 use Rattle.cdx_models.specs.declared.bom.SpecVersion.{SpecVersion}
 use Rattle.cdx_models.specs.declared.bom.SpecVersion.TheVariants.{V1_3, V1_4, V1_5}
 use Rattle.cdx_models.specs.Versions.{knows}
-use Rattle.cdx_models.specs.Trees.{Name, Tree, absent, text, number, boolean, items, fields, Trees, none, more, trees, each, list_tree, present, is_absent}
+use Rattle.cdx_models.specs.Trees.{Name, Tree, absent, text, number, boolean, items, fields, fields_of, more, trees, each, list_tree, present, is_absent}
 use Rattle.cdx_schema.specs.Kinds.{Lists, Kind, a_text, a_boolean, a_number, a_version, a_list, a_record, a_reference, a_license_choice, a_license_identifier, a_tools, a_data, an_entry, a_signature, a_bill}
 use Rattle.cdx_schema.specs.Table.{rows, list}
 use Rattle.cdx_schema.specs.Keeping.{kept, keep, items_kept}
-use Rattle.cdx_schema.specs.JsonSpelling.{jspell, items_spelled}
+use Rattle.cdx_schema.specs.JsonSpelling.{jspell, heading, items_spelled}
 use Rattle.cdx_json.specs.ByRows.{plain, IsListOf}
-use Rattle.cdx_json.specs.KeptRows.{parts, put_kept, put_filled, late_put, late_kept, rows_put}
-use Rattle.cdx_json.specs.Stays.{IsPlain}
+use Rattle.cdx_json.specs.KeptRows.{put_kept, put_filled, late_put, late_kept, rows_put}
 use Rattle.cdx_json.proofs.KeptRowsLaws.{record_put}
 
 -- ---- a reference is kept and written as a text
@@ -95,9 +94,9 @@ list_kept f k i w l new xs ys n is same all e =
 
 -- ---- records
 
-pub record_spelled : (m : BTreeMap (String Global) Value) (n : Name) (w : SpecVersion) (t : Tree) → IsPlain n t
-    → members_view m.entries ≡ rows_put (parts t) w (rows n) no_members → view (Object m) ≡ jspell (keep w t (a_record n)) w (a_record n)
-record_spelled m n w t p e = view-Object m ∙ ap object e ∙ record_put n w t p
+pub record_spelled : (m : BTreeMap (String Global) Value) (n : Name) (w : SpecVersion) (t : Tree) → t ≡ fields n (fields_of t) → heading n ≡ no_members
+    → members_view m.entries ≡ rows_put (fields_of t) w (rows n) no_members → view (Object m) ≡ jspell (keep w t (a_record n)) w (a_record n)
+record_spelled m n w t is plain e = view-Object m ∙ ap object e ∙ record_put n w t is plain
 
 -- ---- a field that is there
 

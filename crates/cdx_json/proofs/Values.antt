@@ -1,5 +1,5 @@
 -- A value of a kind.
-use Rattle.std.proofs.Common.{◌≡◌, ℕ, suc, Bool, true, false, List, [], Option, Some, None, Result, Ok, Err, refl, sym, ap, ◌∙◌, subst, ◌<◌, ◌≤◌, option_and_then, is_some, arith}
+use Rattle.std.proofs.Common.{◌≡◌, ℕ, suc, Bool, true, false, List, [], Some, None, Result, Ok, Err, refl, sym, ap, ◌∙◌, subst, ◌<◌, ◌≤◌, option_and_then, is_some, arith}
 use Rattle.serde_json.specs.Data.{Data, Items, no_items, item, Members, unsigned, negative, float}
 use Rattle.serde_json.specs.Data as json
 use Rattle.serde_json.specs.Find.{as_number, as_u64, as_i64, as_str, as_bool, as_array, as_object}
@@ -12,7 +12,6 @@ use Rattle.cdx_schema.specs.Faults.{to_item, JsonFault, under, here}
 use Rattle.cdx_schema.specs.Results.{◌>>=◌}
 use Rattle.cdx_schema.specs.Table.{list}
 use Rattle.cdx_schema.specs.Depth.{inside, name_too_deep, is_too_deep}
-use Rattle.cdx_json.specs.Stays.{IsPlain}
 use Rattle.cdx_schema.specs.JsonReading.{jread, seen, at_depth, record_read, items_read, number_read}
 use Rattle.cdx_json.specs.ByRows.{plain, IsListOf, list_read, by_rows, signature_of}
 use Rattle.cdx_json.proofs.ByRowsLaws.{by_rows_are}

@@ -1,11 +1,10 @@
 -- Wide records, read in groups of six rows.
 use Rattle.std.specs.Prelude.{ℕ, ◌*◌, List, take, drop, Result, Ok}
 use Rattle.cdx_models.specs.declared.bom.SpecVersion.{SpecVersion}
-use Rattle.cdx_models.specs.Trees.{Name, Trees, ◌⧺◌}
+use Rattle.cdx_models.specs.Trees.{Name, Trees}
 use Rattle.cdx_schema.specs.Kinds.{Row}
 use Rattle.cdx_schema.specs.Table.{rows}
 use Rattle.cdx_schema.specs.Depth.{Depth}
-use Rattle.cdx_schema.specs.Results.{◌>>=◌}
 use Rattle.cdx_schema.specs.Faults.{JsonFault}
 use Rattle.cdx_schema.specs.JsonReading.{Object}
 use Rattle.cdx_json.specs.ByRows.{rows_made, own_made}

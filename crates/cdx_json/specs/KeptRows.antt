@@ -1,23 +1,13 @@
 -- What a version keeps of a record and how it is written, so that each row is one word.
-use Rattle.std.specs.Prelude.{ℕ, List, [], ◌∷◌, Bool, if◌then◌else◌}
+use Rattle.std.specs.Prelude.{ℕ, List, [], ◌∷◌, if◌then◌else◌}
 use Rattle.serde_json.specs.Data.{Members, put}
 use Rattle.cdx_models.specs.declared.bom.SpecVersion.{SpecVersion}
 use Rattle.cdx_models.specs.declared.bom.SpecVersion.TheVariants.{V1_3, V1_4, V1_5}
 use Rattle.cdx_models.specs.Versions.{knows}
-use Rattle.cdx_models.specs.Trees.{Name, Tree, absent, text, number, boolean, items, fields, Trees, none, more, is_absent}
+use Rattle.cdx_models.specs.Trees.{Tree, absent, Trees, none, more, is_absent}
 use Rattle.cdx_schema.specs.Kinds.{Kind, Member, member, merged, Need, optional, required, required_first, else_empty, Row}
-use Rattle.cdx_schema.specs.Table.{rows}
 use Rattle.cdx_schema.specs.Keeping.{kept, keep}
 use Rattle.cdx_schema.specs.JsonSpelling.{jspell, is_written, own_members}
-
--- the fields of a record
-abbrev pub parts : Tree → Trees
-parts absent = none
-parts (text s) = none
-parts (number n) = none
-parts (boolean b) = none
-parts (items ts) = none
-parts (fields n ts) = ts
 
 -- ---- what is kept
 

@@ -1,23 +1,11 @@
--- What is there stays there, and which records are read and written in the usual way.
+-- What is there stays there.
 use Rattle.std.specs.Prelude.{◌≡◌, refl, false, ℕ, List, Bool}
-use Rattle.std.proofs.Common.{ap}
-use Rattle.serde_json.specs.Data.{no_members}
+use Rattle.std.proofs.Common.{ap, ◌∙◌}
 use Rattle.cdx_models.specs.declared.bom.SpecVersion.{SpecVersion}
 use Rattle.cdx_models.specs.declared.bom.SpecVersion.TheVariants.{V1_3, V1_4, V1_5}
-use Rattle.cdx_models.specs.Trees.{Name, Tree, text, number, boolean, items, fields, Trees, is_absent}
+use Rattle.cdx_models.specs.Trees.{Name, Tree, text, number, boolean, items, fields, fields_of, Trees, is_absent}
 use Rattle.cdx_schema.specs.Kinds.{Kind, Lists, a_text, a_number, a_boolean, a_reference, a_list, a_record, a_signature, a_license_choice, a_license_identifier}
-use Rattle.cdx_schema.specs.Depth.{Depth, name_too_deep, inside}
-use Rattle.cdx_schema.specs.JsonSpelling.{heading}
 use Rattle.cdx_schema.specs.Keeping.{kept}
-use Rattle.cdx_json.specs.KeptRows.{parts}
-
--- A record of the name, that has no heading.
-abbrev pub IsPlain : Name → Tree → Type 0
-IsPlain n t = (t ≡ fields n (parts t)) × (heading n ≡ no_members)
-
--- A record of the name counts for no depth.
-abbrev pub IsFlat : Name → Depth → Type 0
-IsFlat n d = (name_too_deep n d ≡ false) × (inside n d ≡ d)
 
 pub text_stays : (w l : SpecVersion) (s : List ℕ) → is_absent (kept w l (text s) a_text) ≡ false
 unfolding kept
@@ -66,3 +54,6 @@ identifier_fields_stay V1_5 l n ts = refl
 -- Equal trees stay there alike.
 pub at : (w l : SpecVersion) (k : Kind) (t u : Tree) → t ≡ u → is_absent (kept w l t k) ≡ is_absent (kept w l u k)
 at w l k t u e = ap (λ x. is_absent (kept w l x k)) e
+
+pub record_tree_stays : (w l : SpecVersion) (n : Name) (t : Tree) → t ≡ fields n (fields_of t) → is_absent (kept w l t (a_record n)) ≡ false
+record_tree_stays w l n t e = at w l (a_record n) t (fields n (fields_of t)) e ∙ record_stays w l n (fields_of t)

@@ -1,18 +1,13 @@
 //! Serial numbers in JSON.
 
-ghost use Rattle.cdx_schema.specs.Kinds.{a_text};
 ghost use Rattle.cdx_json.specs.Stays.{text_stays};
 
 use crate::depth::Depth;
-use crate::traits::{FromJson, Kept, Kinded, ToJson};
+use crate::traits::{FromJson, Kept, ToJson};
 use cdx_events::Text;
 use cdx_models::{HasTree, JsonReadError, SpecVersion, UrnUuid};
 use serde_json::Value;
 use std::alloc::{AllocError, Global};
-
-impl Kinded for UrnUuid {
-    ghost kind = { a_text };
-}
 
 impl FromJson for UrnUuid {
     fn from_json_at(
@@ -40,7 +35,7 @@ impl Kept for UrnUuid {
 }
 
 impl ToJson for UrnUuid {
-    #[tactic(auto, unfolding(cdx_schema::specs::JsonSpelling::jspell, cdx_schema::specs::Keeping::kept))]
+    #[tactic(auto, unfolding(crate::proofs::OnRows::on_spelled))]
     fn to_value(&self, alloc: Global, version: SpecVersion) -> Result<Value, AllocError> {
         Value::try_from_str(alloc, self.0.as_str())
     }

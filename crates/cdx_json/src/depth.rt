@@ -7,7 +7,9 @@ ghost use Rattle.cdx_json.specs.Depths.{depth_of};
 /// How many components and how many services stand around a value.
 #[derive(Clone, Copy, Debug, PartialEq, Eq)]
 pub struct Depth {
+    /// How many components stand around the value.
     pub components: u32,
+    /// How many services stand around the value.
     pub services: u32,
 }
 

@@ -1,9 +1,8 @@
 //! References to what stands outside the bill in JSON.
 
-ghost use Rattle.std.specs.Prelude.{◌≡◌, refl, option_map, Some, IfOk};
-ghost use Rattle.cdx_models.specs.Trees.{reference};
-ghost use Rattle.cdx_schema.specs.Kinds.{external_references, a_record, a_list, a_text};
-ghost use Rattle.cdx_json.specs.Stays.{text_stays, list_stays, record_stays};
+ghost use Rattle.std.specs.Prelude.{◌≡◌, option_map, Some, IfOk};
+ghost use Rattle.cdx_schema.specs.Kinds.{external_references, a_text};
+ghost use Rattle.cdx_json.specs.Stays.{text_stays, list_stays};
 ghost use Rattle.serde_json.specs.Find.{as_str};
 ghost use Rattle.serde_json.specs.View.{view};
 ghost use Rattle.cdx_models.specs.Records.{uri_tree};
@@ -15,21 +14,15 @@ ghost use Rattle.cdx_json.specs.Gives.{Gives};
 
 use crate::depth::Depth;
 use crate::fault::here;
-use crate::reading::{list_from_value, optional_row, read_record, required_row};
-use crate::traits::{FromJson, Kept, Kinded, Record, ToJson};
-use crate::writing::{
-    keep_list, keep_record, keep_row, list_to_value, put_required, put_row, write_record,
-};
+use crate::reading::{list_from_value, optional_row, required_row};
+use crate::traits::{FromJson, JsonRecord, Kept, ToJson};
+use crate::writing::{keep_list, keep_row, list_to_value, put_required, put_row};
 use cdx_events::Text;
 use cdx_models::{
     ExternalReference, ExternalReferences, HasTree, JsonKind, JsonReadError, SpecVersion, Uri,
 };
 use serde_json::{Map, Value};
 use std::alloc::{AllocError, Global};
-
-impl Kinded for Uri {
-    ghost kind = { a_text };
-}
 
 impl FromJson for Uri {
     /// A text, as any `Uri` that a text gives: the variant is the one that `Uri::from_text` gives.
@@ -39,8 +32,10 @@ impl FromJson for Uri {
         version: SpecVersion,
         depth: Depth,
     ) -> Result<Uri, JsonReadError>
-        ensures gives { Gives uri_tree result (jread (view value.now) version a_text (depth_of depth)) }
-        ensures variant { IfOk result (λ r. option_map uri_of (as_str (view value.now)) ≡ Some r) }
+        ensures gives { Gives uri_tree result
+            (jread (view value.now) version a_text (depth_of depth)) }
+        ensures variant { IfOk result
+            (λ r. option_map uri_of (as_str (view value.now)) ≡ Some r) }
     {
         match value.as_str() {
             None => Err(here(alloc, JsonKind::WrongKind)),
@@ -59,7 +54,8 @@ impl Kept for Uri {
         version: SpecVersion,
         label: SpecVersion,
     ) -> Result<Uri, AllocError>
-        ensures gives { IfOk result (λ r. uri_tree r ≡ kept version label (uri_tree self.now) a_text) }
+        ensures gives { IfOk result
+            (λ r. uri_tree r ≡ kept version label (uri_tree self.now) a_text) }
         ensures variant { IfOk result (λ r. r ≡ self.now) }
     {
         self.copy(alloc)
@@ -67,54 +63,14 @@ impl Kept for Uri {
 }
 
 impl ToJson for Uri {
-    #[tactic(auto, unfolding(cdx_schema::specs::JsonSpelling::jspell, cdx_schema::specs::Keeping::kept))]
+    #[tactic(auto, unfolding(crate::proofs::OnRows::on_spelled))]
     fn to_value(&self, alloc: Global, version: SpecVersion) -> Result<Value, AllocError> {
         Value::try_from_str(alloc, self.as_str())
     }
 }
 
-impl Kinded for ExternalReference {
-    ghost kind = { a_record reference };
-}
-
-impl FromJson for ExternalReference {
-    fn from_json_at(
-        alloc: Global,
-        value: &Value,
-        version: SpecVersion,
-        depth: Depth,
-    ) -> Result<ExternalReference, JsonReadError> {
-        read_record(alloc, value, version, depth)
-    }
-}
-
-impl Kept for ExternalReference {
-    ghost stays = { λ w l x. record_stays w l reference _ };
-
-    fn kept_as(
-        &self,
-        alloc: Global,
-        version: SpecVersion,
-        label: SpecVersion,
-    ) -> Result<ExternalReference, AllocError> {
-        keep_record(self, alloc, version, label)
-    }
-}
-
-impl ToJson for ExternalReference {
-    fn to_value(&self, alloc: Global, version: SpecVersion) -> Result<Value, AllocError> {
-        write_record(self, alloc, version)
-    }
-}
-
-impl Record for ExternalReference {
-    ghost name = { reference };
-
-    ghost is_plain = { λ x. (refl, refl) };
-
-    ghost flat = { λ d. (refl, refl) };
-
-    #[tactic(auto, unfolding(crate::specs::ByRows::rows_made, cdx_schema::specs::Table::rows, cdx_schema::specs::Table::list))]
+impl JsonRecord for ExternalReference {
+    #[tactic(auto, unfolding(crate::proofs::OnRows::on_rows))]
     fn from_members(
         alloc: Global,
         map: &Map<String, Value>,
@@ -133,7 +89,7 @@ impl Record for ExternalReference {
         })
     }
 
-    #[tactic(auto, unfolding(crate::specs::KeptRows::rows_held, cdx_schema::specs::Table::rows, cdx_schema::specs::Table::list))]
+    #[tactic(auto, unfolding(crate::proofs::OnRows::on_rows))]
     fn kept_rows(
         &self,
         alloc: Global,
@@ -148,7 +104,7 @@ impl Record for ExternalReference {
         })
     }
 
-    #[tactic(auto, unfolding(crate::specs::KeptRows::rows_put, cdx_schema::specs::Table::rows, cdx_schema::specs::Table::list))]
+    #[tactic(auto, unfolding(crate::proofs::OnRows::on_rows))]
     fn put_members(
         &self,
         alloc: Global,
@@ -160,10 +116,6 @@ impl Record for ExternalReference {
         put_row(alloc, map, "comment", &self.comment, version)?;
         put_row(alloc, map, "hashes", &self.hashes, version)
     }
-}
-
-impl Kinded for ExternalReferences {
-    ghost kind = { a_list external_references };
 }
 
 impl FromJson for ExternalReferences {

@@ -1,22 +1,16 @@
 //! Hashes in JSON.
 
-ghost use Rattle.std.specs.Prelude.{refl};
-ghost use Rattle.cdx_models.specs.Trees.{hash};
-ghost use Rattle.cdx_schema.specs.Kinds.{hashes, a_record, a_list, a_text};
-ghost use Rattle.cdx_json.specs.Stays.{text_stays, list_stays, record_stays};
+ghost use Rattle.cdx_schema.specs.Kinds.{hashes};
+ghost use Rattle.cdx_json.specs.Stays.{text_stays, list_stays};
 
 use crate::depth::Depth;
-use crate::reading::{list_from_value, read_record, required_row};
-use crate::traits::{FromJson, Kept, Kinded, Record, ToJson};
-use crate::writing::{keep_list, keep_record, list_to_value, put_required, write_record};
+use crate::reading::{list_from_value, required_row};
+use crate::traits::{FromJson, JsonRecord, Kept, ToJson};
+use crate::writing::{keep_list, list_to_value, put_required};
 use cdx_events::Text;
 use cdx_models::{HasTree, Hash, HashValue, Hashes, JsonReadError, SpecVersion};
 use serde_json::{Map, Value};
 use std::alloc::{AllocError, Global};
-
-impl Kinded for HashValue {
-    ghost kind = { a_text };
-}
 
 impl FromJson for HashValue {
     fn from_json_at(
@@ -44,54 +38,14 @@ impl Kept for HashValue {
 }
 
 impl ToJson for HashValue {
-    #[tactic(auto, unfolding(cdx_schema::specs::JsonSpelling::jspell, cdx_schema::specs::Keeping::kept))]
+    #[tactic(auto, unfolding(crate::proofs::OnRows::on_spelled))]
     fn to_value(&self, alloc: Global, version: SpecVersion) -> Result<Value, AllocError> {
         Value::try_from_str(alloc, self.0.as_str())
     }
 }
 
-impl Kinded for Hash {
-    ghost kind = { a_record hash };
-}
-
-impl FromJson for Hash {
-    fn from_json_at(
-        alloc: Global,
-        value: &Value,
-        version: SpecVersion,
-        depth: Depth,
-    ) -> Result<Hash, JsonReadError> {
-        read_record(alloc, value, version, depth)
-    }
-}
-
-impl Kept for Hash {
-    ghost stays = { λ w l x. record_stays w l hash _ };
-
-    fn kept_as(
-        &self,
-        alloc: Global,
-        version: SpecVersion,
-        label: SpecVersion,
-    ) -> Result<Hash, AllocError> {
-        keep_record(self, alloc, version, label)
-    }
-}
-
-impl ToJson for Hash {
-    fn to_value(&self, alloc: Global, version: SpecVersion) -> Result<Value, AllocError> {
-        write_record(self, alloc, version)
-    }
-}
-
-impl Record for Hash {
-    ghost name = { hash };
-
-    ghost is_plain = { λ x. (refl, refl) };
-
-    ghost flat = { λ d. (refl, refl) };
-
-    #[tactic(auto, unfolding(crate::specs::ByRows::rows_made, cdx_schema::specs::Table::rows, cdx_schema::specs::Table::list))]
+impl JsonRecord for Hash {
+    #[tactic(auto, unfolding(crate::proofs::OnRows::on_rows))]
     fn from_members(
         alloc: Global,
         map: &Map<String, Value>,
@@ -103,7 +57,7 @@ impl Record for Hash {
         Ok(Hash { alg, content })
     }
 
-    #[tactic(auto, unfolding(crate::specs::KeptRows::rows_held, cdx_schema::specs::Table::rows, cdx_schema::specs::Table::list))]
+    #[tactic(auto, unfolding(crate::proofs::OnRows::on_rows))]
     fn kept_rows(
         &self,
         alloc: Global,
@@ -116,7 +70,7 @@ impl Record for Hash {
         })
     }
 
-    #[tactic(auto, unfolding(crate::specs::KeptRows::rows_put, cdx_schema::specs::Table::rows, cdx_schema::specs::Table::list))]
+    #[tactic(auto, unfolding(crate::proofs::OnRows::on_rows))]
     fn put_members(
         &self,
         alloc: Global,
@@ -126,10 +80,6 @@ impl Record for Hash {
         put_required(alloc, map, "alg", &self.alg, version)?;
         put_required(alloc, map, "content", &self.content, version)
     }
-}
-
-impl Kinded for Hashes {
-    ghost kind = { a_list hashes };
 }
 
 impl FromJson for Hashes {

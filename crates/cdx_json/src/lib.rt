@@ -19,11 +19,11 @@ pub use fault::{at_item, at_member, here, missing};
 pub use reading::{
     first_row, has_member, has_value, list_from_items, list_from_value, list_row, member,
     member_not_null, optional_list_row, optional_list_row_since, optional_row, optional_row_since,
-    read_record, required_row,
+    required_row,
 };
-pub use traits::{FromJson, Kept, Kinded, Record, ToJson};
+pub use traits::{FromJson, JsonRecord, Kept, ToJson};
 pub use writing::{
-    keep_list, keep_optional_list, keep_optional_list_since, keep_record, keep_row, keep_row_since,
+    keep_list, keep_optional_list, keep_optional_list_since, keep_row, keep_row_since,
     list_to_value, put_list, put_optional_list, put_optional_list_since, put_required,
-    put_required_list, put_row, put_row_since, write_record,
+    put_required_list, put_row, put_row_since,
 };

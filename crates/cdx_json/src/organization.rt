@@ -1,62 +1,17 @@
 //! Organizations and the people in them in JSON.
 
-ghost use Rattle.std.specs.Prelude.{refl};
-ghost use Rattle.cdx_models.specs.Trees.{contact, entity};
-ghost use Rattle.cdx_schema.specs.Kinds.{a_record};
-ghost use Rattle.cdx_json.specs.Stays.{record_stays};
+ghost use Rattle.cdx_models.specs.Trees.{contact};
 
 use crate::depth::Depth;
-use crate::reading::{optional_list_row, optional_row, read_record};
-use crate::traits::{FromJson, Kept, Kinded, Record, ToJson};
-use crate::writing::{
-    keep_optional_list, keep_record, keep_row, put_optional_list, put_row, write_record,
-};
+use crate::reading::{optional_list_row, optional_row};
+use crate::traits::JsonRecord;
+use crate::writing::{keep_optional_list, keep_row, put_optional_list, put_row};
 use cdx_models::{JsonReadError, OrganizationalContact, OrganizationalEntity, SpecVersion};
 use serde_json::{Map, Value};
 use std::alloc::{AllocError, Global};
 
-impl Kinded for OrganizationalContact {
-    ghost kind = { a_record contact };
-}
-
-impl FromJson for OrganizationalContact {
-    fn from_json_at(
-        alloc: Global,
-        value: &Value,
-        version: SpecVersion,
-        depth: Depth,
-    ) -> Result<OrganizationalContact, JsonReadError> {
-        read_record(alloc, value, version, depth)
-    }
-}
-
-impl Kept for OrganizationalContact {
-    ghost stays = { λ w l x. record_stays w l contact _ };
-
-    fn kept_as(
-        &self,
-        alloc: Global,
-        version: SpecVersion,
-        label: SpecVersion,
-    ) -> Result<OrganizationalContact, AllocError> {
-        keep_record(self, alloc, version, label)
-    }
-}
-
-impl ToJson for OrganizationalContact {
-    fn to_value(&self, alloc: Global, version: SpecVersion) -> Result<Value, AllocError> {
-        write_record(self, alloc, version)
-    }
-}
-
-impl Record for OrganizationalContact {
-    ghost name = { contact };
-
-    ghost is_plain = { λ x. (refl, refl) };
-
-    ghost flat = { λ d. (refl, refl) };
-
-    #[tactic(auto, unfolding(crate::specs::ByRows::rows_made, cdx_schema::specs::Table::rows, cdx_schema::specs::Table::list))]
+impl JsonRecord for OrganizationalContact {
+    #[tactic(auto, unfolding(crate::proofs::OnRows::on_rows))]
     fn from_members(
         alloc: Global,
         map: &Map<String, Value>,
@@ -75,7 +30,7 @@ impl Record for OrganizationalContact {
         })
     }
 
-    #[tactic(auto, unfolding(crate::specs::KeptRows::rows_held, cdx_schema::specs::Table::rows, cdx_schema::specs::Table::list))]
+    #[tactic(auto, unfolding(crate::proofs::OnRows::on_rows))]
     fn kept_rows(
         &self,
         alloc: Global,
@@ -90,7 +45,7 @@ impl Record for OrganizationalContact {
         })
     }
 
-    #[tactic(auto, unfolding(crate::specs::KeptRows::rows_put, cdx_schema::specs::Table::rows, cdx_schema::specs::Table::list))]
+    #[tactic(auto, unfolding(crate::proofs::OnRows::on_rows))]
     fn put_members(
         &self,
         alloc: Global,
@@ -104,48 +59,8 @@ impl Record for OrganizationalContact {
     }
 }
 
-impl Kinded for OrganizationalEntity {
-    ghost kind = { a_record entity };
-}
-
-impl FromJson for OrganizationalEntity {
-    fn from_json_at(
-        alloc: Global,
-        value: &Value,
-        version: SpecVersion,
-        depth: Depth,
-    ) -> Result<OrganizationalEntity, JsonReadError> {
-        read_record(alloc, value, version, depth)
-    }
-}
-
-impl Kept for OrganizationalEntity {
-    ghost stays = { λ w l x. record_stays w l entity _ };
-
-    fn kept_as(
-        &self,
-        alloc: Global,
-        version: SpecVersion,
-        label: SpecVersion,
-    ) -> Result<OrganizationalEntity, AllocError> {
-        keep_record(self, alloc, version, label)
-    }
-}
-
-impl ToJson for OrganizationalEntity {
-    fn to_value(&self, alloc: Global, version: SpecVersion) -> Result<Value, AllocError> {
-        write_record(self, alloc, version)
-    }
-}
-
-impl Record for OrganizationalEntity {
-    ghost name = { entity };
-
-    ghost is_plain = { λ x. (refl, refl) };
-
-    ghost flat = { λ d. (refl, refl) };
-
-    #[tactic(auto, unfolding(crate::specs::ByRows::rows_made, cdx_schema::specs::Table::rows, cdx_schema::specs::Table::list))]
+impl JsonRecord for OrganizationalEntity {
+    #[tactic(auto, unfolding(crate::proofs::OnRows::on_rows))]
     fn from_members(
         alloc: Global,
         map: &Map<String, Value>,
@@ -164,7 +79,7 @@ impl Record for OrganizationalEntity {
         })
     }
 
-    #[tactic(auto, unfolding(crate::specs::KeptRows::rows_held, cdx_schema::specs::Table::rows, cdx_schema::specs::Table::list))]
+    #[tactic(auto, unfolding(crate::proofs::OnRows::on_rows))]
     fn kept_rows(
         &self,
         alloc: Global,
@@ -179,7 +94,7 @@ impl Record for OrganizationalEntity {
         })
     }
 
-    #[tactic(auto, unfolding(crate::specs::KeptRows::rows_put, cdx_schema::specs::Table::rows, cdx_schema::specs::Table::list))]
+    #[tactic(auto, unfolding(crate::proofs::OnRows::on_rows))]
     fn put_members(
         &self,
         alloc: Global,

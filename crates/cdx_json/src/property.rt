@@ -1,60 +1,18 @@
 //! Properties in JSON.
 
-ghost use Rattle.std.specs.Prelude.{refl};
-ghost use Rattle.cdx_models.specs.Trees.{property};
-ghost use Rattle.cdx_schema.specs.Kinds.{properties, a_record, a_list};
-ghost use Rattle.cdx_json.specs.Stays.{list_stays, record_stays};
+ghost use Rattle.cdx_schema.specs.Kinds.{properties};
+ghost use Rattle.cdx_json.specs.Stays.{list_stays};
 
 use crate::depth::Depth;
-use crate::reading::{list_from_value, read_record, required_row};
-use crate::traits::{FromJson, Kept, Kinded, Record, ToJson};
-use crate::writing::{keep_list, keep_record, list_to_value, put_required, write_record};
+use crate::reading::{list_from_value, required_row};
+use crate::traits::{FromJson, JsonRecord, Kept, ToJson};
+use crate::writing::{keep_list, list_to_value, put_required};
 use cdx_models::{JsonReadError, Properties, Property, SpecVersion};
 use serde_json::{Map, Value};
 use std::alloc::{AllocError, Global};
 
-impl Kinded for Property {
-    ghost kind = { a_record property };
-}
-
-impl FromJson for Property {
-    fn from_json_at(
-        alloc: Global,
-        value: &Value,
-        version: SpecVersion,
-        depth: Depth,
-    ) -> Result<Property, JsonReadError> {
-        read_record(alloc, value, version, depth)
-    }
-}
-
-impl Kept for Property {
-    ghost stays = { λ w l x. record_stays w l property _ };
-
-    fn kept_as(
-        &self,
-        alloc: Global,
-        version: SpecVersion,
-        label: SpecVersion,
-    ) -> Result<Property, AllocError> {
-        keep_record(self, alloc, version, label)
-    }
-}
-
-impl ToJson for Property {
-    fn to_value(&self, alloc: Global, version: SpecVersion) -> Result<Value, AllocError> {
-        write_record(self, alloc, version)
-    }
-}
-
-impl Record for Property {
-    ghost name = { property };
-
-    ghost is_plain = { λ x. (refl, refl) };
-
-    ghost flat = { λ d. (refl, refl) };
-
-    #[tactic(auto, unfolding(crate::specs::ByRows::rows_made, cdx_schema::specs::Table::rows, cdx_schema::specs::Table::list))]
+impl JsonRecord for Property {
+    #[tactic(auto, unfolding(crate::proofs::OnRows::on_rows))]
     fn from_members(
         alloc: Global,
         map: &Map<String, Value>,
@@ -66,7 +24,7 @@ impl Record for Property {
         Ok(Property { name, value })
     }
 
-    #[tactic(auto, unfolding(crate::specs::KeptRows::rows_held, cdx_schema::specs::Table::rows, cdx_schema::specs::Table::list))]
+    #[tactic(auto, unfolding(crate::proofs::OnRows::on_rows))]
     fn kept_rows(
         &self,
         alloc: Global,
@@ -79,7 +37,7 @@ impl Record for Property {
         })
     }
 
-    #[tactic(auto, unfolding(crate::specs::KeptRows::rows_put, cdx_schema::specs::Table::rows, cdx_schema::specs::Table::list))]
+    #[tactic(auto, unfolding(crate::proofs::OnRows::on_rows))]
     fn put_members(
         &self,
         alloc: Global,
@@ -89,10 +47,6 @@ impl Record for Property {
         put_required(alloc, map, "name", &self.name, version)?;
         put_required(alloc, map, "value", &self.value, version)
     }
-}
-
-impl Kinded for Properties {
-    ghost kind = { a_list properties };
 }
 
 impl FromJson for Properties {

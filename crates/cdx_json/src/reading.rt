@@ -1,10 +1,10 @@
-//! Reading texts, booleans, numbers, lists, records and the members of records.
+//! Reading texts, booleans, numbers, lists and the members of records.
 
 ghost use Rattle.std.specs.Prelude.{◌≡◌, option_map};
 ghost use Rattle.serde_json.specs.Find.{get_member};
 ghost use Rattle.serde_json.specs.View.{view, items_view, members_view};
 ghost use Rattle.cdx_models.specs.Trees.{present, list_tree};
-ghost use Rattle.cdx_schema.specs.Kinds.{Lists, a_list, a_record, optional, required, else_empty, required_first};
+ghost use Rattle.cdx_schema.specs.Kinds.{Lists, a_list, optional, required, else_empty, required_first};
 ghost use Rattle.cdx_schema.specs.JsonReading.{jread, seen};
 ghost use Rattle.cdx_json.specs.Depths.{depth_of};
 ghost use Rattle.cdx_json.specs.ByRows.{IsListOf, member_of, late_read, list_read};
@@ -12,7 +12,7 @@ ghost use Rattle.cdx_json.specs.Gives.{Gives, stands, is_found, non_null};
 
 use crate::depth::Depth;
 use crate::fault::{at_item, at_member, here, missing};
-use crate::traits::{FromJson, Kinded, Record};
+use crate::traits::FromJson;
 use cdx_events::{List, Text};
 use cdx_models::{JsonKind, JsonReadError, SpecVersion};
 use serde_json::{Map, Value};
@@ -20,7 +20,8 @@ use std::alloc::Global;
 
 /// The member of that name.
 pub fn member<'v>(map: &'v Map<String, Value>, name: &str) -> Option<&'v Value>
-    ensures { option_map (λ v. view v.now) result ≡ get_member name.now (members_view map.now.entries) }
+    ensures { option_map (λ v. view v.now) result
+        ≡ get_member name.now (members_view map.now.entries) }
 {
     map.get(name)
 }
@@ -50,12 +51,6 @@ pub fn has_value(map: &Map<String, Value>, name: &str) -> bool
     member_not_null(map, name).is_some()
 }
 
-impl Kinded for Text {
-    ghost use Rattle.cdx_schema.specs.Kinds.{a_text};
-
-    ghost kind = { a_text };
-}
-
 impl FromJson for Text {
     fn from_json_at(
         alloc: Global,
@@ -70,12 +65,6 @@ impl FromJson for Text {
     }
 }
 
-impl Kinded for bool {
-    ghost use Rattle.cdx_schema.specs.Kinds.{a_boolean};
-
-    ghost kind = { a_boolean };
-}
-
 impl FromJson for bool {
     fn from_json_at(
         alloc: Global,
@@ -88,12 +77,6 @@ impl FromJson for bool {
             Some(held) => Ok(held),
         }
     }
-}
-
-impl Kinded for u32 {
-    ghost use Rattle.cdx_schema.specs.Kinds.{a_number};
-
-    ghost kind = { a_number };
 }
 
 impl FromJson for u32 {
@@ -158,21 +141,6 @@ pub fn list_from_value<T: FromJson + Drop>(
     }
 }
 
-/// A record, as the schema reads it.
-pub fn read_record<T: Record>(
-    alloc: Global,
-    value: &Value,
-    version: SpecVersion,
-    depth: Depth,
-) -> Result<T, JsonReadError>
-    ensures { Gives T.tree result (jread (view value.now) version (a_record T.name) (depth_of depth)) }
-{
-    match value.as_object() {
-        None => Err(here(alloc, JsonKind::WrongKind)),
-        Some(map) => T::from_members(alloc, map, version, depth),
-    }
-}
-
 /// A member that has to be there and may not be null.
 pub fn required_row<T: FromJson + Drop>(
     alloc: Global,
@@ -182,7 +150,8 @@ pub fn required_row<T: FromJson + Drop>(
     depth: Depth,
 ) -> Result<T, JsonReadError>
     ensures { Gives T.tree result
-        (member_of (seen (members_view map.now.entries)) name.now required T.kind version (depth_of depth)) }
+        (member_of (seen (members_view map.now.entries)) name.now required T.kind version
+        (depth_of depth)) }
 {
     match member_not_null(map, name) {
         None => match member(map, name) {
@@ -205,7 +174,8 @@ pub fn optional_row<T: FromJson + Drop>(
     depth: Depth,
 ) -> Result<Option<T>, JsonReadError>
     ensures { Gives (present T.tree) result
-        (member_of (seen (members_view map.now.entries)) name.now optional T.kind version (depth_of depth)) }
+        (member_of (seen (members_view map.now.entries)) name.now optional T.kind version
+        (depth_of depth)) }
 {
     match member_not_null(map, name) {
         None => Ok(None),
@@ -227,7 +197,9 @@ pub fn optional_row_since<T: FromJson + Drop>(
     depth: Depth,
 ) -> Result<Option<T>, JsonReadError>
     ensures { Gives (present T.tree) result
-        (late_read since version (member_of (seen (members_view map.now.entries)) name.now optional T.kind version (depth_of depth))) }
+        (late_read since version
+        (member_of (seen (members_view map.now.entries)) name.now optional T.kind version
+        (depth_of depth))) }
 {
     if since.is_known_to(version) {
         optional_row(alloc, map, name, version, depth)
@@ -246,7 +218,8 @@ pub fn first_row<T: FromJson + Drop>(
     depth: Depth,
 ) -> Result<Option<T>, JsonReadError>
     ensures { Gives (present T.tree) result
-        (member_of (seen (members_view map.now.entries)) name.now required_first T.kind version (depth_of depth)) }
+        (member_of (seen (members_view map.now.entries)) name.now required_first T.kind version
+        (depth_of depth)) }
 {
     match version {
         SpecVersion::V1_3 => match required_row(alloc, map, name, version, depth) {
@@ -267,7 +240,8 @@ pub fn list_row<T: FromJson + Drop>(
     depth: Depth,
 ) -> Result<List<T>, JsonReadError>
     ensures { (l : Lists) → IsListOf T.kind l → Gives (list_tree T.tree) result
-        (member_of (seen (members_view map.now.entries)) name.now else_empty (a_list l) version (depth_of depth)) }
+        (member_of (seen (members_view map.now.entries)) name.now else_empty (a_list l) version
+        (depth_of depth)) }
 {
     match member_not_null(map, name) {
         None => match member(map, name) {
@@ -290,7 +264,8 @@ pub fn optional_list_row<T: FromJson + Drop>(
     depth: Depth,
 ) -> Result<Option<List<T>>, JsonReadError>
     ensures { (l : Lists) → IsListOf T.kind l → Gives (present (list_tree T.tree)) result
-        (member_of (seen (members_view map.now.entries)) name.now optional (a_list l) version (depth_of depth)) }
+        (member_of (seen (members_view map.now.entries)) name.now optional (a_list l) version
+        (depth_of depth)) }
 {
     match member_not_null(map, name) {
         None => Ok(None),
@@ -311,7 +286,9 @@ pub fn optional_list_row_since<T: FromJson + Drop>(
     depth: Depth,
 ) -> Result<Option<List<T>>, JsonReadError>
     ensures { (l : Lists) → IsListOf T.kind l → Gives (present (list_tree T.tree)) result
-        (late_read since version (member_of (seen (members_view map.now.entries)) name.now optional (a_list l) version (depth_of depth))) }
+        (late_read since version
+        (member_of (seen (members_view map.now.entries)) name.now optional (a_list l) version
+        (depth_of depth))) }
 {
     if since.is_known_to(version) {
         optional_list_row(alloc, map, name, version, depth)

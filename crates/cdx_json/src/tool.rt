@@ -1,60 +1,15 @@
 //! Tools in JSON.
 
-ghost use Rattle.std.specs.Prelude.{refl};
-ghost use Rattle.cdx_models.specs.Trees.{tool};
-ghost use Rattle.cdx_schema.specs.Kinds.{a_record};
-ghost use Rattle.cdx_json.specs.Stays.{record_stays};
-
 use crate::depth::Depth;
-use crate::reading::{optional_row, optional_row_since, read_record};
-use crate::traits::{FromJson, Kept, Kinded, Record, ToJson};
-use crate::writing::{keep_record, keep_row, keep_row_since, put_row, put_row_since, write_record};
+use crate::reading::{optional_row, optional_row_since};
+use crate::traits::JsonRecord;
+use crate::writing::{keep_row, keep_row_since, put_row, put_row_since};
 use cdx_models::{JsonReadError, SpecVersion, Tool};
 use serde_json::{Map, Value};
 use std::alloc::{AllocError, Global};
 
-impl Kinded for Tool {
-    ghost kind = { a_record tool };
-}
-
-impl FromJson for Tool {
-    fn from_json_at(
-        alloc: Global,
-        value: &Value,
-        version: SpecVersion,
-        depth: Depth,
-    ) -> Result<Tool, JsonReadError> {
-        read_record(alloc, value, version, depth)
-    }
-}
-
-impl Kept for Tool {
-    ghost stays = { λ w l x. record_stays w l tool _ };
-
-    fn kept_as(
-        &self,
-        alloc: Global,
-        version: SpecVersion,
-        label: SpecVersion,
-    ) -> Result<Tool, AllocError> {
-        keep_record(self, alloc, version, label)
-    }
-}
-
-impl ToJson for Tool {
-    fn to_value(&self, alloc: Global, version: SpecVersion) -> Result<Value, AllocError> {
-        write_record(self, alloc, version)
-    }
-}
-
-impl Record for Tool {
-    ghost name = { tool };
-
-    ghost is_plain = { λ x. (refl, refl) };
-
-    ghost flat = { λ d. (refl, refl) };
-
-    #[tactic(auto, unfolding(crate::specs::ByRows::rows_made, cdx_schema::specs::Table::rows, cdx_schema::specs::Table::list))]
+impl JsonRecord for Tool {
+    #[tactic(auto, unfolding(crate::proofs::OnRows::on_rows))]
     fn from_members(
         alloc: Global,
         map: &Map<String, Value>,
@@ -82,7 +37,7 @@ impl Record for Tool {
         })
     }
 
-    #[tactic(auto, unfolding(crate::specs::KeptRows::rows_held, cdx_schema::specs::Table::rows, cdx_schema::specs::Table::list))]
+    #[tactic(auto, unfolding(crate::proofs::OnRows::on_rows))]
     fn kept_rows(
         &self,
         alloc: Global,
@@ -104,7 +59,7 @@ impl Record for Tool {
         })
     }
 
-    #[tactic(auto, unfolding(crate::specs::KeptRows::rows_put, cdx_schema::specs::Table::rows, cdx_schema::specs::Table::list))]
+    #[tactic(auto, unfolding(crate::proofs::OnRows::on_rows))]
     fn put_members(
         &self,
         alloc: Global,

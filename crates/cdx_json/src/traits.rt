@@ -2,29 +2,24 @@
 
 ghost use Rattle.std.specs.Prelude.{◌≡◌, IfOk, OnOk, false};
 ghost use Rattle.serde_json.specs.View.{view, members_view};
-ghost use Rattle.cdx_models.specs.Trees.{Name, fields, is_absent};
+ghost use Rattle.cdx_models.specs.Trees.{fields, fields_of, is_absent};
 ghost use Rattle.cdx_models.specs.declared.bom.SpecVersion.{SpecVersion};
-ghost use Rattle.cdx_schema.specs.Kinds.{Kind};
 ghost use Rattle.cdx_schema.specs.Table.{rows};
-ghost use Rattle.cdx_schema.specs.Depth.{Depth, top};
+ghost use Rattle.cdx_schema.specs.Depth.{top};
 ghost use Rattle.cdx_schema.specs.Keeping.{kept, keep};
 ghost use Rattle.cdx_schema.specs.JsonReading.{jread, seen};
 ghost use Rattle.cdx_schema.specs.JsonSpelling.{jspell};
 ghost use Rattle.cdx_json.specs.Depths.{depth_of};
 ghost use Rattle.cdx_json.specs.Gives.{Gives, Makes};
 ghost use Rattle.cdx_json.specs.ByRows.{by_rows};
-ghost use Rattle.cdx_json.specs.KeptRows.{parts, rows_held, rows_put};
-ghost use Rattle.cdx_json.specs.Stays.{IsPlain, IsFlat};
+ghost use Rattle.cdx_json.specs.KeptRows.{rows_held, rows_put};
 
 use crate::depth::Depth;
-use cdx_models::{HasTree, JsonReadError, JsonWriteError, SpecVersion};
+use crate::fault::here;
+use cdx_models::{JsonKind, JsonReadError, JsonWriteError, SpecVersion};
+use cdx_schema::{Kinded, Record};
 use serde_json::{Map, Value};
 use std::alloc::{AllocError, Global};
-
-/// A value of one of the schema's kinds.
-pub trait Kinded: HasTree {
-    ghost kind: { Kind };
-}
 
 /// A value that is read from JSON.
 pub trait FromJson: Kinded {
@@ -36,7 +31,8 @@ pub trait FromJson: Kinded {
         version: SpecVersion,
         depth: Depth,
     ) -> Result<Self, JsonReadError>
-        ensures { Gives Self.tree result (jread (view value.now) version Self.kind (depth_of depth)) };
+        ensures { Gives Self.tree result
+            (jread (view value.now) version Self.kind (depth_of depth)) };
 
     /// What the value denotes in a version outside all components and services, or its first fault. The fault's path
     /// is counted from the value. Only where memory runs out the answer is `Memory` instead.
@@ -60,7 +56,8 @@ pub trait Kept: Kinded {
         version: SpecVersion,
         label: SpecVersion,
     ) -> Result<Self, AllocError>
-        ensures { IfOk result (λ r. Self.tree r ≡ kept version label (Self.tree self.now) Self.kind) };
+        ensures { IfOk result
+            (λ r. Self.tree r ≡ kept version label (Self.tree self.now) Self.kind) };
 
     /// What a version keeps of it: the fields that the version doesn't know are gone. Only want of memory is refused.
     final fn kept(&self, alloc: Global, version: SpecVersion) -> Result<Self, AllocError>
@@ -70,7 +67,8 @@ pub trait Kept: Kinded {
     }
 
     // What is there stays there.
-    ghost stays: { (w l : SpecVersion) → (x : Self) → is_absent (kept w l (Self.tree x) Self.kind) ≡ false };
+    ghost stays: { (w l : SpecVersion) → (x : Self)
+        → is_absent (kept w l (Self.tree x) Self.kind) ≡ false };
 }
 
 /// A value that is written as JSON.
@@ -78,12 +76,14 @@ pub trait ToJson: Kept {
     /// The spelling of what the version keeps. Only want of memory is refused.
     fn to_value(&self, alloc: Global, version: SpecVersion) -> Result<Value, AllocError>
         ensures { IfOk result
-            (λ v. view v ≡ jspell (keep version (Self.tree self.now) Self.kind) version Self.kind) };
+            (λ v. view v
+            ≡ jspell (keep version (Self.tree self.now) Self.kind) version Self.kind) };
 
     /// The spelling of what the version keeps. Only want of memory is refused, as `Memory`.
     final fn to_json(&self, alloc: Global, version: SpecVersion) -> Result<Value, JsonWriteError>
         ensures { Makes result
-            (λ v. view v ≡ jspell (keep version (Self.tree self.now) Self.kind) version Self.kind) }
+            (λ v. view v
+            ≡ jspell (keep version (Self.tree self.now) Self.kind) version Self.kind) }
     {
         match self.to_value(alloc, version) {
             Ok(value) => Ok(value),
@@ -92,31 +92,31 @@ pub trait ToJson: Kept {
     }
 }
 
-/// A record that is read, kept and written row by row. `read_record`, `keep_record` and `write_record` make of it the
-/// readings, keepings and spellings of the schema.
-pub trait Record: HasTree {
-    ghost name: { Name };
-
-    /// The record whose members these are, or the first fault.
+/// A record that is read, kept and written row by row. So it is `FromJson`, `Kept` and `ToJson`.
+pub trait JsonRecord: Record {
+    /// The record whose members these are, or the first fault. Only where memory runs out the answer is `Memory`
+    /// instead.
     fn from_members(
         alloc: Global,
         map: &Map<String, Value>,
         version: SpecVersion,
         depth: Depth,
     ) -> Result<Self, JsonReadError>
-        ensures { Gives Self.tree result (by_rows name (seen (members_view map.now.entries)) version (depth_of depth)) };
+        ensures { Gives Self.tree result
+            (by_rows Self.name (seen (members_view map.now.entries)) version (depth_of depth)) };
 
-    /// What a version keeps of its rows.
+    /// What a version keeps of its rows, where a bill's label becomes the one given. Only want of memory is refused.
     fn kept_rows(
         &self,
         alloc: Global,
         version: SpecVersion,
         label: SpecVersion,
     ) -> Result<Self, AllocError>
-        ensures { IfOk result
-            (λ r. Self.tree r ≡ fields name (rows_held version label (parts (Self.tree self.now)) (rows name))) };
+        ensures { IfOk result (λ r. Self.tree r
+            ≡ fields Self.name
+            (rows_held version label (fields_of (Self.tree self.now)) (rows Self.name))) };
 
-    /// Sets the members of what the version keeps.
+    /// Sets the members of what the version keeps. Only want of memory is refused.
     fn put_members(
         &self,
         alloc: Global,
@@ -124,9 +124,46 @@ pub trait Record: HasTree {
         version: SpecVersion,
     ) -> Result<(), AllocError>
         ensures { OnOk result (members_view map.new.entries
-            ≡ rows_put (parts (Self.tree self.now)) version (rows name) (members_view map.old.entries)) };
+            ≡ rows_put (fields_of (Self.tree self.now)) version (rows Self.name)
+            (members_view map.old.entries)) };
+}
 
-    ghost is_plain: { (x : Self) → IsPlain name (Self.tree x) };
+/// A record is read from an object, row by row.
+impl<T: JsonRecord> FromJson for T {
+    fn from_json_at(
+        alloc: Global,
+        value: &Value,
+        version: SpecVersion,
+        depth: Depth,
+    ) -> Result<T, JsonReadError> {
+        match value.as_object() {
+            None => Err(here(alloc, JsonKind::WrongKind)),
+            Some(map) => T::from_members(alloc, map, version, depth),
+        }
+    }
+}
 
-    ghost flat: { (d : Depth) → IsFlat name d };
+/// A version keeps the rows of a record that it knows.
+impl<T: JsonRecord> Kept for T {
+    ghost use Rattle.cdx_json.specs.Stays.{record_tree_stays};
+
+    ghost stays = { λ w l x. record_tree_stays w l T.name (T.tree x) (T.is_record x) };
+
+    fn kept_as(
+        &self,
+        alloc: Global,
+        version: SpecVersion,
+        label: SpecVersion,
+    ) -> Result<T, AllocError> {
+        self.kept_rows(alloc, version, label)
+    }
+}
+
+/// A record is written as an object, row by row.
+impl<T: JsonRecord> ToJson for T {
+    fn to_value(&self, alloc: Global, version: SpecVersion) -> Result<Value, AllocError> {
+        let mut map = Map::new(alloc);
+        self.put_members(alloc, &mut map, version)?;
+        Ok(Value::Object(map))
+    }
 }

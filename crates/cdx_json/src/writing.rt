@@ -1,15 +1,15 @@
-//! Keeping and writing texts, booleans, numbers, lists, records and the members of records.
+//! Keeping and writing texts, booleans, numbers, lists and the members of records.
 
 ghost use Rattle.std.specs.Prelude.{◌≡◌, IfOk, OnOk};
 ghost use Rattle.serde_json.specs.View.{view, members_view};
 ghost use Rattle.cdx_models.specs.Trees.{present, list_tree};
-ghost use Rattle.cdx_schema.specs.Kinds.{Lists, a_list, a_record};
+ghost use Rattle.cdx_schema.specs.Kinds.{Lists, a_list};
 ghost use Rattle.cdx_schema.specs.Keeping.{kept, keep};
 ghost use Rattle.cdx_schema.specs.JsonSpelling.{jspell};
 ghost use Rattle.cdx_json.specs.ByRows.{IsListOf};
 ghost use Rattle.cdx_json.specs.KeptRows.{put_kept, put_filled, late_put, late_kept};
 
-use crate::traits::{Kept, Kinded, Record, ToJson};
+use crate::traits::{Kept, ToJson};
 use cdx_events::{List, Text};
 use cdx_models::{HasTree, SpecVersion};
 use serde_json::{Map, Value};
@@ -32,7 +32,7 @@ impl Kept for Text {
 }
 
 impl ToJson for Text {
-    #[tactic(auto, unfolding(cdx_schema::specs::JsonSpelling::jspell, cdx_schema::specs::Keeping::kept))]
+    #[tactic(auto, unfolding(crate::proofs::OnRows::on_spelled))]
     fn to_value(&self, alloc: Global, version: SpecVersion) -> Result<Value, AllocError> {
         Value::try_from_str(alloc, self.as_str())
     }
@@ -55,7 +55,7 @@ impl Kept for bool {
 }
 
 impl ToJson for bool {
-    #[tactic(auto, unfolding(cdx_schema::specs::JsonSpelling::jspell, cdx_schema::specs::Keeping::kept))]
+    #[tactic(auto, unfolding(crate::proofs::OnRows::on_spelled))]
     fn to_value(&self, alloc: Global, version: SpecVersion) -> Result<Value, AllocError> {
         Ok(Value::from(*self))
     }
@@ -78,7 +78,7 @@ impl Kept for u32 {
 }
 
 impl ToJson for u32 {
-    #[tactic(auto, unfolding(cdx_schema::specs::JsonSpelling::jspell, cdx_schema::specs::Keeping::kept))]
+    #[tactic(auto, unfolding(crate::proofs::OnRows::on_spelled))]
     fn to_value(&self, alloc: Global, version: SpecVersion) -> Result<Value, AllocError> {
         Ok(Value::from(*self))
     }
@@ -108,39 +108,14 @@ pub fn list_to_value<T: ToJson + Drop>(
     version: SpecVersion,
 ) -> Result<Value, AllocError>
     ensures { (l : Lists) → IsListOf T.kind l → IfOk result
-        (λ v. view v ≡ jspell (keep version (list_tree T.tree held.now) (a_list l)) version (a_list l)) }
+        (λ v. view v
+        ≡ jspell (keep version (list_tree T.tree held.now) (a_list l)) version (a_list l)) }
 {
     let mut values = Vec::with_capacity(alloc, held.len())?;
     for item in held.as_slice() {
         values.push(item.to_value(alloc, version)?)?;
     }
     Ok(Value::Array(values))
-}
-
-/// What a version keeps of a record.
-pub fn keep_record<T: Record>(
-    held: &T,
-    alloc: Global,
-    version: SpecVersion,
-    label: SpecVersion,
-) -> Result<T, AllocError>
-    ensures { IfOk result (λ r. T.tree r ≡ kept version label (T.tree held.now) (a_record T.name)) }
-{
-    held.kept_rows(alloc, version, label)
-}
-
-/// A record as an object.
-pub fn write_record<T: Record>(
-    held: &T,
-    alloc: Global,
-    version: SpecVersion,
-) -> Result<Value, AllocError>
-    ensures { IfOk result
-        (λ v. view v ≡ jspell (keep version (T.tree held.now) (a_record T.name)) version (a_record T.name)) }
-{
-    let mut map = Map::new(alloc);
-    held.put_members(alloc, &mut map, version)?;
-    Ok(Value::Object(map))
 }
 
 /// Sets a member that is always there.
@@ -166,7 +141,8 @@ pub fn put_row<T: ToJson>(
     version: SpecVersion,
 ) -> Result<(), AllocError>
     ensures { OnOk result (members_view map.new.entries
-        ≡ put_kept name.now T.kind (present T.tree held.now) version (members_view map.old.entries)) }
+        ≡ put_kept name.now T.kind (present T.tree held.now) version
+        (members_view map.old.entries)) }
 {
     match held {
         None => Ok(()),
@@ -185,7 +161,8 @@ pub fn put_row_since<T: ToJson>(
 ) -> Result<(), AllocError>
     ensures { OnOk result (members_view map.new.entries
         ≡ late_put since version (members_view map.old.entries)
-        (put_kept name.now T.kind (present T.tree held.now) version (members_view map.old.entries))) }
+        (put_kept name.now T.kind (present T.tree held.now) version
+        (members_view map.old.entries))) }
 {
     if since.is_known_to(version) {
         put_row(alloc, map, name, held, version)
@@ -203,7 +180,8 @@ pub fn put_required_list<T: ToJson + Drop>(
     version: SpecVersion,
 ) -> Result<(), AllocError>
     ensures { (l : Lists) → IsListOf T.kind l → OnOk result (members_view map.new.entries
-        ≡ put_kept name.now (a_list l) (list_tree T.tree held.now) version (members_view map.old.entries)) }
+        ≡ put_kept name.now (a_list l) (list_tree T.tree held.now) version
+        (members_view map.old.entries)) }
 {
     serde_json::put(map, alloc, name, list_to_value(alloc, held, version)?)
 }
@@ -217,7 +195,8 @@ pub fn put_list<T: ToJson + Drop>(
     version: SpecVersion,
 ) -> Result<(), AllocError>
     ensures { (l : Lists) → IsListOf T.kind l → OnOk result (members_view map.new.entries
-        ≡ put_filled name.now (a_list l) (list_tree T.tree held.now) version (members_view map.old.entries)) }
+        ≡ put_filled name.now (a_list l) (list_tree T.tree held.now) version
+        (members_view map.old.entries)) }
 {
     if held.len() == 0 {
         return Ok(());
@@ -234,7 +213,8 @@ pub fn put_optional_list<T: ToJson + Drop>(
     version: SpecVersion,
 ) -> Result<(), AllocError>
     ensures { (l : Lists) → IsListOf T.kind l → OnOk result (members_view map.new.entries
-        ≡ put_kept name.now (a_list l) (present (list_tree T.tree) held.now) version (members_view map.old.entries)) }
+        ≡ put_kept name.now (a_list l) (present (list_tree T.tree) held.now) version
+        (members_view map.old.entries)) }
 {
     match held {
         None => Ok(()),
@@ -253,7 +233,8 @@ pub fn put_optional_list_since<T: ToJson + Drop>(
 ) -> Result<(), AllocError>
     ensures { (l : Lists) → IsListOf T.kind l → OnOk result (members_view map.new.entries
         ≡ late_put since version (members_view map.old.entries)
-        (put_kept name.now (a_list l) (present (list_tree T.tree) held.now) version (members_view map.old.entries))) }
+        (put_kept name.now (a_list l) (present (list_tree T.tree) held.now) version
+        (members_view map.old.entries))) }
 {
     if since.is_known_to(version) {
         put_optional_list(alloc, map, name, held, version)
@@ -270,7 +251,8 @@ pub fn keep_row<T: Kept>(
     version: SpecVersion,
     label: SpecVersion,
 ) -> Result<Option<T>, AllocError>
-    ensures { IfOk result (λ r. present T.tree r ≡ kept version label (present T.tree held.now) T.kind) }
+    ensures { IfOk result
+        (λ r. present T.tree r ≡ kept version label (present T.tree held.now) T.kind) }
 {
     match held {
         None => Ok(None),
@@ -305,7 +287,8 @@ pub fn keep_optional_list<T: Kept + Drop>(
     label: SpecVersion,
 ) -> Result<Option<List<T>>, AllocError>
     ensures { (l : Lists) → IsListOf T.kind l → IfOk result
-        (λ r. present (list_tree T.tree) r ≡ kept version label (present (list_tree T.tree) held.now) (a_list l)) }
+        (λ r. present (list_tree T.tree) r
+        ≡ kept version label (present (list_tree T.tree) held.now) (a_list l)) }
 {
     match held {
         None => Ok(None),
@@ -322,7 +305,8 @@ pub fn keep_optional_list_since<T: Kept + Drop>(
     label: SpecVersion,
 ) -> Result<Option<List<T>>, AllocError>
     ensures { (l : Lists) → IsListOf T.kind l → IfOk result (λ r. present (list_tree T.tree) r
-        ≡ late_kept since version (kept version label (present (list_tree T.tree) held.now) (a_list l))) }
+        ≡ late_kept since version
+        (kept version label (present (list_tree T.tree) held.now) (a_list l))) }
 {
     if since.is_known_to(version) {
         keep_optional_list(alloc, held, version, label)

@@ -1,5 +1,5 @@
 -- Rows that are attributes.
-use Rattle.std.proofs.Common.{◌≡◌, ℕ, suc, ◌+◌, ◌-◌, List, [], ◌∷◌, Bool, true, false, Option, Some, None, Result, Ok, Err, refl, sym, ap, ◌∙◌, subst, arith}
+use Rattle.std.proofs.Common.{◌≡◌, ℕ, List, [], ◌∷◌, Bool, true, false, Option, Some, None, Result, Ok, Err, refl, sym, ap, ◌∙◌, subst}
 use Rattle.std.specs.Prelude.{if◌then◌else◌}
 use Rattle.cdx_models.specs.declared.errors.XmlReadError.{XmlReadError}
 use Rattle.cdx_models.specs.declared.bom.SpecVersion.{SpecVersion}
@@ -9,7 +9,7 @@ use Rattle.cdx_models.specs.Versions.{knows}
 use Rattle.cdx_models.specs.Trees.{Tree, Trees, absent, text, none, more}
 use Rattle.cdx_schema.specs.Results.{◌>>=◌}
 use Rattle.cdx_schema.specs.Faults.{lacking}
-use Rattle.cdx_schema.specs.Kinds.{Kind, Row, Member, Need, required, optional, a_text}
+use Rattle.cdx_schema.specs.Kinds.{Kind, Row, Member, required, optional, a_text}
 use Rattle.cdx_schema.specs.JsonReading.{is_required}
 use Rattle.cdx_schema.specs.XmlTexts.{of_text}
 use Rattle.cdx_schema.specs.XmlReading.{attribute_read, parsed, find_attribute, row_attribute, attributes_read}

@@ -1,10 +1,9 @@
 -- Records whose content is a text.
-use Rattle.std.proofs.Common.{◌≡◌, ℕ, suc, ◌+◌, ◌-◌, List, Bool, false, Result, Ok, Err, refl, sym, ap, ◌∙◌, subst}
+use Rattle.std.proofs.Common.{◌≡◌, ℕ, suc, ◌+◌, ◌-◌, List, true, Result, Ok, Err, refl, sym, ap, ◌∙◌, subst}
 use Rattle.std.specs.Prelude.{if◌then◌else◌}
 use Rattle.cdx_events.specs.declared.name.OwnedName.{OwnedName}
 use Rattle.cdx_events.specs.declared.name.OwnedAttribute.{OwnedAttribute}
 use Rattle.cdx_events.specs.declared.name.Namespace.{Namespace}
-use Rattle.cdx_events.specs.declared.event.XmlEvent.{XmlEvent}
 use Rattle.cdx_events.specs.Nodes.{Nodes, element}
 use Rattle.cdx_events.specs.Cursor.{Cursor}
 use Rattle.cdx_models.specs.declared.errors.XmlReadError.{XmlReadError}
@@ -12,14 +11,15 @@ use Rattle.cdx_models.specs.declared.bom.SpecVersion.{SpecVersion}
 use Rattle.cdx_models.specs.Trees.{Name, Tree, Trees, text, fields, with_field}
 use Rattle.cdx_schema.specs.Faults.{nested}
 use Rattle.cdx_schema.specs.Results.{◌>>=◌}
-use Rattle.cdx_schema.specs.Depth.{Depth, inside, is_too_deep}
+use Rattle.cdx_schema.specs.Depth.{Depth}
+use Rattle.cdx_schema.specs.Plain.{is_plain}
+use Rattle.cdx_schema.proofs.PlainNames.{plain_name}
 use Rattle.cdx_schema.specs.Kinds.{a_record}
 use Rattle.cdx_schema.specs.Table.{rows}
 use Rattle.cdx_schema.specs.Nodes.{places_of}
-use Rattle.cdx_schema.specs.XmlReading.{Content, any_text, one_text_alone, content_from, content_read, simple_text, exact_text, attributes_read, in_force, ended, Element, record_read, xread, nodes_read}
+use Rattle.cdx_schema.specs.XmlReading.{any_text, one_text_alone, content_from, content_read, simple_text, exact_text, attributes_read, in_force, ended, Element, record_read, xread, nodes_read}
 use Rattle.cdx_leaf.specs.Attribute.{Gives}
-use Rattle.cdx_leaf.specs.Plain.{HasContent}
-use Rattle.cdx_leaf.specs.Reading.{Stands, Reads, ReadsAs, after}
+use Rattle.cdx_leaf.specs.Reading.{Reads, ReadsAs, after}
 use Rattle.cdx_leaf.specs.Content.{with_text, ReadsContent}
 use Rattle.cdx_leaf.proofs.Records.{first_fails}
 use Rattle.cdx_leaf.proofs.Whole.{finished, start_is}
@@ -32,16 +32,27 @@ paired_is : (r : Result (List ℕ) XmlReadError) (ts : Trees) → paired r ts �
 paired_is (Ok s) ts = refl
 paired_is (Err f) ts = refl
 
-module _ (name : Name) (i : ℕ) (read : Nodes → List ℕ → ℕ → Result (List ℕ) XmlReadError) (has : HasContent name i read) where
-  content_is : (v : SpecVersion) (n : OwnedName) (a : List OwnedAttribute) (ns : Namespace) (d : Depth) (p : ℕ) (nodes : Nodes)
+-- The content of a record is field i, read like this.
+abbrev pub HasContent : Name → ℕ → (Nodes → List ℕ → ℕ → Result (List ℕ) XmlReadError) → Type 0
+HasContent name i read =
+    (e : Element) (ts : Trees) (v : SpecVersion) (d : Depth) → content_read (content_from 0 (rows name)) e name ts v d ≡ (read e.nodes e.name (suc e.start) >>= λ s. Ok (with_field i (text s) ts))
+
+pub any_content : (name : Name) (i : ℕ) → content_from 0 (rows name) ≡ any_text i → HasContent name i (λ nodes el q. simple_text nodes el q)
+any_content name i is e ts v d = ap (λ c. content_read c e name ts v d) is
+
+pub text_content : (name : Name) (i : ℕ) → content_from 0 (rows name) ≡ one_text_alone i → HasContent name i (λ nodes el q. exact_text nodes el q)
+text_content name i is e ts v d = ap (λ c. content_read c e name ts v d) is
+
+module _ (name : Name) (i : ℕ) (read : Nodes → List ℕ → ℕ → Result (List ℕ) XmlReadError) (has : HasContent name i read) (plain : is_plain name ≡ true) where
+  pub content_is : (v : SpecVersion) (n : OwnedName) (a : List OwnedAttribute) (ns : Namespace) (d : Depth) (p : ℕ) (nodes : Nodes)
       → xread (element n a ns nodes) v (a_record name) p d ≡ (with_text read (attributes_read (rows name) (in_force name a) v n.local_name p) n.local_name p nodes >>= λ x. finished name v n.local_name (suc (p + places_of nodes)) (with_field i (text x.1) x.0))
   unfolding xread
   content_is v n a ns d p nodes =
       let e : Element = record { name = n.local_name; attributes = a; namespace = ns.default; nodes = nodes; start = p; read = λ plan w e ts. nodes_read nodes plan n.local_name w e (suc p) ts } in
       let last : Trees → Result Tree XmlReadError = λ ts. finished name v n.local_name (suc (p + places_of nodes)) ts in
       let first = attributes_read (rows name) (in_force name a) v n.local_name p in
-      ap (λ b. if b then Err (nested p) else record_read e name v d) (has.shallow d)
-      ∙ ap (λ x. (first >>= λ ts. content_read (content_from 0 (rows name)) e name ts v x) >>= last) (has.same_depth d)
+      ap (λ b. if b then Err (nested p) else record_read e name v d) ((plain_name name plain).shallow d)
+      ∙ ap (λ x. (first >>= λ ts. content_read (content_from 0 (rows name)) e name ts v x) >>= last) ((plain_name name plain).same_depth d)
       ∙ go e first last
     where
       inner : (r : Result (List ℕ) XmlReadError) (ts : Trees) (last : Trees → Result Tree XmlReadError) → ((r >>= λ s. Ok (with_field i (text s) ts)) >>= last) ≡ (paired r ts >>= λ x. last (with_field i (text x.1) x.0))
@@ -49,7 +60,7 @@ module _ (name : Name) (i : ℕ) (read : Nodes → List ℕ → ℕ → Result (
       inner (Err f) ts last = refl
 
       go : (e : Element) (first : Result Trees XmlReadError) (last : Trees → Result Tree XmlReadError) → ((first >>= λ ts. content_read (content_from 0 (rows name)) e name ts v d) >>= last) ≡ (with_text read first e.name e.start e.nodes >>= λ x. last (with_field i (text x.1) x.0))
-      go e (Ok ts) last = ap (λ r. r >>= last) (has.content e ts v d) ∙ inner (read e.nodes e.name (suc e.start)) ts last ∙ ap (λ q. q >>= λ x. last (with_field i (text x.1) x.0)) (paired_is (read e.nodes e.name (suc e.start)) ts)
+      go e (Ok ts) last = ap (λ r. r >>= last) (has e ts v d) ∙ inner (read e.nodes e.name (suc e.start)) ts last ∙ ap (λ q. q >>= λ x. last (with_field i (text x.1) x.0)) (paired_is (read e.nodes e.name (suc e.start)) ts)
       go e (Err f) last = refl
 
   -- What is read of the content is a whole record, of which nothing has to be there at the end.

@@ -1,5 +1,5 @@
 -- A child of a record whose rows are cut into groups: it is read into the group that has a row for it.
-use Rattle.std.proofs.Common.{◌≡◌, ℕ, zero, suc, ◌+◌, ◌<◌, ◌≤◌, List, [], ◌∷◌, ◌++◌, length, map, Bool, true, false, Option, Some, None, Result, Ok, Err, refl, sym, ap, ◌∙◌, subst, arith}
+use Rattle.std.proofs.Common.{◌≡◌, ℕ, zero, suc, ◌+◌, ◌<◌, ◌≤◌, List, [], ◌∷◌, ◌++◌, length, Bool, true, false, Option, Some, None, Result, Ok, Err, refl, sym, ap, ◌∙◌, subst, arith}
 use Rattle.std.specs.Prelude.{◌&&◌, bytes_eq, if◌then◌else◌}
 use Rattle.cdx_events.specs.declared.name.OwnedName.{OwnedName}
 use Rattle.cdx_events.specs.declared.name.OwnedAttribute.{OwnedAttribute}
@@ -18,7 +18,7 @@ use Rattle.cdx_schema.proofs.XmlBack.{children_append}
 use Rattle.cdx_leaf.specs.declared.taken.Taken.{Taken}
 use Rattle.cdx_leaf.specs.declared.taken.Taken.TheVariants as answers
 use Rattle.cdx_leaf.specs.Reading.{Stands, IsIn, after}
-use Rattle.cdx_leaf.specs.Children.{Met, nothing, second, found, meet, ReadsChild, TakesChild, Refuses}
+use Rattle.cdx_leaf.specs.Children.{Met, nothing, second, found, meet, ReadsChild, TakesChild}
 use Rattle.cdx_leaf.specs.Groups.{rows_plan, size}
 use Rattle.cdx_leaf.specs.NextChild.{is_unknown}
 use Rattle.cdx_leaf.proofs.Records.{first_fails}

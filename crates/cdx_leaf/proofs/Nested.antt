@@ -1,5 +1,5 @@
 -- Records that stand in records of their own kind: they count their depth, and plain functions that call one another read them.
-use Rattle.std.proofs.Common.{◌≡◌, ℕ, suc, ◌+◌, ◌-◌, ◌≤◌, List, Bool, true, false, Result, Ok, Err, refl, sym, ap, ◌∙◌, subst, arith}
+use Rattle.std.proofs.Common.{◌≡◌, ℕ, suc, ◌+◌, ◌-◌, ◌≤◌, List, true, Result, Ok, Err, sym, ap, ◌∙◌, subst, arith}
 use Rattle.std.specs.Prelude.{if◌then◌else◌}
 use Rattle.cdx_events.specs.declared.name.OwnedName.{OwnedName}
 use Rattle.cdx_events.specs.declared.name.OwnedAttribute.{OwnedAttribute}
@@ -18,14 +18,13 @@ use Rattle.cdx_schema.specs.Table.{rows}
 use Rattle.cdx_schema.specs.Nodes.{places_of}
 use Rattle.cdx_schema.specs.XmlReading.{Plan, record_plan, attributes_read, in_force, Element, record_read, xread, nodes_read, ended}
 use Rattle.cdx_leaf.specs.declared.taken.Taken.{Taken}
-use Rattle.cdx_leaf.specs.declared.taken.Taken.TheVariants as answers
 use Rattle.cdx_leaf.specs.Attribute.{Gives}
 use Rattle.cdx_leaf.specs.Children.{TakesChild}
 use Rattle.cdx_leaf.specs.Each.{each, plan_step}
 use Rattle.cdx_leaf.specs.Fault.{Fails}
 use Rattle.cdx_leaf.specs.Reading.{Stands, Reads, ReadsAs, after}
 use Rattle.cdx_leaf.proofs.Records.{first_fails}
-use Rattle.cdx_leaf.proofs.Whole.{so_far, finished, start_is, begun_fails, finished_as, seen_whole}
+use Rattle.cdx_leaf.proofs.Whole.{so_far, finished, IsNested, start_is, begun_fails, finished_as, seen_whole}
 
 -- ---- children at one depth
 
@@ -34,10 +33,6 @@ pub at_depth : (d : Depth) (before now : Trees) (old new : Cursor) (v : SpecVers
 at_depth d before now old new v plan n a r takes e ns p nodes rest st = takes d ns p nodes rest st
 
 -- ---- a record that counts its depth
-
--- its fields, read one level deeper, and its end
-abbrev pub IsNested : Name → SpecVersion → OwnedName → List OwnedAttribute → Namespace → Depth → Depth → ℕ → Nodes → Type 0
-IsNested name v n a ns d inner p nodes = xread (element n a ns nodes) v (a_record name) p d ≡ (so_far name v inner n.local_name a p nodes >>= λ ts. finished name v n.local_name (suc (p + places_of nodes)) ts)
 
 deep_is : (name : Name) (v : SpecVersion) (n : OwnedName) (a : List OwnedAttribute) (ns : Namespace) (d : Depth) (p : ℕ) (nodes : Nodes) → name_too_deep name d ≡ true → xread (element n a ns nodes) v (a_record name) p d ≡ Err (nested p)
 unfolding xread

@@ -1,5 +1,5 @@
 -- Readers of texts and lists, seen from the kinds that they read.
-use Rattle.std.proofs.Common.{◌≡◌, ℕ, suc, ◌+◌, ◌-◌, ◌≤◌, arith, List, [], ◌∷◌, Result, Ok, Err, refl, sym, ap, ◌∙◌, subst}
+use Rattle.std.proofs.Common.{◌≡◌, ℕ, suc, ◌+◌, ◌-◌, arith, List, [], ◌∷◌, Result, Ok, Err, refl, sym, ap, ◌∙◌, subst}
 use Rattle.cdx_events.specs.declared.name.OwnedName.{OwnedName}
 use Rattle.cdx_events.specs.declared.name.OwnedAttribute.{OwnedAttribute}
 use Rattle.cdx_events.specs.declared.name.Namespace.{Namespace}
@@ -18,7 +18,6 @@ use Rattle.cdx_schema.specs.Nodes.{places_of}
 use Rattle.cdx_leaf.specs.Attribute.{Gives}
 use Rattle.cdx_leaf.specs.Numbers.{value_read}
 use Rattle.cdx_leaf.specs.Tags.{boolean_in}
-use Rattle.cdx_leaf.proofs.Whole.{end_is}
 use Rattle.cdx_leaf.specs.Fault.{Fails}
 use Rattle.cdx_leaf.specs.Each.{each, plan_step}
 use Rattle.cdx_leaf.specs.Reading.{Stands, Reads, ReadsRest, ReadsAs, after}

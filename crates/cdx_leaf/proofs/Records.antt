@@ -1,6 +1,5 @@
 -- Steps of a record reader, one after the other.
-use Rattle.std.proofs.Common.{◌≡◌, ℕ, ◌+◌, ◌-◌, List, Result, Ok, sym, ap, subst, arith}
-use Rattle.cdx_events.specs.declared.name.OwnedAttribute.{OwnedAttribute}
+use Rattle.std.proofs.Common.{◌≡◌, ℕ, ◌+◌, ◌-◌, Result, Ok, sym, ap, subst, arith}
 use Rattle.cdx_events.specs.Cursor.{Cursor}
 use Rattle.cdx_models.specs.declared.errors.XmlReadError.{XmlReadError}
 use Rattle.cdx_leaf.specs.Fault.{Fails}

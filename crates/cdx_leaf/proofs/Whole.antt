@@ -1,31 +1,31 @@
 -- Whole records.
-use Rattle.std.proofs.Common.{◌≡◌, ℕ, suc, ◌+◌, ◌-◌, ◌≤◌, List, Bool, true, false, Option, Some, None, Result, Ok, Err, refl, sym, ap, ◌∙◌, subst, arith}
+use Rattle.std.proofs.Common.{◌≡◌, ℕ, suc, ◌+◌, ◌-◌, ◌≤◌, List, true, false, Result, Ok, Err, sym, ap, ◌∙◌, subst, arith}
 use Rattle.std.specs.Prelude.{if◌then◌else◌}
 use Rattle.cdx_events.specs.declared.name.OwnedName.{OwnedName}
 use Rattle.cdx_events.specs.declared.name.OwnedAttribute.{OwnedAttribute}
 use Rattle.cdx_events.specs.declared.name.Namespace.{Namespace}
 use Rattle.cdx_events.specs.declared.event.XmlEvent.{XmlEvent}
-use Rattle.cdx_events.specs.Nodes.{Node, Nodes, element}
+use Rattle.cdx_events.specs.Nodes.{Nodes, element}
 use Rattle.cdx_events.specs.Cursor.{Cursor}
 use Rattle.cdx_models.specs.declared.errors.XmlReadError.{XmlReadError}
-use Rattle.cdx_models.specs.declared.errors.XmlReadError.TheVariants as errors
 use Rattle.cdx_models.specs.declared.bom.SpecVersion.{SpecVersion}
 use Rattle.cdx_models.specs.Trees.{Name, Tree, Trees, fields}
 use Rattle.cdx_schema.specs.Faults.{nested}
 use Rattle.cdx_schema.specs.Results.{◌>>=◌}
 use Rattle.cdx_schema.specs.Depth.{Depth, inside, is_too_deep}
-use Rattle.cdx_schema.specs.Kinds.{Kind, a_record}
+use Rattle.cdx_schema.specs.Kinds.{a_record}
+use Rattle.cdx_schema.specs.Plain.{is_plain}
+use Rattle.cdx_schema.proofs.PlainNames.{plain_name}
 use Rattle.cdx_schema.specs.Table.{rows}
 use Rattle.cdx_schema.specs.Nodes.{places_of}
-use Rattle.cdx_schema.specs.XmlReading.{Plan, Content, no_content, content_from, content_read, record_plan, attributes_read, in_force, ended, end_of, Element, record_read, xread, nodes_read}
-use Rattle.cdx_leaf.specs.Fault.{Fails, within}
-use Rattle.cdx_leaf.specs.Plain.{IsPlain}
+use Rattle.cdx_schema.specs.XmlReading.{Plan, no_content, content_from, content_read, record_plan, attributes_read, in_force, ended, Element, record_read, xread, nodes_read}
+use Rattle.cdx_leaf.specs.Fault.{Fails}
 use Rattle.cdx_leaf.specs.Attribute.{Gives}
 use Rattle.cdx_leaf.specs.Each.{each, plan_step}
-use Rattle.cdx_leaf.specs.Reading.{Stands, Reads, ReadsAs, after}
+use Rattle.cdx_leaf.specs.Reading.{Stands, Reads, after}
 use Rattle.cdx_leaf.specs.Begun.{Begins, read_on, ReadsBegun}
 use Rattle.cdx_leaf.proofs.ChildSteps.{both, each_is}
-use Rattle.cdx_leaf.proofs.Records.{first_fails, then_fails}
+use Rattle.cdx_leaf.proofs.Records.{first_fails}
 
 -- ---- what read_record reads
 
@@ -64,10 +64,13 @@ nested_is name alone v n a ns d p nodes shallow =
     ∙ ap (λ c. (first >>= λ ts. content_read c e name ts v i) >>= last) alone
     ∙ ap (λ r. r >>= last) (both first (λ ts. nodes_read nodes (record_plan name) n.local_name v i (suc p) ts) (λ ts. each (plan_step (record_plan name) v i n.local_name) nodes (suc p) ts) (λ ts. each_is nodes (record_plan name) n.local_name v i (suc p) ts))
 
-pub record_is : (name : Name) → IsPlain name → (v : SpecVersion) (n : OwnedName) (a : List OwnedAttribute) (ns : Namespace) (d : Depth) (p : ℕ) (nodes : Nodes)
-    → xread (element n a ns nodes) v (a_record name) p d ≡ (so_far name v d n.local_name a p nodes >>= λ ts. finished name v n.local_name (suc (p + places_of nodes)) ts)
-record_is name plain v n a ns d p nodes =
-    nested_is name plain.no_content v n a ns d p nodes (plain.shallow d) ∙ ap (λ x. so_far name v x n.local_name a p nodes >>= λ ts. finished name v n.local_name (suc (p + places_of nodes)) ts) (plain.same_depth d)
+-- its fields, read at a depth, and its end
+abbrev pub IsNested : Name → SpecVersion → OwnedName → List OwnedAttribute → Namespace → Depth → Depth → ℕ → Nodes → Type 0
+IsNested name v n a ns d inner p nodes = xread (element n a ns nodes) v (a_record name) p d ≡ (so_far name v inner n.local_name a p nodes >>= λ ts. finished name v n.local_name (suc (p + places_of nodes)) ts)
+
+pub record_is : (name : Name) → content_from 0 (rows name) ≡ no_content → is_plain name ≡ true → (v : SpecVersion) (n : OwnedName) (a : List OwnedAttribute) (ns : Namespace) (d : Depth) (p : ℕ) (nodes : Nodes) → IsNested name v n a ns d d p nodes
+record_is name alone plain v n a ns d p nodes =
+    nested_is name alone v n a ns d p nodes ((plain_name name plain).shallow d) ∙ ap (λ x. so_far name v x n.local_name a p nodes >>= λ ts. finished name v n.local_name (suc (p + places_of nodes)) ts) ((plain_name name plain).same_depth d)
 
 -- Begun by its attributes, and read to the element's end.
 pub begins : {R : Type 0} (slots : R → Trees) (plan : R → Plan) (depth : R → Depth → Depth) (v : SpecVersion) (pl : Plan) (dp : Depth → Depth) (p : ℕ) (first : Result Trees XmlReadError) (begun : Result R XmlReadError) → ((r : R) → plan r ≡ pl) → ((r : R) → depth r ≡ dp) → Gives slots (p + 1) first begun → Begins slots plan depth v dp pl p first begun
@@ -90,10 +93,10 @@ reads_so_far slots plan_of depth_of name plans depths v n a old new k begun resu
 -- ---- a record that is finished at its end
 
 -- the part was refused
-pub part_fails : (name : Name) → IsPlain name → (v : SpecVersion) (n : OwnedName) (a : List OwnedAttribute) (ns : Namespace) (d : Depth) (p : ℕ) (nodes : Nodes) (old new : Cursor) (e : XmlReadError)
+pub part_fails : (name : Name) (v : SpecVersion) (n : OwnedName) (a : List OwnedAttribute) (ns : Namespace) (d : Depth) (p : ℕ) (nodes : Nodes) (old new : Cursor) (e : XmlReadError) → IsNested name v n a ns d d p nodes
     → (old.place ≤ new.place) × Fails e new.place (so_far name v d n.local_name a p nodes) → (old.place ≤ new.place) × Fails e new.place (xread (element n a ns nodes) v (a_record name) p d)
-part_fails name plain v n a ns d p nodes old new e h =
-    (h.0, subst (λ x. Fails e new.place x) (sym (record_is name plain v n a ns d p nodes)) (first_fails e new.place (so_far name v d n.local_name a p nodes) (λ ts. finished name v n.local_name (suc (p + places_of nodes)) ts) h.1))
+part_fails name v n a ns d p nodes old new e is h =
+    (h.0, subst (λ x. Fails e new.place x) (sym is) (first_fails e new.place (so_far name v d n.local_name a p nodes) (λ ts. finished name v n.local_name (suc (p + places_of nodes)) ts) h.1))
 
 -- k is where the reader stands after the end
 pub end_is : (old new : Cursor) (k p m : ℕ) → old.place ≡ suc p → new.place ≡ k → new.place ≡ old.place + m + 1 → k - 1 ≡ suc (p + m)
@@ -118,13 +121,13 @@ finished_as {X = X} into name v n p nodes rest old new k ts result st is at give
         (omega (arith, placed), first_fails e new.place (ended (rows name) ts v n.local_name (suc (p + places_of nodes))) (λ us. Ok (fields name us)) (subst (λ y. Fails e y (ended (rows name) ts v n.local_name (suc (p + places_of nodes)))) same h))
 
 -- the part was read, and is finished
-pub part_finishes : {R X : Type 0} (slots : R → Trees) (into : X → Trees) (name : Name) → IsPlain name → (v : SpecVersion) (n : OwnedName) (a : List OwnedAttribute) (ns : Namespace) (d : Depth) (p : ℕ) (nodes : Nodes) (rest : List XmlEvent) (old new : Cursor) (k : ℕ) (part : R) (result : Result X XmlReadError)
+pub part_finishes : {R X : Type 0} (slots : R → Trees) (into : X → Trees) (name : Name) (v : SpecVersion) (n : OwnedName) (a : List OwnedAttribute) (ns : Namespace) (d : Depth) (p : ℕ) (nodes : Nodes) (rest : List XmlEvent) (old new : Cursor) (k : ℕ) (part : R) (result : Result X XmlReadError) → IsNested name v n a ns d d p nodes
     → Stands old n p nodes rest → (so_far name v d n.local_name a p nodes ≡ Ok (slots part)) × (new ≡ after old nodes rest)
     → new.place ≡ k → Gives into ((k - 1) + 1) (ended (rows name) (slots part) v n.local_name (k - 1)) result
     → Reads (λ x. fields name (into x)) old new (after old nodes rest) (xread (element n a ns nodes) v (a_record name) p d) result
-part_finishes slots into name plain v n a ns d p nodes rest old new k part result st read at gives =
+part_finishes slots into name v n a ns d p nodes rest old new k part result whole st read at gives =
     let q = suc (p + places_of nodes) in
-    let is : xread (element n a ns nodes) v (a_record name) p d ≡ finished name v n.local_name q (slots part) = record_is name plain v n a ns d p nodes ∙ ap (λ x. x >>= λ ts. finished name v n.local_name q ts) read.0 in
+    let is : xread (element n a ns nodes) v (a_record name) p d ≡ finished name v n.local_name q (slots part) = whole ∙ ap (λ x. x >>= λ ts. finished name v n.local_name q ts) read.0 in
     subst (λ x. Reads (λ x. fields name (into x)) old new (after old nodes rest) x result) (sym is) (finished_as into name v n p nodes rest old new k (slots part) result st read.1 at gives)
 
 -- the reader is past the element's start

@@ -1,10 +1,15 @@
-use Rattle.std.specs.Prelude.{◌≡◌, ℕ, List, [], ◌∷◌, Option, Some, None, Result, Ok, Err}
+-- What is read of attributes.
+use Rattle.std.specs.Prelude.{◌≡◌, ℕ, List, Option, Some, None, Result, Ok, Err}
 use Rattle.std.specs.Prelude.{if◌then◌else◌}
 use Rattle.cdx_models.specs.declared.bom.SpecVersion.{SpecVersion}
 use Rattle.cdx_models.specs.Versions.{knows}
 use Rattle.cdx_schema.specs.Kinds.{Kind, Row, Member, Need, optional, a_text, attribute}
 use Rattle.cdx_models.specs.declared.bom.SpecVersion.TheVariants.{V1_3}
 use Rattle.cdx_models.specs.declared.errors.XmlReadError.{XmlReadError}
+use Rattle.cdx_events.specs.declared.name.OwnedAttribute.{OwnedAttribute}
+use Rattle.cdx_models.specs.Trees.{Name, Trees}
+use Rattle.cdx_schema.specs.Table.{rows}
+use Rattle.cdx_schema.specs.XmlReading.{attributes_read, in_force}
 use Rattle.cdx_leaf.specs.Fault.{Fails}
 
 -- there is a value, or the fault is what is denoted
@@ -26,3 +31,7 @@ text_row name j since need = record { kind = a_text; xml = attribute name; json 
 
 abbrev pub value_of : Kind → List ℕ → Member → Row
 value_of k name j = record { kind = k; xml = attribute name; json = j; since = V1_3; need = optional }
+
+-- what the attributes of a record's element give, for an element of this name whose start stands at this place
+abbrev pub start_read : Name → SpecVersion → List ℕ → List OwnedAttribute → ℕ → Result Trees XmlReadError
+start_read name v el attributes place = attributes_read (rows name) (in_force name attributes) v el place

@@ -11,7 +11,7 @@ pub mod Listing
 pub mod Content
 pub mod Numbers
 pub mod Tags
-pub mod Plain
+pub mod RowContents
 pub mod Parts
 pub mod Whole
 pub mod Groups

@@ -1,12 +1,11 @@
 -- The fields of records while they are read.
 use Rattle.std.specs.Prelude.{ℕ, List, [], ◌∷◌, Option}
-use Rattle.cdx_models.specs.Trees.{text, absent, trees, Trees, present}
+use Rattle.cdx_models.specs.Trees.{text, absent, trees, Trees, present, fields_of}
 use Rattle.cdx_models.specs.Records.{contact_tree, entity_tree, tool_tree, hashes_tree}
 use Rattle.cdx_models.specs.declared.organization.OrganizationalContact.{OrganizationalContact}
 use Rattle.cdx_models.specs.declared.organization.OrganizationalEntity.{OrganizationalEntity}
 use Rattle.cdx_models.specs.declared.tool.Tool.{Tool}
 use Rattle.cdx_leaf.specs.declared.reading.parts.ReferencePart.{ReferencePart}
-use Rattle.cdx_leaf.specs.Trees.{fields_of}
 
 abbrev pub contact_slots : OrganizationalContact → Trees
 contact_slots c = fields_of (contact_tree c)
@@ -24,9 +23,6 @@ reference_part x = trees (text x.external_reference_type ∷ present text x.url 
 
 abbrev pub text_alone : List ℕ → Trees
 text_alone s = trees (text s ∷ absent ∷ [])
-
-abbrev pub reference_alone : Option (List ℕ) → Trees
-reference_alone o = trees (present text o ∷ absent ∷ [])
 
 abbrev pub attached_start : Option (List ℕ) × Option (List ℕ) → Trees
 attached_start x = trees (present text x.0 ∷ present text x.1 ∷ absent ∷ [])

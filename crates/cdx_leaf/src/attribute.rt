@@ -47,7 +47,10 @@ pub fn attribute_or_error(
     attributes: &List<OwnedAttribute>,
     expected: &str,
 ) -> Result<Text, XmlReadError>
-    ensures { Gives (λ t. t) (place + 1) (or_fault (find_attribute expected.now attributes.now) (lacking place element.now.local_name expected.now)) result }
+    ensures { Gives (λ t. t) (place + 1)
+        (or_fault (find_attribute expected.now attributes.now)
+        (lacking place element.now.local_name expected.now))
+        result }
 {
     match optional_attribute(attributes, expected) {
         Some(value) => Ok(value.copy(alloc)?),
@@ -55,17 +58,18 @@ pub fn attribute_or_error(
     }
 }
 
-/// A copy of the value where `v` knows the attribute, which is there from `since` on.
+/// A copy of the value where `version` knows the attribute, which is there from `since` on.
 pub fn attribute_since(
     alloc: Global,
     since: SpecVersion,
-    v: SpecVersion,
+    version: SpecVersion,
     attributes: &List<OwnedAttribute>,
     expected: &str,
 ) -> Result<Option<Text>, AllocError>
-    ensures { IfOk result (λ o. o ≡ known since v (find_attribute expected.now attributes.now)) }
+    ensures { IfOk result
+        (λ o. o ≡ known since version (find_attribute expected.now attributes.now)) }
 {
-    if since.is_known_to(v) {
+    if since.is_known_to(version) {
         attribute_or_none(alloc, attributes, expected)
     } else {
         Ok(None)
@@ -100,7 +104,8 @@ pub fn child_or_error<T: Drop>(
     child: Option<T>,
     expected: &str,
 ) -> Result<T, XmlReadError>
-    ensures { Gives (λ t. t) (place + 1) (or_fault child (lacking place element.now.local_name expected.now)) result }
+    ensures { Gives (λ t. t) (place + 1)
+        (or_fault child (lacking place element.now.local_name expected.now)) result }
 {
     match child {
         Some(value) => Ok(value),

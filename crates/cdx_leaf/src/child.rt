@@ -23,7 +23,9 @@ use std::alloc::Global;
 pub struct Child<'a> {
     /// The place of its start.
     pub place: usize,
+    /// Its name.
     pub name: &'a OwnedName,
+    /// Its attributes, in their order.
     pub attributes: &'a List<OwnedAttribute>,
 }
 
@@ -36,7 +38,8 @@ pub fn next_child<'a>(
     rule: Rule,
 ) -> Result<Option<Child<'a>>, XmlReadError>
     requires { IsAt reader.old element.now }
-    ensures { (nodes : Nodes) (rest : List XmlEvent) → At reader.old element.now nodes rest → Meets rule reader.old reader.new element.now nodes rest result }
+    ensures { (nodes : Nodes) (rest : List XmlEvent) → At reader.old element.now nodes rest
+        → Meets rule reader.old reader.new element.now nodes rest result }
 {
     'texts: loop {
         let place = reader.place();

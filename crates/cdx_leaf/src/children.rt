@@ -7,7 +7,7 @@
 //!
 //! ```text
 //! 'nodes: while let Some(child) = next_child(alloc, reader, element, Rule::Lax)? {
-//!     let taken = read_part_child(alloc, reader, v, child.name, child.attributes, part, depth)?;
+//!     let taken = read_part_child(alloc, reader, version, child.name, child.attributes, part, depth)?;
 //!     after_child(alloc, reader, element, Rule::Lax, &child, taken)?;
 //! }
 //! ```
@@ -57,18 +57,19 @@ pub trait Children: Drop {
     fn rule(&self) -> Rule
         ensures { (plan self.now).rule ≡ as_rule result };
 
-    /// Reads the element where `v` knows a child of its name. Else, and where it is a second one of which one may stand, it
-    /// reads nothing and says so. A refusal is the first fault of the child.
+    /// Reads the element where `version` knows a child of its name. Else, and where it is a second one of which one may
+    /// stand, it reads nothing and says so. A refusal is the first fault of the child.
     fn read_child(
         &mut self,
         alloc: Global,
         reader: &mut EventReader<'_>,
-        v: SpecVersion,
+        version: SpecVersion,
         element: &OwnedName,
         attributes: &List<OwnedAttribute>,
     ) -> Result<Taken, XmlReadError>
         requires { IsIn reader.old element.now }
-        ensures takes { TakesChild (slots self.old) (slots self.new) reader.old reader.new v (plan self.old) (depth self.old) element.now attributes.now result }
+        ensures takes { TakesChild (slots self.old) (slots self.new) reader.old reader.new
+            version (plan self.old) (depth self.old) element.now attributes.now result }
         ensures plan { plan self.new ≡ plan self.old }
         ensures depth { depth self.new ≡ depth self.old };
 }
@@ -77,17 +78,21 @@ pub trait Children: Drop {
 fn read_children<R: Children>(
     alloc: Global,
     reader: &mut EventReader<'_>,
-    v: SpecVersion,
+    version: SpecVersion,
     element: &OwnedName,
     target: &mut R,
 ) -> Result<(), XmlReadError>
     requires { IsAt reader.old element.now }
-    ensures { (d : Depth) (nodes : Nodes) (rest : List XmlEvent) → At reader.old element.now nodes rest
-        → Reads (λ _. R.slots target.new) reader.old reader.new (after reader.old nodes rest) (each (plan_step (R.plan target.old) v (R.depth target.old d) element.now.local_name) nodes reader.old.place (R.slots target.old)) result }
+    ensures { (d : Depth) (nodes : Nodes) (rest : List XmlEvent)
+        → At reader.old element.now nodes rest
+        → Reads (λ _. R.slots target.new) reader.old reader.new (after reader.old nodes rest)
+        (each (plan_step (R.plan target.old) version (R.depth target.old d) element.now.local_name)
+        nodes reader.old.place (R.slots target.old))
+        result }
 {
     let rule = target.rule();
     'nodes: while let Some(child) = next_child(alloc, reader, element, rule)? {
-        let taken = target.read_child(alloc, reader, v, child.name, child.attributes)?;
+        let taken = target.read_child(alloc, reader, version, child.name, child.attributes)?;
         after_child(alloc, reader, element, rule, &child, taken)?;
     }
     Ok(())
@@ -98,14 +103,15 @@ fn read_children<R: Children>(
 pub fn read_record<R: Children>(
     alloc: Global,
     reader: &mut EventReader<'_>,
-    v: SpecVersion,
+    version: SpecVersion,
     element: &OwnedName,
     begun: Result<R, XmlReadError>,
 ) -> Result<R, XmlReadError>
     requires { IsIn reader.old element.now }
-    ensures { ReadsBegun R.slots R.plan R.depth reader.old reader.new v element.now begun result }
+    ensures { ReadsBegun R.slots R.plan R.depth reader.old reader.new version element.now
+        begun result }
 {
     let mut record = begun?;
-    read_children(alloc, reader, v, element, &mut record)?;
+    read_children(alloc, reader, version, element, &mut record)?;
     Ok(record)
 }

@@ -1,3 +1,5 @@
+//! The text that is the content of an element.
+
 ghost use Rattle.cdx_schema.specs.XmlReading.{simple_text, exact_text};
 ghost use Rattle.cdx_leaf.specs.Reading.{IsIn};
 ghost use Rattle.cdx_leaf.specs.Content.{ReadsContent};
@@ -15,7 +17,8 @@ pub fn read_content<A: Drop>(
     begun: Result<A, XmlReadError>,
 ) -> Result<(A, Text), XmlReadError>
     requires { IsIn reader.old element.now }
-    ensures { ReadsContent (λ nodes el q. simple_text nodes el q) reader.old reader.new element.now begun result }
+    ensures { ReadsContent (λ nodes el q. simple_text nodes el q) reader.old reader.new element.now
+        begun result }
 {
     let begun = begun?;
     let text = read_simple_tag(alloc, reader, element)?;
@@ -30,7 +33,8 @@ pub fn read_exact_content<A: Drop>(
     begun: Result<A, XmlReadError>,
 ) -> Result<(A, Text), XmlReadError>
     requires { IsIn reader.old element.now }
-    ensures { ReadsContent (λ nodes el q. exact_text nodes el q) reader.old reader.new element.now begun result }
+    ensures { ReadsContent (λ nodes el q. exact_text nodes el q) reader.old reader.new element.now
+        begun result }
 {
     let begun = begun?;
     let text = read_exact_tag(alloc, reader, element)?;

@@ -1,4 +1,4 @@
-//! Records read from and written to XML: traits with laws, helpers, and the leaf records.
+//! Records read from XML: traits with laws, helpers, and the leaf records.
 #![tactic(auto)]
 
 mod attribute;
@@ -30,7 +30,7 @@ pub use error::{invalid_parse_error, refuse, refuse_missing, unexpected_element_
 pub use from_xml::{FromXml, FromXmlDocument};
 pub use lists::{read_items, read_lax_validation_list_tag, read_list_tag};
 pub use namespace::{expected_namespace_or_error, namespace_of};
-pub use record::{Record, TextRecord, read_text_record, read_whole};
+pub use record::{TextRecord, XmlRecord, read_text_record, read_whole};
 pub use root::{Root, read_root, root_of};
 pub use rule::Rule;
 pub use tags::{

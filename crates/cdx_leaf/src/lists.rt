@@ -39,14 +39,14 @@ impl<'a, X: FromXml> Children for Listing<'a, X> {
         &mut self,
         alloc: Global,
         reader: &mut EventReader<'_>,
-        v: SpecVersion,
+        version: SpecVersion,
         element: &OwnedName,
         attributes: &List<OwnedAttribute>,
     ) -> Result<Taken, XmlReadError> {
         if !element.local_name.is(self.inner) {
             return Ok(Taken::Unknown);
         }
-        take_into(alloc, reader, v, element, attributes, &mut self.items)
+        take_into(alloc, reader, version, element, attributes, &mut self.items)
     }
 }
 
@@ -54,20 +54,21 @@ impl<'a, X: FromXml> Children for Listing<'a, X> {
 pub fn read_items<X: FromXml>(
     alloc: Global,
     reader: &mut EventReader<'_>,
-    v: SpecVersion,
+    version: SpecVersion,
     element: &OwnedName,
     inner: &str,
     rule: Rule,
 ) -> Result<List<X>, XmlReadError>
     requires { IsIn reader.old element.now }
-    ensures { ReadsItems X.tree X.kind X.depth reader.old reader.new v element.now inner.now rule result }
+    ensures { ReadsItems X.tree X.kind X.depth reader.old reader.new version element.now
+        inner.now rule result }
 {
     let begun = Ok(Listing {
         inner,
         rule,
         items: List::new(alloc),
     });
-    let listing: Listing<'_, X> = read_record(alloc, reader, v, element, begun)?;
+    let listing: Listing<'_, X> = read_record(alloc, reader, version, element, begun)?;
     Ok(listing.items)
 }
 
@@ -75,14 +76,15 @@ pub fn read_items<X: FromXml>(
 pub fn read_list_tag<X: FromXml>(
     alloc: Global,
     reader: &mut EventReader<'_>,
-    v: SpecVersion,
+    version: SpecVersion,
     element: &OwnedName,
     inner: &str,
 ) -> Result<List<X>, XmlReadError>
     requires { IsIn reader.old element.now }
-    ensures { ReadsList X.tree X.kind X.depth reader.old reader.new v element.now inner.now rules.Strict result }
+    ensures { ReadsList X.tree X.kind X.depth reader.old reader.new version element.now
+        inner.now rules.Strict result }
 {
-    read_items(alloc, reader, v, element, inner, Rule::Strict)
+    read_items(alloc, reader, version, element, inner, Rule::Strict)
 }
 
 /// The items of the element in their order: the children named `inner`. Children of other names are skipped whole; a
@@ -90,12 +92,13 @@ pub fn read_list_tag<X: FromXml>(
 pub fn read_lax_validation_list_tag<X: FromXml>(
     alloc: Global,
     reader: &mut EventReader<'_>,
-    v: SpecVersion,
+    version: SpecVersion,
     element: &OwnedName,
     inner: &str,
 ) -> Result<List<X>, XmlReadError>
     requires { IsIn reader.old element.now }
-    ensures { ReadsList X.tree X.kind X.depth reader.old reader.new v element.now inner.now rules.Lax result }
+    ensures { ReadsList X.tree X.kind X.depth reader.old reader.new version element.now
+        inner.now rules.Lax result }
 {
-    read_items(alloc, reader, v, element, inner, Rule::Lax)
+    read_items(alloc, reader, version, element, inner, Rule::Lax)
 }

@@ -1,7 +1,7 @@
 //! The root of a document.
 
-ghost use Rattle.cdx_leaf.specs.Reading.{IsIn, IsAt};
-ghost use Rattle.cdx_leaf.specs.Roots.{IsRootOf, ReadsRoot};
+ghost use Rattle.cdx_leaf.specs.Reading.{IsIn, IsAt, ReadsDocument};
+ghost use Rattle.cdx_leaf.specs.Roots.{IsRootOf};
 
 use crate::from_xml::FromXml;
 use cdx_events::{EventReader, Events, List, Namespace, OwnedAttribute, OwnedName, XmlEvent};
@@ -11,15 +11,20 @@ use std::alloc::Global;
 /// The root of a document, with a reader right after its start, which has place 1.
 #[derive(Drop)]
 pub struct Root<'a> {
+    /// Right after the root's start.
     pub reader: EventReader<'a>,
+    /// The root's name.
     pub name: &'a OwnedName,
+    /// The root's attributes, in their order.
     pub attributes: &'a List<OwnedAttribute>,
+    /// The namespace declarations that hold at the root.
     pub namespace: &'a Namespace,
 }
 
 /// The root of the document that the events are.
 pub fn root_of<'a>(events: &'a Events) -> Root<'a>
-    ensures root { IsRootOf events.now.list result.reader result.name.now result.attributes.now result.namespace.now }
+    ensures root { IsRootOf events.now.list result.reader result.name.now result.attributes.now
+        result.namespace.now }
     ensures inside { IsIn result.reader result.name.now }
     ensures at { IsAt result.reader result.name.now }
 {
@@ -43,13 +48,13 @@ pub fn root_of<'a>(events: &'a Events) -> Root<'a>
     }
 }
 
-/// What the document's root denotes in `v` as the type's kind, whatever its name is, or its first fault.
+/// What the document's root denotes in `version` as the type's kind, whatever its name is, or its first fault.
 pub fn read_root<X: FromXml>(
     alloc: Global,
     events: &Events,
-    v: SpecVersion,
+    version: SpecVersion,
 ) -> Result<X, XmlReadError>
-    ensures { ReadsRoot X.tree events.now.list v X.kind X.depth result }
+    ensures { ReadsDocument X.tree events.now.list version X.kind result }
 {
     let Root {
         mut reader,
@@ -57,5 +62,5 @@ pub fn read_root<X: FromXml>(
         attributes,
         ..
     } = root_of(events);
-    X::read_xml_element(alloc, &mut reader, v, name, attributes)
+    X::read_xml_element(alloc, &mut reader, version, name, attributes)
 }

@@ -23,7 +23,8 @@ pub fn closing_tag_or_error(
     element: &OwnedName,
 ) -> Result<(), XmlReadError>
     requires { IsAt reader.old element.now }
-    ensures { ReadsRest (λ u. u) reader.old reader.new element.now (λ q nodes. after_text (record {}) nodes element.now.local_name q) result }
+    ensures { ReadsRest (λ u. u) reader.old reader.new element.now
+        (λ q nodes. after_text (record {}) nodes element.now.local_name q) result }
 {
     let place = reader.place();
     match reader.next() {
@@ -40,7 +41,8 @@ pub fn inner_text_or_error(
     element: &OwnedName,
 ) -> Result<Text, XmlReadError>
     requires { IsAt reader.old element.now }
-    ensures { ReadsNext (λ t. t) reader.old reader.new (λ q event. event_text event element.now.local_name q) result }
+    ensures { ReadsNext (λ t. t) reader.old reader.new
+        (λ q event. event_text event element.now.local_name q) result }
 {
     let place = reader.place();
     match reader.next() {
@@ -58,7 +60,8 @@ pub fn inner_text_or_none(
     element: &OwnedName,
 ) -> Result<Option<Text>, XmlReadError>
     requires { IsAt reader.old element.now }
-    ensures { ReadsNext (λ t. t) reader.old reader.new (λ q event. event_text_or_end event element.now.local_name q) result }
+    ensures { ReadsNext (λ t. t) reader.old reader.new
+        (λ q event. event_text_or_end event element.now.local_name q) result }
 {
     let place = reader.place();
     match reader.next() {
@@ -77,7 +80,8 @@ pub fn read_simple_tag(
     element: &OwnedName,
 ) -> Result<Text, XmlReadError>
     requires { IsAt reader.old element.now }
-    ensures { ReadsRest (λ t. t) reader.old reader.new element.now (λ q nodes. simple_text nodes element.now.local_name q) result }
+    ensures { ReadsRest (λ t. t) reader.old reader.new element.now
+        (λ q nodes. simple_text nodes element.now.local_name q) result }
 {
     let place = reader.place();
     match reader.next() {
@@ -102,7 +106,8 @@ pub fn read_optional_tag(
     element: &OwnedName,
 ) -> Result<Option<Text>, XmlReadError>
     requires { IsAt reader.old element.now }
-    ensures { ReadsRest (λ t. t) reader.old reader.new element.now (λ q nodes. text_or_none nodes element.now.local_name q) result }
+    ensures { ReadsRest (λ t. t) reader.old reader.new element.now
+        (λ q nodes. text_or_none nodes element.now.local_name q) result }
 {
     let place = reader.place();
     match reader.next() {
@@ -127,7 +132,8 @@ pub fn read_exact_tag(
     element: &OwnedName,
 ) -> Result<Text, XmlReadError>
     requires { IsAt reader.old element.now }
-    ensures { ReadsRest (λ t. t) reader.old reader.new element.now (λ q nodes. exact_text nodes element.now.local_name q) result }
+    ensures { ReadsRest (λ t. t) reader.old reader.new element.now
+        (λ q nodes. exact_text nodes element.now.local_name q) result }
 {
     let place = reader.place();
     match reader.next() {
@@ -152,7 +158,8 @@ pub fn read_boolean_tag(
     element: &OwnedName,
 ) -> Result<bool, XmlReadError>
     requires { IsAt reader.old element.now }
-    ensures { ReadsRest boolean reader.old reader.new element.now (λ q nodes. boolean_in nodes element.now.local_name q) result }
+    ensures { ReadsRest boolean reader.old reader.new element.now
+        (λ q nodes. boolean_in nodes element.now.local_name q) result }
 {
     let text = read_simple_tag(alloc, reader, element)?;
     bool::from_xml_value(
@@ -174,7 +181,9 @@ fn number_after(
     requires at { IsAt reader.old element.now }
     requires place { reader.old.place ≡ suc place }
     ensures { (nodes : Nodes) (rest : List XmlEvent) → At reader.old element.now nodes rest
-        → Reads number reader.old reader.new (after reader.old nodes rest) (number_alone (number_of (trim text.now)) text.now nodes element.now.local_name place) result }
+        → Reads number reader.old reader.new (after reader.old nodes rest)
+        (number_alone (number_of (trim text.now)) text.now nodes element.now.local_name place)
+        result }
 {
     match number_of(text.as_str().trim()) {
         None => Err(invalid_parse_error(
@@ -200,7 +209,8 @@ pub fn read_u32_tag(
     element: &OwnedName,
 ) -> Result<u32, XmlReadError>
     requires { IsAt reader.old element.now }
-    ensures { ReadsRest number reader.old reader.new element.now (λ q nodes. number_in nodes element.now.local_name q) result }
+    ensures { ReadsRest number reader.old reader.new element.now
+        (λ q nodes. number_in nodes element.now.local_name q) result }
 {
     let place = reader.place();
     match reader.next() {
@@ -214,7 +224,8 @@ pub fn read_u32_tag(
 /// Moves past the element's end, whatever stands in it and however deep. It takes no memory.
 pub fn read_lax_validation_tag(reader: &mut EventReader<'_>, element: &OwnedName)
     requires { IsAt reader.old element.now }
-    ensures { (nodes : Nodes) (rest : List XmlEvent) → At reader.old element.now nodes rest → reader.new ≡ after reader.old nodes rest }
+    ensures { (nodes : Nodes) (rest : List XmlEvent) → At reader.old element.now nodes rest
+        → reader.new ≡ after reader.old nodes rest }
 {
     let mut depth: usize = 0;
     while let Some(event) = reader.next() {

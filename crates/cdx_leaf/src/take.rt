@@ -19,15 +19,16 @@ use std::alloc::{AllocError, Global};
 pub fn take_one<X: FromXml>(
     alloc: Global,
     reader: &mut EventReader<'_>,
-    v: SpecVersion,
+    version: SpecVersion,
     element: &OwnedName,
     attributes: &List<OwnedAttribute>,
     field: &mut Option<X>,
 ) -> Result<Taken, XmlReadError>
     requires { IsIn reader.old element.now }
-    ensures { TakesOne (present X.tree field.new) reader.old reader.new v X.kind X.depth element.now attributes.now result }
+    ensures { TakesOne (present X.tree field.new) reader.old reader.new version X.kind X.depth
+        element.now attributes.now result }
 {
-    *field = Some(X::read_xml_element(alloc, reader, v, element, attributes)?);
+    *field = Some(X::read_xml_element(alloc, reader, version, element, attributes)?);
     Ok(Taken::Read)
 }
 
@@ -50,15 +51,17 @@ fn push_into<T: Drop>(alloc: Global, slot: &mut Option<List<T>>, item: T) -> Res
 pub fn take_more<X: FromXml>(
     alloc: Global,
     reader: &mut EventReader<'_>,
-    v: SpecVersion,
+    version: SpecVersion,
     element: &OwnedName,
     attributes: &List<OwnedAttribute>,
     field: &mut Option<List<X>>,
 ) -> Result<Taken, XmlReadError>
     requires { IsIn reader.old element.now }
-    ensures { TakesMore (present (list_tree X.tree) field.old) (present (list_tree X.tree) field.new) reader.old reader.new v X.kind X.depth element.now attributes.now result }
+    ensures { TakesMore (present (list_tree X.tree) field.old)
+        (present (list_tree X.tree) field.new) reader.old reader.new
+        version X.kind X.depth element.now attributes.now result }
 {
-    let item = X::read_xml_element(alloc, reader, v, element, attributes)?;
+    let item = X::read_xml_element(alloc, reader, version, element, attributes)?;
     push_into(alloc, field, item)?;
     Ok(Taken::Read)
 }
@@ -67,15 +70,16 @@ pub fn take_more<X: FromXml>(
 pub fn take_into<X: FromXml>(
     alloc: Global,
     reader: &mut EventReader<'_>,
-    v: SpecVersion,
+    version: SpecVersion,
     element: &OwnedName,
     attributes: &List<OwnedAttribute>,
     field: &mut List<X>,
 ) -> Result<Taken, XmlReadError>
     requires { IsIn reader.old element.now }
-    ensures { TakesMore (collected X.tree field.old) (collected X.tree field.new) reader.old reader.new v X.kind X.depth element.now attributes.now result }
+    ensures { TakesMore (collected X.tree field.old) (collected X.tree field.new) reader.old
+        reader.new version X.kind X.depth element.now attributes.now result }
 {
-    let item = X::read_xml_element(alloc, reader, v, element, attributes)?;
+    let item = X::read_xml_element(alloc, reader, version, element, attributes)?;
     field.push(item)?;
     Ok(Taken::Read)
 }
@@ -84,15 +88,16 @@ pub fn take_into<X: FromXml>(
 pub fn take_list<X: FromXml>(
     alloc: Global,
     reader: &mut EventReader<'_>,
-    v: SpecVersion,
+    version: SpecVersion,
     element: &OwnedName,
     inner: &str,
     rule: Rule,
     field: &mut Option<List<X>>,
 ) -> Result<Taken, XmlReadError>
     requires { IsIn reader.old element.now }
-    ensures { TakesList (present (list_tree X.tree) field.new) X.kind X.depth reader.old reader.new v element.now inner.now rule result }
+    ensures { TakesList (present (list_tree X.tree) field.new) X.kind X.depth reader.old reader.new
+        version element.now inner.now rule result }
 {
-    *field = Some(read_items(alloc, reader, v, element, inner, rule)?);
+    *field = Some(read_items(alloc, reader, version, element, inner, rule)?);
     Ok(Taken::Read)
 }

@@ -1,3 +1,5 @@
+//! What became of a child.
+
 ghost use Rattle.std.specs.Prelude.{◌≡◌};
 ghost use Rattle.cdx_leaf.specs.NextChild.{is_unknown};
 

@@ -7,16 +7,16 @@ use cdx_models::{SpecVersion, XmlReadError};
 use std::alloc::Global;
 
 impl FromXml for Text {
-    ghost use Rattle.cdx_schema.specs.Kinds.{a_text};
-
-    ghost kind = { a_text };
+    ghost use Rattle.std.specs.Prelude.{refl};
 
     ghost depth = { λ d. d };
+
+    ghost at_top = { refl };
 
     fn read_xml_element(
         alloc: Global,
         reader: &mut EventReader<'_>,
-        _v: SpecVersion,
+        _version: SpecVersion,
         element: &OwnedName,
         _attributes: &List<OwnedAttribute>,
     ) -> Result<Text, XmlReadError> {
@@ -25,16 +25,16 @@ impl FromXml for Text {
 }
 
 impl FromXml for bool {
-    ghost use Rattle.cdx_schema.specs.Kinds.{a_boolean};
-
-    ghost kind = { a_boolean };
+    ghost use Rattle.std.specs.Prelude.{refl};
 
     ghost depth = { λ d. d };
+
+    ghost at_top = { refl };
 
     fn read_xml_element(
         alloc: Global,
         reader: &mut EventReader<'_>,
-        _v: SpecVersion,
+        _version: SpecVersion,
         element: &OwnedName,
         _attributes: &List<OwnedAttribute>,
     ) -> Result<bool, XmlReadError> {
@@ -43,16 +43,16 @@ impl FromXml for bool {
 }
 
 impl FromXml for u32 {
-    ghost use Rattle.cdx_schema.specs.Kinds.{a_number};
-
-    ghost kind = { a_number };
+    ghost use Rattle.std.specs.Prelude.{refl};
 
     ghost depth = { λ d. d };
+
+    ghost at_top = { refl };
 
     fn read_xml_element(
         alloc: Global,
         reader: &mut EventReader<'_>,
-        _v: SpecVersion,
+        _version: SpecVersion,
         element: &OwnedName,
         _attributes: &List<OwnedAttribute>,
     ) -> Result<u32, XmlReadError> {

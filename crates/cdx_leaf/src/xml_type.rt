@@ -36,7 +36,8 @@ pub trait FromXmlType: HasTree + Drop {
         element: &str,
         value: &str,
     ) -> Result<Self, XmlReadError>
-        ensures { Gives Self.tree (place + 1) (value_read value_kind place element.now value.now) result };
+        ensures { Gives Self.tree (place + 1) (value_read value_kind place element.now value.now)
+            result };
 }
 
 fn boolean_of(text: &str) -> Option<bool>
@@ -118,7 +119,10 @@ pub fn attribute_value<T: FromXmlType>(
     attributes: &List<OwnedAttribute>,
     expected: &str,
 ) -> Result<Option<T>, XmlReadError>
-    ensures { Gives (present T.tree) (place + 1) (value_attribute T.value_kind place expected.now (find_attribute expected.now attributes.now)) result }
+    ensures { Gives (present T.tree) (place + 1)
+        (value_attribute T.value_kind place expected.now
+        (find_attribute expected.now attributes.now))
+        result }
 {
     match optional_attribute(attributes, expected) {
         Some(value) => Ok(Some(T::from_xml_value(alloc, place, expected, value.as_str())?)),

@@ -1,3 +1,4 @@
+pub mod OnRows
 pub mod Appended
 pub mod RowsLaws
 pub mod RowWords

@@ -7,7 +7,7 @@ use Rattle.cdx_events.specs.Nodes.{Nodes, no_nodes, node, events_of, events_of_a
 use Rattle.cdx_models.specs.declared.bom.SpecVersion.{SpecVersion}
 use Rattle.cdx_models.specs.declared.bom.SpecVersion.TheVariants.{V1_3, V1_4, V1_5}
 use Rattle.cdx_models.specs.Versions.{knows}
-use Rattle.cdx_models.specs.Trees.{Name, Tree, absent, text, number, boolean, items, fields, Trees, none, more, ◌⧺◌, is_absent}
+use Rattle.cdx_models.specs.Trees.{Name, Tree, absent, text, number, boolean, items, fields, Trees, none, more, ◌⧺◌, is_absent, fields_of}
 use Rattle.cdx_schema.specs.Kinds.{Kind, a_record, Spelled, attribute, attribute_or, content, one_text, as_cdata, child, filled_child, read_child, children, either_child, the_version, Row}
 use Rattle.cdx_schema.specs.Nodes.{◌⊕◌}
 use Rattle.cdx_schema.specs.Table.{rows}
@@ -15,8 +15,9 @@ use Rattle.cdx_schema.specs.Keeping.{kept, keep, rows_kept}
 use Rattle.cdx_schema.specs.Trips.{is_hollow}
 use Rattle.cdx_schema.specs.XmlSpelling.{row_attributes, attributes_in, ordered, row_nodes, nodes_of, fields_nodes, spelled}
 use Rattle.cdx_write.specs.Spelling.{written, inner}
-use Rattle.cdx_write.specs.Stays.{IsPlain}
-use Rattle.cdx_write.specs.WrittenRows.{parts, attribute_put, child_put, filled_put, cdata_put, late_put, since_put, attribute_then, attributes_put, row_then, rows_written, are_rows_of}
+use Rattle.cdx_schema.specs.Plain.{is_plain}
+use Rattle.cdx_schema.proofs.PlainNames.{plain_name}
+use Rattle.cdx_write.specs.WrittenRows.{attribute_put, child_put, filled_put, cdata_put, late_put, since_put, attribute_then, attributes_put, row_then, rows_written, are_rows_of}
 use Rattle.cdx_write.specs.Writing.{opening, end_tag}
 
 pub events_append : (xs ys : Nodes) → events_of_all (xs ⊕ ys) ≡ events_of_all xs ++ events_of_all ys
@@ -148,11 +149,12 @@ record_is n ts w tag plain =
     ∙ ap (λ s. opening tag (attributes_put ts w (rows n)) ∷ s ++ end_tag tag ∷ []) (sym (rows_are ts w (rows n)))
 
 -- the same of a record's tree, from attributes that are its own
-pub record_made : (n : Name) (t : Tree) (w : SpecVersion) (tag : List ℕ) (as' : List OwnedAttribute) → IsPlain n t → as' ≡ attributes_put (parts t) w (rows n)
-    → opening tag as' ∷ rows_written (parts t) w (rows n) ++ end_tag tag ∷ [] ≡ written t w tag (a_record n)
-record_made n t w tag as' plain is =
-    ap (λ xs. opening tag xs ∷ rows_written (parts t) w (rows n) ++ end_tag tag ∷ []) is
-    ∙ sym (record_is n (parts t) w tag plain.1) ∙ ap (λ u. written u w tag (a_record n)) (sym plain.0)
+pub record_made : (n : Name) (t : Tree) (w : SpecVersion) (tag : List ℕ) (as' : List OwnedAttribute) → t ≡ fields n (fields_of t) → is_plain n ≡ true
+    → as' ≡ attributes_put (fields_of t) w (rows n)
+    → opening tag as' ∷ rows_written (fields_of t) w (rows n) ++ end_tag tag ∷ [] ≡ written t w tag (a_record n)
+record_made n t w tag as' is_record plain is =
+    ap (λ xs. opening tag xs ∷ rows_written (fields_of t) w (rows n) ++ end_tag tag ∷ []) is
+    ∙ sym (record_is n (fields_of t) w tag (plain_name n plain).in_order) ∙ ap (λ u. written u w tag (a_record n)) (sym is_record)
 
 -- what stands between the tags of a record
 pub record_inner : (n : Name) (ts : Trees) (w : SpecVersion) → inner (fields n ts) w (a_record n) ≡ rows_written ts w (rows n)

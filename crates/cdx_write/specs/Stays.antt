@@ -1,7 +1,6 @@
 -- What is there stays there in each version, and what is hollow stays hollow.
 use Rattle.std.specs.Prelude.{◌≡◌, refl, ℕ, List, [], ◌∷◌, Bool, true, false, not, ◌&&◌, ◌||◌, if◌then◌else◌}
 use Rattle.std.proofs.Common.{ap, ◌∙◌}
-use Rattle.cdx_events.specs.declared.name.OwnedAttribute.{OwnedAttribute}
 use Rattle.cdx_models.specs.declared.bom.SpecVersion.{SpecVersion}
 use Rattle.cdx_models.specs.declared.bom.SpecVersion.TheVariants.{V1_3, V1_4, V1_5}
 use Rattle.cdx_models.specs.Versions.{knows, is_first}
@@ -10,12 +9,6 @@ use Rattle.cdx_schema.specs.Kinds.{Kind, a_version, a_tools, an_entry, a_record,
 use Rattle.cdx_schema.specs.Table.{rows}
 use Rattle.cdx_schema.specs.Keeping.{kept, keep, kept_text, before_1_5, rows_kept}
 use Rattle.cdx_schema.specs.Trips.{is_child, no_child, is_hollow, is_passed_over}
-use Rattle.cdx_schema.specs.XmlSpelling.{ordered}
-use Rattle.cdx_write.specs.WrittenRows.{parts}
-
--- A record of the name, whose attributes stand in row order.
-abbrev pub IsPlain : Name → Tree → Type 0
-IsPlain n t = (t ≡ fields n (parts t)) × ((xs : List OwnedAttribute) → ordered n xs ≡ xs)
 
 -- ---- what is there stays there
 

@@ -6,22 +6,13 @@ use Rattle.cdx_events.specs.declared.event.XmlEvent.TheVariants.{CData}
 use Rattle.cdx_models.specs.declared.bom.SpecVersion.{SpecVersion}
 use Rattle.cdx_models.specs.declared.bom.SpecVersion.TheVariants.{V1_3, V1_4, V1_5}
 use Rattle.cdx_models.specs.Versions.{knows}
-use Rattle.cdx_models.specs.Trees.{Tree, absent, text, number, boolean, items, fields, Trees, none, more, is_absent}
+use Rattle.cdx_models.specs.Trees.{Tree, Trees, none, more, is_absent}
 use Rattle.cdx_schema.specs.Kinds.{Kind, Spelled, attribute, attribute_or, content, one_text, as_cdata, child, filled_child, read_child, children, either_child, the_version, Row}
 use Rattle.cdx_schema.specs.Keeping.{keep}
 use Rattle.cdx_schema.specs.Trips.{is_hollow}
 use Rattle.cdx_schema.specs.XmlTexts.{text_of}
 use Rattle.cdx_schema.specs.XmlSpelling.{attribute_of}
 use Rattle.cdx_write.specs.Spelling.{written, inner}
-
--- the fields of a record
-abbrev pub parts : Tree → Trees
-parts absent = none
-parts (text s) = none
-parts (number n) = none
-parts (boolean b) = none
-parts (items ts) = none
-parts (fields n ts) = ts
 
 -- ---- one row, as the version keeps it, where it is there
 

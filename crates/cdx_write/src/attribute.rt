@@ -51,8 +51,8 @@ pub fn put_attribute_since<T: Lone>(
     name: &str,
     held: &Option<T>,
 ) -> Result<(), AllocError>
-    ensures { OnOk result (attributes.new
-        ≡ attributes.old ++ late_put since w (attribute_put name.now T.kind (present T.tree held.now) w)) }
+    ensures { OnOk result (attributes.new ≡ attributes.old
+        ++ late_put since w (attribute_put name.now T.kind (present T.tree held.now) w)) }
 {
     if since.is_known_to(w) {
         put_attribute(alloc, attributes, w, name, held)

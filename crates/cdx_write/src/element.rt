@@ -1,23 +1,19 @@
 //! Values that are written as elements.
 
-ghost use Rattle.std.specs.Prelude.{◌≡◌, IfOk, true};
-ghost use Rattle.cdx_schema.specs.Kinds.{Kind};
+ghost use Rattle.std.specs.Prelude.{◌≡◌, IfOk, true, ℕ, List};
 ghost use Rattle.cdx_schema.specs.Trips.{is_hollow, is_passed_over};
 ghost use Rattle.cdx_schema.specs.XmlTexts.{text_of};
 ghost use Rattle.cdx_write.specs.Lone.{IsLone};
 ghost use Rattle.cdx_write.specs.Spelling.{written};
 ghost use Rattle.cdx_write.specs.Stays.{keeps_presence, KeepsHollow};
+ghost use Rattle.cdx_write.specs.WillWrite.{will_write};
 ghost use Rattle.cdx_write.specs.Writing.{Appends};
 
 use crate::tags::write_simple_tag;
 use cdx_events::{EventWriter, Text};
-use cdx_models::{HasTree, SpecVersion, XmlWriteError};
+use cdx_models::{SpecVersion, XmlWriteError};
+use cdx_schema::Kinded;
 use std::alloc::{AllocError, Global};
-
-/// A value of one of the schema's kinds.
-pub trait Kinded: HasTree {
-    ghost kind: { Kind };
-}
 
 /// A value that is written as one text: an attribute's value, or an element's content.
 pub trait Lone: Kinded {
@@ -39,9 +35,28 @@ pub trait Element: Kinded {
         w: SpecVersion,
         tag: &str,
     ) -> Result<(), XmlWriteError>
-        ensures { Appends writer.old writer.new (written (Self.tree self.now) w tag.now Self.kind) result };
+        ensures { Appends writer.old writer.new
+            (written (Self.tree self.now) w tag.now Self.kind) result };
 
     ghost keeps: { keeps_presence Self.kind ≡ true };
+}
+
+/// A value that may have nothing to write.
+pub trait HasContent: Kinded {
+    /// Whether there is something to write: false exactly for a record none of whose fields that count is there. It
+    /// takes no memory.
+    fn has_content(&self) -> bool
+        ensures { result ≡ will_write (Self.tree self.now) };
+}
+
+/// A value with a name of its own, for where nothing else names it.
+pub trait Tagged: Element + HasContent {
+    // The name.
+    ghost own_name: { List ℕ };
+
+    /// The name.
+    fn own_name() -> &'static str
+        ensures { result.now ≡ own_name };
 }
 
 /// An item of a list.

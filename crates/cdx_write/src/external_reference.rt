@@ -1,26 +1,16 @@
 //! External references.
 
 ghost use Rattle.std.specs.Prelude.{refl, codes};
-ghost use Rattle.cdx_models.specs.Records.{uri_tree, reference_tree, references_tree};
-ghost use Rattle.cdx_models.specs.Trees.{reference};
-ghost use Rattle.cdx_schema.specs.Kinds.{external_references, a_record, a_list, a_text};
 ghost use Rattle.cdx_write.specs.Lone.{text_is_lone};
-ghost use Rattle.cdx_write.specs.Spelling.{tagged};
-ghost use Rattle.cdx_write.specs.WillWrite.{will_write};
 
 use crate::attribute::put_required_attribute;
-use crate::element::{Element, Item, Kinded, Lone, write_lone};
+use crate::element::{Element, HasContent, Item, Lone, Tagged, write_lone};
 use crate::list::write_list;
-use crate::record::{Record, write_record};
+use crate::record::WrittenRecord;
 use crate::row::{put_child, put_required_child};
-use crate::to_xml::ToXml;
 use cdx_events::{EventWriter, List, OwnedAttribute, Text};
 use cdx_models::{ExternalReference, ExternalReferences, SpecVersion, Uri, XmlWriteError};
 use std::alloc::{AllocError, Global};
-
-impl Kinded for Uri {
-    ghost kind = { a_text };
-}
 
 impl Lone for Uri {
     ghost lone = { λ x. text_is_lone _ };
@@ -44,12 +34,8 @@ impl Element for Uri {
     }
 }
 
-impl Record for ExternalReference {
-    ghost name = { reference };
-
-    ghost is_plain = { λ x. (refl, λ xs. refl) };
-
-    #[tactic(auto, unfolding(crate::specs::WrittenRows::attributes_put, cdx_schema::specs::Table::rows))]
+impl WrittenRecord for ExternalReference {
+    #[tactic(auto, unfolding(crate::proofs::OnRows::on_rows))]
     fn attributes(
         &self,
         alloc: Global,
@@ -66,6 +52,7 @@ impl Record for ExternalReference {
         Ok(attributes)
     }
 
+    #[tactic(auto, unfolding(crate::proofs::OnRows::on_rows), using(crate::proofs::OnRows::in_turn))]
     fn write_rows(
         &self,
         alloc: Global,
@@ -78,61 +65,30 @@ impl Record for ExternalReference {
     }
 }
 
-impl Kinded for ExternalReference {
-    ghost kind = { a_record reference };
-}
-
-impl Element for ExternalReference {
-    ghost keeps = { refl };
-
-    fn write_as(
-        &self,
-        alloc: Global,
-        writer: &mut EventWriter,
-        w: SpecVersion,
-        tag: &str,
-    ) -> Result<(), XmlWriteError> {
-        write_record(alloc, writer, w, tag, self)
-    }
-}
-
 impl Item for ExternalReference {
     fn is_passed_over(&self) -> bool {
         false
     }
 }
 
-impl ToXml for ExternalReference {
-    ghost shown = { reference_tree };
-
-    ghost kind = { a_record reference };
-
-    ghost tag = { tagged (codes "reference") };
-
-    ghost counts = { λ x. will_write (reference_tree x) };
-
-    fn write_xml_element(
-        &self,
-        alloc: Global,
-        writer: &mut EventWriter,
-        w: SpecVersion,
-    ) -> Result<(), XmlWriteError> {
-        write_record(alloc, writer, w, "reference", self)
-    }
-
-    fn will_write(&self) -> bool {
+impl HasContent for ExternalReference {
+    fn has_content(&self) -> bool {
         true
     }
 }
 
-impl Kinded for ExternalReferences {
-    ghost kind = { a_list external_references };
+impl Tagged for ExternalReference {
+    ghost own_name = { codes "reference" };
+
+    fn own_name() -> &'static str {
+        "reference"
+    }
 }
 
 impl Element for ExternalReferences {
     ghost keeps = { refl };
 
-    #[tactic(auto, unfolding(cdx_schema::specs::Table::list))]
+    #[tactic(auto, unfolding(crate::proofs::OnRows::on_rows))]
     fn write_as(
         &self,
         alloc: Global,
@@ -144,25 +100,16 @@ impl Element for ExternalReferences {
     }
 }
 
-impl ToXml for ExternalReferences {
-    ghost shown = { references_tree };
-
-    ghost kind = { a_list external_references };
-
-    ghost tag = { tagged (codes "externalReferences") };
-
-    ghost counts = { λ x. will_write (references_tree x) };
-
-    fn write_xml_element(
-        &self,
-        alloc: Global,
-        writer: &mut EventWriter,
-        w: SpecVersion,
-    ) -> Result<(), XmlWriteError> {
-        self.write_as(alloc, writer, w, "externalReferences")
-    }
-
-    fn will_write(&self) -> bool {
+impl HasContent for ExternalReferences {
+    fn has_content(&self) -> bool {
         true
+    }
+}
+
+impl Tagged for ExternalReferences {
+    ghost own_name = { codes "externalReferences" };
+
+    fn own_name() -> &'static str {
+        "externalReferences"
     }
 }

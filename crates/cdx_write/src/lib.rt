@@ -18,9 +18,9 @@ pub mod tool;
 pub mod values;
 
 pub use attribute::{put_attribute, put_attribute_since, put_required_attribute};
-pub use element::{Element, Filled, Item, Kinded, Lone, write_lone};
+pub use element::{Element, Filled, HasContent, Item, Lone, Tagged, write_lone};
 pub use list::{put_each, put_list, put_list_since, write_items, write_list};
-pub use record::{Record, write_record};
+pub use record::{WrittenRecord, write_record};
 pub use row::{
     is_there, put_cdata, put_child, put_child_since, put_content, put_filled_child,
     put_required_child,
@@ -29,4 +29,4 @@ pub use tags::{
     write_close_tag, write_list_string_tag, write_list_tag, write_opening, write_simple_option_tag,
     write_simple_tag, write_start_tag,
 };
-pub use to_xml::{ToInnerXml, ToXml};
+pub use to_xml::{Shown, ToInnerXml, ToXml};

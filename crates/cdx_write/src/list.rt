@@ -58,7 +58,8 @@ pub fn write_list<T: Item>(
     held: &List<T>,
 ) -> Result<(), XmlWriteError>
     ensures { (l : Lists) → IsListOf T.kind item_tag.now l
-        → Appends writer.old writer.new (written (list_tree T.tree held.now) w tag.now (a_list l)) result }
+        → Appends writer.old writer.new
+        (written (list_tree T.tree held.now) w tag.now (a_list l)) result }
 {
     write_start_tag(alloc, writer, tag)?;
     write_items(alloc, writer, w, item_tag, held)?;
@@ -74,7 +75,8 @@ pub fn put_each<T: Item>(
     held: &Option<List<T>>,
 ) -> Result<(), XmlWriteError>
     ensures { (l : Lists) → IsListOf T.kind tag.now l
-        → Appends writer.old writer.new (inner (present (list_tree T.tree) held.now) w (a_list l)) result }
+        → Appends writer.old writer.new
+        (inner (present (list_tree T.tree) held.now) w (a_list l)) result }
 {
     match held {
         None => Ok(()),
@@ -92,7 +94,8 @@ pub fn put_list<T: Item>(
     held: &Option<List<T>>,
 ) -> Result<(), XmlWriteError>
     ensures { (l : Lists) → IsListOf T.kind item_tag.now l
-        → Appends writer.old writer.new (child_put name.now (a_list l) (present (list_tree T.tree) held.now) w) result }
+        → Appends writer.old writer.new
+        (child_put name.now (a_list l) (present (list_tree T.tree) held.now) w) result }
 {
     match held {
         None => Ok(()),
@@ -110,8 +113,10 @@ pub fn put_list_since<T: Item>(
     item_tag: &str,
     held: &Option<List<T>>,
 ) -> Result<(), XmlWriteError>
-    ensures { (l : Lists) → IsListOf T.kind item_tag.now l → Appends writer.old writer.new
-        (late_put since w (child_put name.now (a_list l) (present (list_tree T.tree) held.now) w)) result }
+    ensures { (l : Lists) → IsListOf T.kind item_tag.now l
+        → Appends writer.old writer.new
+        (late_put since w
+        (child_put name.now (a_list l) (present (list_tree T.tree) held.now) w)) result }
 {
     if since.is_known_to(w) {
         put_list(alloc, writer, w, name, item_tag, held)

@@ -1,28 +1,18 @@
 //! Contacts and organizations.
 
-ghost use Rattle.std.specs.Prelude.{refl};
-ghost use Rattle.cdx_models.specs.Records.{contact_tree, entity_tree};
-ghost use Rattle.cdx_models.specs.Trees.{contact, entity};
-ghost use Rattle.cdx_schema.specs.Kinds.{a_record};
 ghost use Rattle.cdx_write.specs.Stays.{entity_keeps_hollow};
-ghost use Rattle.cdx_write.specs.WillWrite.{will_write};
 
 use crate::attribute::put_attribute;
-use crate::element::{Element, Filled, Item, Kinded};
+use crate::element::{Filled, HasContent, Item};
 use crate::list::put_each;
-use crate::record::{Record, write_record};
+use crate::record::WrittenRecord;
 use crate::row::{is_there, put_child};
-use crate::to_xml::ToInnerXml;
 use cdx_events::{EventWriter, List, OwnedAttribute};
 use cdx_models::{OrganizationalContact, OrganizationalEntity, SpecVersion, XmlWriteError};
 use std::alloc::{AllocError, Global};
 
-impl Record for OrganizationalContact {
-    ghost name = { contact };
-
-    ghost is_plain = { λ x. (refl, λ xs. refl) };
-
-    #[tactic(auto, unfolding(crate::specs::WrittenRows::attributes_put, cdx_schema::specs::Table::rows))]
+impl WrittenRecord for OrganizationalContact {
+    #[tactic(auto, unfolding(crate::proofs::OnRows::on_rows))]
     fn attributes(
         &self,
         alloc: Global,
@@ -33,6 +23,7 @@ impl Record for OrganizationalContact {
         Ok(attributes)
     }
 
+    #[tactic(auto, unfolding(crate::proofs::OnRows::on_rows), using(crate::proofs::OnRows::in_turn))]
     fn write_rows(
         &self,
         alloc: Global,
@@ -45,59 +36,21 @@ impl Record for OrganizationalContact {
     }
 }
 
-impl Kinded for OrganizationalContact {
-    ghost kind = { a_record contact };
-}
-
-impl Element for OrganizationalContact {
-    ghost keeps = { refl };
-
-    fn write_as(
-        &self,
-        alloc: Global,
-        writer: &mut EventWriter,
-        w: SpecVersion,
-        tag: &str,
-    ) -> Result<(), XmlWriteError> {
-        write_record(alloc, writer, w, tag, self)
-    }
-}
-
 impl Item for OrganizationalContact {
     fn is_passed_over(&self) -> bool {
-        !self.will_write()
+        !self.has_content()
     }
 }
 
-impl ToInnerXml for OrganizationalContact {
-    ghost shown = { contact_tree };
-
-    ghost kind = { a_record contact };
-
-    ghost counts = { λ x. will_write (contact_tree x) };
-
-    fn write_xml_named_element(
-        &self,
-        alloc: Global,
-        writer: &mut EventWriter,
-        w: SpecVersion,
-        tag: &str,
-    ) -> Result<(), XmlWriteError> {
-        write_record(alloc, writer, w, tag, self)
-    }
-
+impl HasContent for OrganizationalContact {
     /// False exactly where name, email and phone are absent.
-    fn will_write(&self) -> bool {
+    fn has_content(&self) -> bool {
         is_there(&self.name) || is_there(&self.email) || is_there(&self.phone)
     }
 }
 
-impl Record for OrganizationalEntity {
-    ghost name = { entity };
-
-    ghost is_plain = { λ x. (refl, λ xs. refl) };
-
-    #[tactic(auto, unfolding(crate::specs::WrittenRows::attributes_put, cdx_schema::specs::Table::rows))]
+impl WrittenRecord for OrganizationalEntity {
+    #[tactic(auto, unfolding(crate::proofs::OnRows::on_rows))]
     fn attributes(
         &self,
         alloc: Global,
@@ -120,51 +73,17 @@ impl Record for OrganizationalEntity {
     }
 }
 
-impl Kinded for OrganizationalEntity {
-    ghost kind = { a_record entity };
-}
-
-impl Element for OrganizationalEntity {
-    ghost keeps = { refl };
-
-    fn write_as(
-        &self,
-        alloc: Global,
-        writer: &mut EventWriter,
-        w: SpecVersion,
-        tag: &str,
-    ) -> Result<(), XmlWriteError> {
-        write_record(alloc, writer, w, tag, self)
-    }
-}
-
 impl Filled for OrganizationalEntity {
     ghost keeps_hollow = { λ x. entity_keeps_hollow _ };
 
     fn is_hollow(&self) -> bool {
-        !self.will_write()
+        !self.has_content()
     }
 }
 
-impl ToInnerXml for OrganizationalEntity {
-    ghost shown = { entity_tree };
-
-    ghost kind = { a_record entity };
-
-    ghost counts = { λ x. will_write (entity_tree x) };
-
-    fn write_xml_named_element(
-        &self,
-        alloc: Global,
-        writer: &mut EventWriter,
-        w: SpecVersion,
-        tag: &str,
-    ) -> Result<(), XmlWriteError> {
-        write_record(alloc, writer, w, tag, self)
-    }
-
+impl HasContent for OrganizationalEntity {
     /// False exactly where name, url and contact are absent, whatever the reference is.
-    fn will_write(&self) -> bool {
+    fn has_content(&self) -> bool {
         is_there(&self.name) || is_there(&self.url) || is_there(&self.contact)
     }
 }

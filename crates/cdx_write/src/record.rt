@@ -1,26 +1,26 @@
 //! Records that are written row by row.
 
-ghost use Rattle.std.specs.Prelude.{◌≡◌, IfOk};
-ghost use Rattle.cdx_models.specs.Trees.{Name};
+ghost use Rattle.std.specs.Prelude.{◌≡◌, refl, IfOk};
+ghost use Rattle.cdx_models.specs.Trees.{fields_of};
 ghost use Rattle.cdx_schema.specs.Kinds.{a_record};
 ghost use Rattle.cdx_schema.specs.Table.{rows};
 ghost use Rattle.cdx_write.specs.Spelling.{written};
-ghost use Rattle.cdx_write.specs.Stays.{IsPlain};
-ghost use Rattle.cdx_write.specs.WrittenRows.{parts, attributes_put, rows_written};
+ghost use Rattle.cdx_write.specs.WrittenRows.{attributes_put, rows_written};
 ghost use Rattle.cdx_write.specs.Writing.{Appends};
 
+use crate::element::Element;
 use crate::tags::{write_close_tag, write_opening};
 use cdx_events::{EventWriter, List, OwnedAttribute};
-use cdx_models::{HasTree, SpecVersion, XmlWriteError};
+use cdx_models::{SpecVersion, XmlWriteError};
+use cdx_schema::Record;
 use std::alloc::{AllocError, Global};
 
 /// A record that is written row by row. `write_record` makes of it the spelling of the schema.
-pub trait Record: HasTree {
-    ghost name: { Name };
-
+pub trait WrittenRecord: Record {
     /// The attributes of what a version keeps. Only want of memory is refused.
     fn attributes(&self, alloc: Global, w: SpecVersion) -> Result<List<OwnedAttribute>, AllocError>
-        ensures { IfOk result (λ r. r ≡ attributes_put (parts (Self.tree self.now)) w (rows name)) };
+        ensures { IfOk result (λ r.
+            r ≡ attributes_put (fields_of (Self.tree self.now)) w (rows Self.name)) };
 
     /// Appends the content of what a version keeps. Only want of memory is refused; the writer then has a prefix of
     /// that.
@@ -30,24 +30,39 @@ pub trait Record: HasTree {
         writer: &mut EventWriter,
         w: SpecVersion,
     ) -> Result<(), XmlWriteError>
-        ensures { Appends writer.old writer.new (rows_written (parts (Self.tree self.now)) w (rows name)) result };
-
-    ghost is_plain: { (x : Self) → IsPlain name (Self.tree x) };
+        ensures { Appends writer.old writer.new
+            (rows_written (fields_of (Self.tree self.now)) w (rows Self.name)) result };
 }
 
 /// Appends the element of what a version keeps of a record, under the name. Only want of memory is refused; the writer
 /// then has a prefix of that.
-pub fn write_record<T: Record>(
+pub fn write_record<T: WrittenRecord>(
     alloc: Global,
     writer: &mut EventWriter,
     w: SpecVersion,
     tag: &str,
     held: &T,
 ) -> Result<(), XmlWriteError>
-    ensures { Appends writer.old writer.new (written (T.tree held.now) w tag.now (a_record T.name)) result }
+    ensures { Appends writer.old writer.new
+        (written (T.tree held.now) w tag.now (a_record T.name)) result }
 {
     let attributes = held.attributes(alloc, w)?;
     write_opening(alloc, writer, tag, attributes)?;
     held.write_rows(alloc, writer, w)?;
     write_close_tag(alloc, writer, tag)
+}
+
+/// A record is written row by row.
+impl<T: WrittenRecord> Element for T {
+    ghost keeps = { refl };
+
+    fn write_as(
+        &self,
+        alloc: Global,
+        writer: &mut EventWriter,
+        w: SpecVersion,
+        tag: &str,
+    ) -> Result<(), XmlWriteError> {
+        write_record(alloc, writer, w, tag, self)
+    }
 }

@@ -42,7 +42,8 @@ pub fn put_child<T: Element>(
     name: &str,
     held: &Option<T>,
 ) -> Result<(), XmlWriteError>
-    ensures { Appends writer.old writer.new (child_put name.now T.kind (present T.tree held.now) w) result }
+    ensures { Appends writer.old writer.new
+        (child_put name.now T.kind (present T.tree held.now) w) result }
 {
     match held {
         None => Ok(()),
@@ -77,7 +78,8 @@ pub fn put_filled_child<T: Filled>(
     name: &str,
     held: &Option<T>,
 ) -> Result<(), XmlWriteError>
-    ensures { Appends writer.old writer.new (filled_put name.now T.kind (present T.tree held.now) w) result }
+    ensures { Appends writer.old writer.new
+        (filled_put name.now T.kind (present T.tree held.now) w) result }
 {
     match held {
         None => Ok(()),
@@ -97,14 +99,16 @@ pub fn put_content(
     writer: &mut EventWriter,
     held: &Text,
 ) -> Result<(), XmlWriteError>
-    ensures { (w : SpecVersion) → Appends writer.old writer.new (inner (text held.now) w a_text) result }
+    ensures { (w : SpecVersion)
+        → Appends writer.old writer.new (inner (text held.now) w a_text) result }
 {
     write_characters(alloc, writer, held.as_str())
 }
 
 /// The same as CDATA.
 pub fn put_cdata(alloc: Global, writer: &mut EventWriter, held: &Text) -> Result<(), XmlWriteError>
-    ensures { (w : SpecVersion) → Appends writer.old writer.new (cdata_put a_text (text held.now) w) result }
+    ensures { (w : SpecVersion)
+        → Appends writer.old writer.new (cdata_put a_text (text held.now) w) result }
 {
     writer.write(XmlEvent::CData(held.copy(alloc)?))?;
     Ok(())

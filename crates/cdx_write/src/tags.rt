@@ -86,7 +86,8 @@ pub fn write_simple_option_tag(
     tag: &str,
     content: Option<&str>,
 ) -> Result<(), XmlWriteError>
-    ensures { Appends writer.old writer.new (simple_option_tag tag.now (option_copied content.entry)) result }
+    ensures { Appends writer.old writer.new
+        (simple_option_tag tag.now (option_copied content.entry)) result }
 {
     match content {
         None => Ok(()),
@@ -103,7 +104,8 @@ pub fn write_list_tag<X: ToXml>(
     tag: &str,
     list: &List<X>,
 ) -> Result<(), XmlWriteError>
-    ensures { Appends writer.old writer.new (list_tag tag.now (λ x. spelling X.tag (X.shown x) w X.kind) list.now) result }
+    ensures { Appends writer.old writer.new
+        (list_tag tag.now (λ x. spelling X.tag (X.shown x) w X.shown_kind) list.now) result }
 {
     write_start_tag(alloc, writer, tag)?;
     for item in list.as_slice() {
@@ -121,7 +123,8 @@ pub fn write_list_string_tag(
     child_tag: &str,
     list: &List<Text>,
 ) -> Result<(), XmlWriteError>
-    ensures { Appends writer.old writer.new (list_tag tag.now (simple_tag child_tag.now) list.now) result }
+    ensures { Appends writer.old writer.new
+        (list_tag tag.now (simple_tag child_tag.now) list.now) result }
 {
     write_start_tag(alloc, writer, tag)?;
     for item in list.as_slice() {

@@ -4,23 +4,49 @@ ghost use Rattle.std.specs.Prelude.{◌≡◌, Bool, is_some};
 ghost use Rattle.cdx_models.specs.Trees.{Tree, present};
 ghost use Rattle.cdx_schema.specs.Kinds.{Kind};
 ghost use Rattle.cdx_write.specs.Spelling.{Tag, tagged, spelling};
+ghost use Rattle.cdx_write.specs.WillWrite.{will_write};
 ghost use Rattle.cdx_write.specs.Writing.{Appends};
 
+use crate::element::{Element, HasContent, Tagged};
 use cdx_events::EventWriter;
 use cdx_models::{SpecVersion, XmlWriteError};
 use std::alloc::Global;
 
-/// A value that writes its element itself.
-pub trait ToXml {
+/// What contracts see of a value that is written: its tree, and of one that may be absent the tree of what is there.
+/// No value with content can be given another impl, so that none chooses what it is seen as.
+pub trait Shown {
     // The tree as which contracts see the value.
     ghost shown: { Self → Tree };
 
-    ghost kind: { Kind };
-
-    ghost tag: { Tag };
+    // The kind of that tree.
+    ghost shown_kind: { Kind };
 
     // Whether there is something to write.
     ghost counts: { Self → Bool };
+}
+
+/// A value is shown as its tree.
+impl<T: HasContent> Shown for T {
+    ghost shown = { T.tree };
+
+    ghost shown_kind = { T.kind };
+
+    ghost counts = { λ x. will_write (T.tree x) };
+}
+
+/// A value that may be absent is shown where it is there, and there is something to write exactly there.
+impl<T: Shown> Shown for Option<T> {
+    ghost shown = { present T.shown };
+
+    ghost shown_kind = { T.shown_kind };
+
+    ghost counts = { is_some };
+}
+
+/// A value that writes its element itself.
+pub trait ToXml: Shown {
+    // The name under which it is written, or that it has none.
+    ghost tag: { Tag };
 
     /// Appends the spelling, in the version, of what the version keeps of the value. Only want of memory is refused;
     /// the writer then has a prefix of that.
@@ -30,23 +56,16 @@ pub trait ToXml {
         writer: &mut EventWriter,
         w: SpecVersion,
     ) -> Result<(), XmlWriteError>
-        ensures { Appends writer.old writer.new (spelling tag (shown self.now) w kind) result };
+        ensures { Appends writer.old writer.new
+            (spelling tag (Self.shown self.now) w Self.shown_kind) result };
 
     /// Whether there is something to write. It takes no memory.
     fn will_write(&self) -> bool
-        ensures { result ≡ counts self.now };
+        ensures { result ≡ Self.counts self.now };
 }
 
 /// A value that is written under a name that the caller gives.
-pub trait ToInnerXml {
-    // The tree as which contracts see the value.
-    ghost shown: { Self → Tree };
-
-    ghost kind: { Kind };
-
-    // Whether there is something to write.
-    ghost counts: { Self → Bool };
-
+pub trait ToInnerXml: Shown {
     /// Appends the spelling, in the version and under the name, of what the version keeps of the value. Only want of
     /// memory is refused; the writer then has a prefix of that.
     fn write_xml_named_element(
@@ -56,21 +75,51 @@ pub trait ToInnerXml {
         w: SpecVersion,
         tag: &str,
     ) -> Result<(), XmlWriteError>
-        ensures { Appends writer.old writer.new (spelling (tagged tag.now) (shown self.now) w kind) result };
+        ensures { Appends writer.old writer.new
+            (spelling (tagged tag.now) (Self.shown self.now) w Self.shown_kind) result };
 
     /// Whether there is something to write. It takes no memory.
     fn will_write(&self) -> bool
-        ensures { result ≡ counts self.now };
+        ensures { result ≡ Self.counts self.now };
+}
+
+/// A value with a name of its own is written under that.
+impl<T: Tagged> ToXml for T {
+    ghost tag = { tagged T.own_name };
+
+    fn write_xml_element(
+        &self,
+        alloc: Global,
+        writer: &mut EventWriter,
+        w: SpecVersion,
+    ) -> Result<(), XmlWriteError> {
+        self.write_as(alloc, writer, w, T::own_name())
+    }
+
+    fn will_write(&self) -> bool {
+        self.has_content()
+    }
+}
+
+/// A value that the record or the list around it writes under a name is written under any.
+impl<T: Element + HasContent> ToInnerXml for T {
+    fn write_xml_named_element(
+        &self,
+        alloc: Global,
+        writer: &mut EventWriter,
+        w: SpecVersion,
+        tag: &str,
+    ) -> Result<(), XmlWriteError> {
+        self.write_as(alloc, writer, w, tag)
+    }
+
+    fn will_write(&self) -> bool {
+        self.has_content()
+    }
 }
 
 impl<T: ToXml> ToXml for Option<T> {
-    ghost shown = { present T.shown };
-
-    ghost kind = { T.kind };
-
     ghost tag = { T.tag };
-
-    ghost counts = { is_some };
 
     /// `None` writes nothing.
     fn write_xml_element(
@@ -91,12 +140,6 @@ impl<T: ToXml> ToXml for Option<T> {
 }
 
 impl<T: ToInnerXml> ToInnerXml for Option<T> {
-    ghost shown = { present T.shown };
-
-    ghost kind = { T.kind };
-
-    ghost counts = { is_some };
-
     /// `None` writes nothing.
     fn write_xml_named_element(
         &self,

@@ -1,15 +1,9 @@
 //! Texts, booleans and numbers.
 
-use crate::element::{Element, Item, Kinded, Lone, write_lone};
+use crate::element::{Element, Item, Lone, write_lone};
 use cdx_events::{EventWriter, Text};
 use cdx_models::{SpecVersion, UrnUuid, XmlWriteError};
 use std::alloc::{AllocError, Global};
-
-impl Kinded for Text {
-    ghost use Rattle.cdx_schema.specs.Kinds.{a_text};
-
-    ghost kind = { a_text };
-}
 
 impl Lone for Text {
     ghost use Rattle.cdx_write.specs.Lone.{text_is_lone};
@@ -43,12 +37,6 @@ impl Item for Text {
     }
 }
 
-impl Kinded for UrnUuid {
-    ghost use Rattle.cdx_schema.specs.Kinds.{a_text};
-
-    ghost kind = { a_text };
-}
-
 impl Lone for UrnUuid {
     ghost use Rattle.cdx_write.specs.Lone.{text_is_lone};
 
@@ -57,12 +45,6 @@ impl Lone for UrnUuid {
     fn xml_text(&self, alloc: Global) -> Result<Text, AllocError> {
         self.0.copy(alloc)
     }
-}
-
-impl Kinded for bool {
-    ghost use Rattle.cdx_schema.specs.Kinds.{a_boolean};
-
-    ghost kind = { a_boolean };
 }
 
 impl Lone for bool {
@@ -93,12 +75,6 @@ impl Element for bool {
     ) -> Result<(), XmlWriteError> {
         write_lone(alloc, writer, w, tag, self)
     }
-}
-
-impl Kinded for u32 {
-    ghost use Rattle.cdx_schema.specs.Kinds.{a_number};
-
-    ghost kind = { a_number };
 }
 
 impl Lone for u32 {

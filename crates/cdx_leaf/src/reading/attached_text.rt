@@ -2,9 +2,7 @@
 
 ghost use Rattle.std.specs.Prelude.{◌+◌};
 ghost use Rattle.cdx_models.specs.Trees.{attached_text};
-ghost use Rattle.cdx_schema.specs.Table.{rows};
-ghost use Rattle.cdx_schema.specs.XmlReading.{attributes_read, in_force};
-ghost use Rattle.cdx_leaf.specs.Attribute.{Gives};
+ghost use Rattle.cdx_leaf.specs.Attribute.{Gives, start_read};
 ghost use Rattle.cdx_leaf.specs.Parts.{attached_start};
 
 use crate::attribute::last_attribute;
@@ -18,11 +16,12 @@ use std::alloc::Global;
 fn begin(
     alloc: Global,
     place: usize,
-    v: SpecVersion,
+    version: SpecVersion,
     element: &OwnedName,
     attributes: &List<OwnedAttribute>,
 ) -> Result<(Option<Text>, Option<Text>), XmlReadError>
-    ensures { Gives attached_start (place + 1) (attributes_read (rows attached_text) (in_force attached_text attributes.now) v element.now.local_name place) result }
+    ensures { Gives attached_start (place + 1)
+        (start_read attached_text version element.now.local_name attributes.now place) result }
 {
     let content_type = last_attribute(alloc, attributes, "content-type")?;
     let encoding = last_attribute(alloc, attributes, "encoding")?;
@@ -30,21 +29,20 @@ fn begin(
 }
 
 impl FromXml for AttachedText {
-    ghost use Rattle.cdx_models.specs.Trees.{attached_text};
-    ghost use Rattle.cdx_schema.specs.Kinds.{a_record};
-
-    ghost kind = { a_record attached_text };
+    ghost use Rattle.std.specs.Prelude.{refl};
 
     ghost depth = { λ d. d };
+
+    ghost at_top = { refl };
 
     fn read_xml_element(
         alloc: Global,
         reader: &mut EventReader<'_>,
-        v: SpecVersion,
+        version: SpecVersion,
         element: &OwnedName,
         attributes: &List<OwnedAttribute>,
     ) -> Result<AttachedText, XmlReadError> {
-        let begun = begin(alloc, reader.place() - 1, v, element, attributes);
+        let begun = begin(alloc, reader.place() - 1, version, element, attributes);
         let (start, content) = read_exact_content(alloc, reader, element, begun)?;
         Ok(AttachedText {
             content_type: start.0,

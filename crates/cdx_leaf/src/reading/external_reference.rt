@@ -5,7 +5,7 @@ use crate::children::Children;
 use crate::from_xml::FromXml;
 use crate::lists::read_list_tag;
 use crate::reading::parts::ReferencePart;
-use crate::record::{Record, read_whole};
+use crate::record::XmlRecord;
 use crate::rule::Rule;
 use crate::take::take_one;
 use crate::taken::Taken;
@@ -32,31 +32,41 @@ impl Children for ReferencePart {
         &mut self,
         alloc: Global,
         reader: &mut EventReader<'_>,
-        v: SpecVersion,
+        version: SpecVersion,
         element: &OwnedName,
         attributes: &List<OwnedAttribute>,
     ) -> Result<Taken, XmlReadError> {
         match element.local_name.as_str() {
-            "url" => take_one(alloc, reader, v, element, attributes, &mut self.url),
-            "comment" => take_one(alloc, reader, v, element, attributes, &mut self.comment),
-            "hashes" => take_one(alloc, reader, v, element, attributes, &mut self.hashes),
+            "url" => take_one(alloc, reader, version, element, attributes, &mut self.url),
+            "comment" => take_one(
+                alloc,
+                reader,
+                version,
+                element,
+                attributes,
+                &mut self.comment,
+            ),
+            "hashes" => take_one(
+                alloc,
+                reader,
+                version,
+                element,
+                attributes,
+                &mut self.hashes,
+            ),
             _ => Ok(Taken::Unknown),
         }
     }
 }
 
-impl Record for ExternalReference {
+impl XmlRecord for ExternalReference {
     ghost use Rattle.std.specs.Prelude.{refl};
     ghost use Rattle.cdx_models.specs.Trees.{reference};
-    ghost use Rattle.cdx_leaf.specs.Plain.{reference_plain};
+    ghost use Rattle.cdx_leaf.specs.RowContents.{content_is};
 
     type Part = ReferencePart;
 
-    ghost name = { reference };
-
-    ghost plain = { reference_plain };
-
-    ghost is_record = { λ x. refl };
+    ghost no_content = { content_is reference };
 
     ghost by_rows = { λ part. refl };
 
@@ -65,7 +75,7 @@ impl Record for ExternalReference {
     fn begin(
         alloc: Global,
         place: usize,
-        _v: SpecVersion,
+        _version: SpecVersion,
         element: &OwnedName,
         attributes: &List<OwnedAttribute>,
     ) -> Result<ReferencePart, XmlReadError> {
@@ -80,7 +90,7 @@ impl Record for ExternalReference {
     fn finish(
         alloc: Global,
         place: usize,
-        _v: SpecVersion,
+        _version: SpecVersion,
         element: &OwnedName,
         part: ReferencePart,
     ) -> Result<ExternalReference, XmlReadError> {
@@ -94,39 +104,20 @@ impl Record for ExternalReference {
     }
 }
 
-impl FromXml for ExternalReference {
-    ghost use Rattle.cdx_models.specs.Trees.{reference};
-    ghost use Rattle.cdx_schema.specs.Kinds.{a_record};
-
-    ghost kind = { a_record reference };
-
-    ghost depth = { λ d. d };
-
-    fn read_xml_element(
-        alloc: Global,
-        reader: &mut EventReader<'_>,
-        v: SpecVersion,
-        element: &OwnedName,
-        attributes: &List<OwnedAttribute>,
-    ) -> Result<ExternalReference, XmlReadError> {
-        read_whole(alloc, reader, v, element, attributes)
-    }
-}
-
 impl FromXml for ExternalReferences {
-    ghost use Rattle.cdx_schema.specs.Kinds.{a_list, external_references};
-
-    ghost kind = { a_list external_references };
+    ghost use Rattle.std.specs.Prelude.{refl};
 
     ghost depth = { λ d. d };
+
+    ghost at_top = { refl };
 
     fn read_xml_element(
         alloc: Global,
         reader: &mut EventReader<'_>,
-        v: SpecVersion,
+        version: SpecVersion,
         element: &OwnedName,
         _attributes: &List<OwnedAttribute>,
     ) -> Result<ExternalReferences, XmlReadError> {
-        Ok(ExternalReferences(read_list_tag(alloc, reader, v, element, "reference")?))
+        Ok(ExternalReferences(read_list_tag(alloc, reader, version, element, "reference")?))
     }
 }

@@ -9,28 +9,25 @@ use cdx_models::{Hash, HashValue, Hashes, SpecVersion, XmlReadError};
 use std::alloc::Global;
 
 impl TextRecord for Hash {
-    ghost use Rattle.std.specs.Prelude.{refl};
     ghost use Rattle.cdx_models.specs.Trees.{hash};
-    ghost use Rattle.cdx_leaf.specs.Plain.{hash_content};
+    ghost use Rattle.cdx_leaf.specs.RowContents.{content_is};
     ghost use Rattle.cdx_leaf.specs.Whole.{hash_whole};
     ghost use Rattle.cdx_leaf.specs.Parts.{text_alone};
 
     type Start = Text;
 
-    ghost name = { hash };
-
     ghost start = { text_alone };
 
     ghost at = { 1 };
 
-    ghost content = { hash_content };
+    ghost content = { content_is hash };
 
     ghost whole = { hash_whole };
 
     fn begin(
         alloc: Global,
         place: usize,
-        _v: SpecVersion,
+        _version: SpecVersion,
         element: &OwnedName,
         attributes: &List<OwnedAttribute>,
     ) -> Result<Text, XmlReadError> {
@@ -46,38 +43,37 @@ impl TextRecord for Hash {
 }
 
 impl FromXml for Hash {
-    ghost use Rattle.cdx_models.specs.Trees.{hash};
-    ghost use Rattle.cdx_schema.specs.Kinds.{a_record};
-
-    ghost kind = { a_record hash };
+    ghost use Rattle.std.specs.Prelude.{refl};
 
     ghost depth = { λ d. d };
+
+    ghost at_top = { refl };
 
     fn read_xml_element(
         alloc: Global,
         reader: &mut EventReader<'_>,
-        v: SpecVersion,
+        version: SpecVersion,
         element: &OwnedName,
         attributes: &List<OwnedAttribute>,
     ) -> Result<Hash, XmlReadError> {
-        read_text_record(alloc, reader, v, element, attributes)
+        read_text_record(alloc, reader, version, element, attributes)
     }
 }
 
 impl FromXml for Hashes {
-    ghost use Rattle.cdx_schema.specs.Kinds.{a_list, hashes};
-
-    ghost kind = { a_list hashes };
+    ghost use Rattle.std.specs.Prelude.{refl};
 
     ghost depth = { λ d. d };
+
+    ghost at_top = { refl };
 
     fn read_xml_element(
         alloc: Global,
         reader: &mut EventReader<'_>,
-        v: SpecVersion,
+        version: SpecVersion,
         element: &OwnedName,
         _attributes: &List<OwnedAttribute>,
     ) -> Result<Hashes, XmlReadError> {
-        Ok(Hashes(read_list_tag(alloc, reader, v, element, "hash")?))
+        Ok(Hashes(read_list_tag(alloc, reader, version, element, "hash")?))
     }
 }

@@ -3,7 +3,7 @@
 use crate::attribute::attribute_or_none;
 use crate::children::Children;
 use crate::from_xml::FromXml;
-use crate::record::{Record, read_whole};
+use crate::record::XmlRecord;
 use crate::rule::Rule;
 use crate::take::{take_more, take_one};
 use crate::taken::Taken;
@@ -30,31 +30,27 @@ impl Children for OrganizationalContact {
         &mut self,
         alloc: Global,
         reader: &mut EventReader<'_>,
-        v: SpecVersion,
+        version: SpecVersion,
         element: &OwnedName,
         attributes: &List<OwnedAttribute>,
     ) -> Result<Taken, XmlReadError> {
         match element.local_name.as_str() {
-            "name" => take_one(alloc, reader, v, element, attributes, &mut self.name),
-            "email" => take_one(alloc, reader, v, element, attributes, &mut self.email),
-            "phone" => take_one(alloc, reader, v, element, attributes, &mut self.phone),
+            "name" => take_one(alloc, reader, version, element, attributes, &mut self.name),
+            "email" => take_one(alloc, reader, version, element, attributes, &mut self.email),
+            "phone" => take_one(alloc, reader, version, element, attributes, &mut self.phone),
             _ => Ok(Taken::Unknown),
         }
     }
 }
 
-impl Record for OrganizationalContact {
+impl XmlRecord for OrganizationalContact {
     ghost use Rattle.std.specs.Prelude.{refl};
     ghost use Rattle.cdx_models.specs.Trees.{contact};
-    ghost use Rattle.cdx_leaf.specs.Plain.{contact_plain};
+    ghost use Rattle.cdx_leaf.specs.RowContents.{content_is};
 
     type Part = OrganizationalContact;
 
-    ghost name = { contact };
-
-    ghost plain = { contact_plain };
-
-    ghost is_record = { λ x. refl };
+    ghost no_content = { content_is contact };
 
     ghost by_rows = { λ part. refl };
 
@@ -63,7 +59,7 @@ impl Record for OrganizationalContact {
     fn begin(
         alloc: Global,
         _place: usize,
-        _v: SpecVersion,
+        _version: SpecVersion,
         _element: &OwnedName,
         attributes: &List<OwnedAttribute>,
     ) -> Result<OrganizationalContact, XmlReadError> {
@@ -78,30 +74,11 @@ impl Record for OrganizationalContact {
     fn finish(
         _alloc: Global,
         _place: usize,
-        _v: SpecVersion,
+        _version: SpecVersion,
         _element: &OwnedName,
         part: OrganizationalContact,
     ) -> Result<OrganizationalContact, XmlReadError> {
         Ok(part)
-    }
-}
-
-impl FromXml for OrganizationalContact {
-    ghost use Rattle.cdx_models.specs.Trees.{contact};
-    ghost use Rattle.cdx_schema.specs.Kinds.{a_record};
-
-    ghost kind = { a_record contact };
-
-    ghost depth = { λ d. d };
-
-    fn read_xml_element(
-        alloc: Global,
-        reader: &mut EventReader<'_>,
-        v: SpecVersion,
-        element: &OwnedName,
-        attributes: &List<OwnedAttribute>,
-    ) -> Result<OrganizationalContact, XmlReadError> {
-        read_whole(alloc, reader, v, element, attributes)
     }
 }
 
@@ -124,31 +101,34 @@ impl Children for OrganizationalEntity {
         &mut self,
         alloc: Global,
         reader: &mut EventReader<'_>,
-        v: SpecVersion,
+        version: SpecVersion,
         element: &OwnedName,
         attributes: &List<OwnedAttribute>,
     ) -> Result<Taken, XmlReadError> {
         match element.local_name.as_str() {
-            "name" => take_one(alloc, reader, v, element, attributes, &mut self.name),
-            "url" => take_more(alloc, reader, v, element, attributes, &mut self.url),
-            "contact" => take_more(alloc, reader, v, element, attributes, &mut self.contact),
+            "name" => take_one(alloc, reader, version, element, attributes, &mut self.name),
+            "url" => take_more(alloc, reader, version, element, attributes, &mut self.url),
+            "contact" => take_more(
+                alloc,
+                reader,
+                version,
+                element,
+                attributes,
+                &mut self.contact,
+            ),
             _ => Ok(Taken::Unknown),
         }
     }
 }
 
-impl Record for OrganizationalEntity {
+impl XmlRecord for OrganizationalEntity {
     ghost use Rattle.std.specs.Prelude.{refl};
     ghost use Rattle.cdx_models.specs.Trees.{entity};
-    ghost use Rattle.cdx_leaf.specs.Plain.{entity_plain};
+    ghost use Rattle.cdx_leaf.specs.RowContents.{content_is};
 
     type Part = OrganizationalEntity;
 
-    ghost name = { entity };
-
-    ghost plain = { entity_plain };
-
-    ghost is_record = { λ x. refl };
+    ghost no_content = { content_is entity };
 
     ghost by_rows = { λ part. refl };
 
@@ -157,7 +137,7 @@ impl Record for OrganizationalEntity {
     fn begin(
         alloc: Global,
         _place: usize,
-        _v: SpecVersion,
+        _version: SpecVersion,
         _element: &OwnedName,
         attributes: &List<OwnedAttribute>,
     ) -> Result<OrganizationalEntity, XmlReadError> {
@@ -172,29 +152,10 @@ impl Record for OrganizationalEntity {
     fn finish(
         _alloc: Global,
         _place: usize,
-        _v: SpecVersion,
+        _version: SpecVersion,
         _element: &OwnedName,
         part: OrganizationalEntity,
     ) -> Result<OrganizationalEntity, XmlReadError> {
         Ok(part)
-    }
-}
-
-impl FromXml for OrganizationalEntity {
-    ghost use Rattle.cdx_models.specs.Trees.{entity};
-    ghost use Rattle.cdx_schema.specs.Kinds.{a_record};
-
-    ghost kind = { a_record entity };
-
-    ghost depth = { λ d. d };
-
-    fn read_xml_element(
-        alloc: Global,
-        reader: &mut EventReader<'_>,
-        v: SpecVersion,
-        element: &OwnedName,
-        attributes: &List<OwnedAttribute>,
-    ) -> Result<OrganizationalEntity, XmlReadError> {
-        read_whole(alloc, reader, v, element, attributes)
     }
 }

@@ -9,28 +9,25 @@ use cdx_models::{Properties, Property, SpecVersion, XmlReadError};
 use std::alloc::Global;
 
 impl TextRecord for Property {
-    ghost use Rattle.std.specs.Prelude.{refl};
     ghost use Rattle.cdx_models.specs.Trees.{property};
-    ghost use Rattle.cdx_leaf.specs.Plain.{property_content};
+    ghost use Rattle.cdx_leaf.specs.RowContents.{content_is};
     ghost use Rattle.cdx_leaf.specs.Whole.{property_whole};
     ghost use Rattle.cdx_leaf.specs.Parts.{text_alone};
 
     type Start = Text;
 
-    ghost name = { property };
-
     ghost start = { text_alone };
 
     ghost at = { 1 };
 
-    ghost content = { property_content };
+    ghost content = { content_is property };
 
     ghost whole = { property_whole };
 
     fn begin(
         alloc: Global,
         place: usize,
-        _v: SpecVersion,
+        _version: SpecVersion,
         element: &OwnedName,
         attributes: &List<OwnedAttribute>,
     ) -> Result<Text, XmlReadError> {
@@ -46,38 +43,37 @@ impl TextRecord for Property {
 }
 
 impl FromXml for Property {
-    ghost use Rattle.cdx_models.specs.Trees.{property};
-    ghost use Rattle.cdx_schema.specs.Kinds.{a_record};
-
-    ghost kind = { a_record property };
+    ghost use Rattle.std.specs.Prelude.{refl};
 
     ghost depth = { λ d. d };
+
+    ghost at_top = { refl };
 
     fn read_xml_element(
         alloc: Global,
         reader: &mut EventReader<'_>,
-        v: SpecVersion,
+        version: SpecVersion,
         element: &OwnedName,
         attributes: &List<OwnedAttribute>,
     ) -> Result<Property, XmlReadError> {
-        read_text_record(alloc, reader, v, element, attributes)
+        read_text_record(alloc, reader, version, element, attributes)
     }
 }
 
 impl FromXml for Properties {
-    ghost use Rattle.cdx_schema.specs.Kinds.{a_list, properties};
-
-    ghost kind = { a_list properties };
+    ghost use Rattle.std.specs.Prelude.{refl};
 
     ghost depth = { λ d. d };
+
+    ghost at_top = { refl };
 
     fn read_xml_element(
         alloc: Global,
         reader: &mut EventReader<'_>,
-        v: SpecVersion,
+        version: SpecVersion,
         element: &OwnedName,
         _attributes: &List<OwnedAttribute>,
     ) -> Result<Properties, XmlReadError> {
-        Ok(Properties(read_lax_validation_list_tag(alloc, reader, v, element, "property")?))
+        Ok(Properties(read_lax_validation_list_tag(alloc, reader, version, element, "property")?))
     }
 }

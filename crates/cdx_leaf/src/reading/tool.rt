@@ -2,7 +2,7 @@
 
 use crate::children::Children;
 use crate::from_xml::FromXml;
-use crate::record::{Record, read_whole};
+use crate::record::XmlRecord;
 use crate::rule::Rule;
 use crate::take::take_one;
 use crate::taken::Taken;
@@ -29,23 +29,44 @@ impl Children for Tool {
         &mut self,
         alloc: Global,
         reader: &mut EventReader<'_>,
-        v: SpecVersion,
+        version: SpecVersion,
         element: &OwnedName,
         attributes: &List<OwnedAttribute>,
     ) -> Result<Taken, XmlReadError> {
         match element.local_name.as_str() {
-            "vendor" => take_one(alloc, reader, v, element, attributes, &mut self.vendor),
-            "name" => take_one(alloc, reader, v, element, attributes, &mut self.name),
-            "version" => take_one(alloc, reader, v, element, attributes, &mut self.version),
-            "hashes" => take_one(alloc, reader, v, element, attributes, &mut self.hashes),
+            "vendor" => take_one(
+                alloc,
+                reader,
+                version,
+                element,
+                attributes,
+                &mut self.vendor,
+            ),
+            "name" => take_one(alloc, reader, version, element, attributes, &mut self.name),
+            "version" => take_one(
+                alloc,
+                reader,
+                version,
+                element,
+                attributes,
+                &mut self.version,
+            ),
+            "hashes" => take_one(
+                alloc,
+                reader,
+                version,
+                element,
+                attributes,
+                &mut self.hashes,
+            ),
             "externalReferences" => {
-                if !SpecVersion::V1_4.is_known_to(v) {
+                if !SpecVersion::V1_4.is_known_to(version) {
                     return Ok(Taken::Unknown);
                 }
                 take_one(
                     alloc,
                     reader,
-                    v,
+                    version,
                     element,
                     attributes,
                     &mut self.external_references,
@@ -56,18 +77,14 @@ impl Children for Tool {
     }
 }
 
-impl Record for Tool {
+impl XmlRecord for Tool {
     ghost use Rattle.std.specs.Prelude.{refl};
     ghost use Rattle.cdx_models.specs.Trees.{tool};
-    ghost use Rattle.cdx_leaf.specs.Plain.{tool_plain};
+    ghost use Rattle.cdx_leaf.specs.RowContents.{content_is};
 
     type Part = Tool;
 
-    ghost name = { tool };
-
-    ghost plain = { tool_plain };
-
-    ghost is_record = { λ x. refl };
+    ghost no_content = { content_is tool };
 
     ghost by_rows = { λ part. refl };
 
@@ -76,7 +93,7 @@ impl Record for Tool {
     fn begin(
         _alloc: Global,
         _place: usize,
-        _v: SpecVersion,
+        _version: SpecVersion,
         _element: &OwnedName,
         _attributes: &List<OwnedAttribute>,
     ) -> Result<Tool, XmlReadError> {
@@ -92,29 +109,10 @@ impl Record for Tool {
     fn finish(
         _alloc: Global,
         _place: usize,
-        _v: SpecVersion,
+        _version: SpecVersion,
         _element: &OwnedName,
         part: Tool,
     ) -> Result<Tool, XmlReadError> {
         Ok(part)
-    }
-}
-
-impl FromXml for Tool {
-    ghost use Rattle.cdx_models.specs.Trees.{tool};
-    ghost use Rattle.cdx_schema.specs.Kinds.{a_record};
-
-    ghost kind = { a_record tool };
-
-    ghost depth = { λ d. d };
-
-    fn read_xml_element(
-        alloc: Global,
-        reader: &mut EventReader<'_>,
-        v: SpecVersion,
-        element: &OwnedName,
-        attributes: &List<OwnedAttribute>,
-    ) -> Result<Tool, XmlReadError> {
-        read_whole(alloc, reader, v, element, attributes)
     }
 }

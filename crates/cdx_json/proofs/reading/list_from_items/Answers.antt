@@ -1,4 +1,4 @@
-use Rattle.std.proofs.Common.{arith, ap, ◌∙◌, sym, Ok}
+use Rattle.std.proofs.Common.{arith, ap, Ok}
 use Rattle.serde_json.specs.View.{items_view}
 use Rattle.cdx_models.specs.Trees.{items}
 use Rattle.cdx_schema.specs.Results.{◌>>=◌}

@@ -1,4 +1,4 @@
-use Rattle.serde_json.specs.View.{view, items_view, members_view}
+use Rattle.serde_json.specs.View.{view, members_view}
 use Rattle.cdx_schema.specs.Kinds.{required}
 use Rattle.cdx_json.proofs.Rows.{must_none, must_null, live_ok, live_err}
 use Rattle.cdx_json.specs.Depths.{depth_of}

@@ -1,9 +1,8 @@
-use Rattle.std.proofs.Common.{◌≡◌, Ok, ◌+◌, sym, ap, ◌∙◌, subst}
+use Rattle.std.proofs.Common.{◌+◌, sym}
 use Rattle.std.proofs.lemmas.Result.{err_from_is_err_and}
 use Rattle.cdx_models.specs.Trees.{boolean}
 use Rattle.cdx_schema.specs.Kinds.{a_boolean}
 use Rattle.cdx_schema.specs.Nodes.{places_of}
-use Rattle.cdx_schema.specs.Results.{◌>>=◌}
 use Rattle.cdx_schema.specs.XmlReading.{simple_text}
 use Rattle.cdx_leaf.specs.Numbers.{value_read}
 use Rattle.cdx_leaf.proofs.Parts.{told_at_end}

@@ -1,5 +1,4 @@
 use Rattle.std.proofs.Common.{Ok, [], sym, ap, ◌∙◌}
-use Rattle.std.proofs.lemmas.Result.{err_from_is_err_and}
 use Rattle.cdx_events.specs.Nodes.{characters, cdata}
 use Rattle.cdx_leaf.proofs.Steps.{at_text, at_cdata}
 use Rattle.cdx_leaf.proofs.Simple.{simple_text, simple_cdata, optional_end, optional_ok, closing_with}

@@ -1,4 +1,4 @@
-use Rattle.serde_json.specs.View.{view, items_view, members_view}
+use Rattle.serde_json.specs.View.{view}
 use Rattle.cdx_json.proofs.Values.{boolean_ok, boolean_err}
 use Rattle.cdx_json.specs.Depths.{depth_of}
 use Rattle.cdx_json.proofs.reading.BoolFromJson.from_json_at.Goals as goal

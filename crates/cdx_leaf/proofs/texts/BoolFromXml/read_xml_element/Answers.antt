@@ -9,4 +9,4 @@ pub returns : goal.returns
 returns c = λ d ns p nodes rest st.
     let old = c.args.reader.now in
     let new = c.read_boolean_tag.new.reader in
-    rw (boolean_kind_is c.args._v c.args.element.now c.args._attributes.now ns d p nodes) (subst (λ q. Reads boolean old new (after old nodes rest) (boolean_in nodes c.args.element.now.local_name q) c.read_boolean_tag.result) st.place (c.read_boolean_tag.ensures nodes rest st.at))
+    rw (boolean_kind_is c.args._version c.args.element.now c.args._attributes.now ns d p nodes) (subst (λ q. Reads boolean old new (after old nodes rest) (boolean_in nodes c.args.element.now.local_name q) c.read_boolean_tag.result) st.place (c.read_boolean_tag.ensures nodes rest st.at))

@@ -9,4 +9,4 @@ pub returns : goal.returns
 returns c = λ d ns p nodes rest st.
     let old = c.args.reader.now in
     let new = c.read_u32_tag.new.reader in
-    rw (number_kind_is c.args._v c.args.element.now c.args._attributes.now ns d p nodes) (subst (λ q. Reads number old new (after old nodes rest) (number_in nodes c.args.element.now.local_name q) c.read_u32_tag.result) st.place (c.read_u32_tag.ensures nodes rest st.at))
+    rw (number_kind_is c.args._version c.args.element.now c.args._attributes.now ns d p nodes) (subst (λ q. Reads number old new (after old nodes rest) (number_in nodes c.args.element.now.local_name q) c.read_u32_tag.result) st.place (c.read_u32_tag.ensures nodes rest st.at))

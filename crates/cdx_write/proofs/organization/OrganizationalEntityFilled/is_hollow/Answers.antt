@@ -2,4 +2,4 @@ use Rattle.cdx_write.proofs.Hollow.{entity_hollow}
 use Rattle.cdx_write.proofs.organization.OrganizationalEntityFilled.is_hollow.Goals as goal
 
 pub returns : goal.returns
-returns c = entity_hollow _ _ _ _ c.will_write.result c.will_write.ensures
+returns c = entity_hollow _ _ _ _ c.has_content.result c.has_content.ensures

@@ -1,31 +1,28 @@
-use Rattle.std.proofs.Common.{refl, sym, ◌∙◌, true, false}
+use Rattle.std.proofs.Common.{refl, sym, ◌∙◌}
 use Rattle.std.specs.Prelude.{codes}
-use Rattle.cdx_models.specs.declared.bom.SpecVersion.TheVariants.{V1_4, V1_5}
 use Rattle.cdx_models.specs.Trees.{contact}
-use Rattle.cdx_schema.specs.Kinds as kinds
 use Rattle.cdx_schema.specs.Table.{rows, list}
-use Rattle.cdx_schema.specs.XmlReading.{record_plan, last}
+use Rattle.cdx_schema.specs.XmlReading.{record_plan}
 use Rattle.cdx_leaf.specs.Parts.{contact_slots}
-use Rattle.cdx_leaf.proofs.ChildSteps.{takes_one, takes_more, takes_none, takes_second, differs}
-use Rattle.cdx_leaf.proofs.Parts.{takes_list}
+use Rattle.cdx_leaf.proofs.ChildSteps.{takes_one, takes_none, differs}
 use Rattle.cdx_leaf.proofs.reading.organization.OrganizationalContactChildren.read_child.Goals as goal
 
 pub returns-in-name-clause-takes : goal.returns-in-name-clause-takes
 unfolding rows list
 returns-in-name-clause-takes c =
-    takes_one (record_plan contact) c.args.v c.args.element.now c.args.attributes.now (contact_slots c.args.self.now) _ c.args.reader.now c.take_one.new.reader _ (λ d. d) _ c.take_one.result (sym c.as_str.ensures ∙ c.in-name.is) refl refl refl c.take_one.ensures
+    takes_one (record_plan contact) c.args.version c.args.element.now c.args.attributes.now (contact_slots c.args.self.now) _ c.args.reader.now c.take_one.new.reader _ (λ d. d) _ c.take_one.result (sym c.as_str.ensures ∙ c.in-name.is) refl refl refl c.take_one.ensures
 
 pub returns-in-email-clause-takes : goal.returns-in-email-clause-takes
 unfolding rows list
 returns-in-email-clause-takes c =
-    takes_one (record_plan contact) c.args.v c.args.element.now c.args.attributes.now (contact_slots c.args.self.now) _ c.args.reader.now c.take_one-in-email.new.reader _ (λ d. d) _ c.take_one-in-email.result (sym c.as_str.ensures ∙ c.in-email.is) refl refl refl c.take_one-in-email.ensures
+    takes_one (record_plan contact) c.args.version c.args.element.now c.args.attributes.now (contact_slots c.args.self.now) _ c.args.reader.now c.take_one-in-email.new.reader _ (λ d. d) _ c.take_one-in-email.result (sym c.as_str.ensures ∙ c.in-email.is) refl refl refl c.take_one-in-email.ensures
 
 pub returns-in-phone-clause-takes : goal.returns-in-phone-clause-takes
 unfolding rows list
 returns-in-phone-clause-takes c =
-    takes_one (record_plan contact) c.args.v c.args.element.now c.args.attributes.now (contact_slots c.args.self.now) _ c.args.reader.now c.take_one-in-phone.new.reader _ (λ d. d) _ c.take_one-in-phone.result (sym c.as_str.ensures ∙ c.in-phone.is) refl refl refl c.take_one-in-phone.ensures
+    takes_one (record_plan contact) c.args.version c.args.element.now c.args.attributes.now (contact_slots c.args.self.now) _ c.args.reader.now c.take_one-in-phone.new.reader _ (λ d. d) _ c.take_one-in-phone.result (sym c.as_str.ensures ∙ c.in-phone.is) refl refl refl c.take_one-in-phone.ensures
 
 pub returns-in_default-clause-takes : goal.returns-in_default-clause-takes
 unfolding rows
 returns-in_default-clause-takes c =
-    takes_none (record_plan contact) c.args.v c.args.element.now c.args.attributes.now (contact_slots c.args.self.now) c.args.reader.now (λ d. d) (rw (differs c.args.element.now.local_name (codes "name") (λ e. c.in_default.not-name (c.as_str.ensures ∙ e)), differs c.args.element.now.local_name (codes "email") (λ e. c.in_default.not-email (c.as_str.ensures ∙ e)), differs c.args.element.now.local_name (codes "phone") (λ e. c.in_default.not-phone (c.as_str.ensures ∙ e))) refl)
+    takes_none (record_plan contact) c.args.version c.args.element.now c.args.attributes.now (contact_slots c.args.self.now) c.args.reader.now (λ d. d) (rw (differs c.args.element.now.local_name (codes "name") (λ e. c.in_default.not-name (c.as_str.ensures ∙ e)), differs c.args.element.now.local_name (codes "email") (λ e. c.in_default.not-email (c.as_str.ensures ∙ e)), differs c.args.element.now.local_name (codes "phone") (λ e. c.in_default.not-phone (c.as_str.ensures ∙ e))) refl)

@@ -13,8 +13,8 @@ pub returns-in_err-read_lax_validation_list_tag : goal.returns-in_err-read_lax_v
 unfolding list
 returns-in_err-read_lax_validation_list_tag c = λ d ns p nodes rest st.
     let q = err_from_is_err_and c.from_residual.result c.from_residual.ensures.1 in
-    rw (q.1, q.2) (whole_list property_tree properties (a_record property) (λ d. d) (codes "property") Lax c.args.v c.args.element.now c.args._attributes.now c.args.reader.now c.read_lax_validation_list_tag.new.reader (Err c.in_err-read_lax_validation_list_tag.field-0.0) refl c.in_err-read_lax_validation_list_tag.ensures d ns p nodes rest st)
+    rw (q.1, q.2) (whole_list property_tree properties (a_record property) (λ d. d) (codes "property") Lax c.args.version c.args.element.now c.args._attributes.now c.args.reader.now c.read_lax_validation_list_tag.new.reader (Err c.in_err-read_lax_validation_list_tag.field-0.0) refl c.in_err-read_lax_validation_list_tag.ensures d ns p nodes rest st)
 
 pub returns : goal.returns
 unfolding list
-returns c = whole_list property_tree properties (a_record property) (λ d. d) (codes "property") Lax c.args.v c.args.element.now c.args._attributes.now c.args.reader.now c.read_lax_validation_list_tag.new.reader (Ok c.in_ok-read_lax_validation_list_tag.field-0) refl c.in_ok-read_lax_validation_list_tag.ensures
+returns c = whole_list property_tree properties (a_record property) (λ d. d) (codes "property") Lax c.args.version c.args.element.now c.args._attributes.now c.args.reader.now c.read_lax_validation_list_tag.new.reader (Ok c.in_ok-read_lax_validation_list_tag.field-0) refl c.in_ok-read_lax_validation_list_tag.ensures

@@ -1,0 +1,15 @@
+use Rattle.cdx_schema.proofs.PlainNames.{plain_name}
+use Rattle.serde_json.specs.View.{view, members_view}
+use Rattle.cdx_json.proofs.Values.{record_err, record_gives}
+use Rattle.cdx_json.specs.Depths.{depth_of}
+use Rattle.cdx_json.proofs.traits.AnyFromJson.from_json_at.Goals as goal
+
+pub returns-in-None : goal.returns-in-None
+returns-in-None g c =
+    let plain = plain_name g.T.Record.name g.T.Record.plain in
+    record_err c.here.result (view c.args.value.now) g.T.Record.name c.args.version (depth_of c.args.depth) (plain.shallow (depth_of c.args.depth)) c.in-None.ensures c.here.ensures
+
+pub returns-in-Some : goal.returns-in-Some
+returns-in-Some g c =
+    let plain = plain_name g.T.Record.name g.T.Record.plain in
+    record_gives g.T.HasTree.tree c.from_members.result (view c.args.value.now) (members_view c.in-Some.map.now.entries) g.T.Record.name c.args.version (depth_of c.args.depth) (plain.shallow (depth_of c.args.depth)) (plain.same_depth (depth_of c.args.depth)) c.in-Some.ensures c.from_members.ensures

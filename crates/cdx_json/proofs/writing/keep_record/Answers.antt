@@ -1,5 +1,0 @@
-use Rattle.cdx_json.proofs.KeptRowsLaws.{record_is_kept}
-use Rattle.cdx_json.proofs.writing.keep_record.Goals as goal
-
-pub returns : goal.returns
-returns g c = record_is_kept g.T.HasTree.tree c.kept_rows.result c.args.version c.args.label g.T.Record.name (g.T.HasTree.tree c.args.held.now) (g.met.T.Record.is_plain c.args.held.now) c.kept_rows.ensures
