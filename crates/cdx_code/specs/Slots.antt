@@ -1,6 +1,5 @@
 -- The fields of commits while they are read from XML.
-use Rattle.cdx_models.specs.Trees.{Trees}
-use Rattle.cdx_leaf.specs.Trees.{fields_of}
+use Rattle.cdx_models.specs.Trees.{Trees, fields_of}
 use Rattle.cdx_code.specs.Records.{action_tree, commit_tree}
 use Rattle.cdx_code.specs.declared.code.IdentifiableAction.{IdentifiableAction}
 use Rattle.cdx_code.specs.declared.code.Commit.{Commit}

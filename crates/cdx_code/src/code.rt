@@ -1,5 +1,7 @@
 //! Commits.
 
+ghost use Rattle.cdx_models.specs.Trees.{action, commit};
+ghost use Rattle.cdx_schema.specs.Kinds.{a_list, commits};
 ghost use Rattle.std.specs.Prelude.{refl};
 ghost use Rattle.cdx_models.specs.Same.{same};
 ghost use Rattle.cdx_models.specs.SameLaws.{same_laws};
@@ -7,6 +9,7 @@ ghost use Rattle.cdx_code.specs.Records.{action_tree, commit_tree, commits_tree}
 
 use cdx_events::{List, Text};
 use cdx_models::{HasTree, copy_row, same_row};
+use cdx_schema::{Kinded, Record};
 use std::alloc::{AllocError, Global};
 
 /// Who did something, and when.
@@ -14,7 +17,9 @@ use std::alloc::{AllocError, Global};
 pub struct IdentifiableAction {
     /// A date with time and zone by CycloneDX, which isn't checked.
     pub timestamp: Option<Text>,
+    /// The name of who did it.
     pub name: Option<Text>,
+    /// The address for mail.
     pub email: Option<Text>,
 }
 
@@ -49,6 +54,14 @@ impl HasTree for IdentifiableAction {
     }
 }
 
+impl Record for IdentifiableAction {
+    ghost name = { action };
+
+    ghost is_record = { λ x. refl };
+
+    ghost plain = { refl };
+}
+
 impl PartialEq for IdentifiableAction {
     ghost eq = { λ a b. same (action_tree a) (action_tree b) };
 
@@ -64,9 +77,13 @@ impl PartialEq for IdentifiableAction {
 pub struct Commit {
     /// The name that the version control system gives it.
     pub uid: Option<Text>,
+    /// Where it can be seen.
     pub url: Option<Text>,
+    /// Who wrote it, and when.
     pub author: Option<IdentifiableAction>,
+    /// Who committed it, and when.
     pub committer: Option<IdentifiableAction>,
+    /// Its message.
     pub message: Option<Text>,
 }
 
@@ -107,6 +124,14 @@ impl HasTree for Commit {
     }
 }
 
+impl Record for Commit {
+    ghost name = { commit };
+
+    ghost is_record = { λ x. refl };
+
+    ghost plain = { refl };
+}
+
 impl PartialEq for Commit {
     ghost eq = { λ a b. same (commit_tree a) (commit_tree b) };
 
@@ -117,6 +142,7 @@ impl PartialEq for Commit {
     }
 }
 
+/// Commits, in order.
 #[derive(Debug, Drop)]
 pub struct Commits(pub List<Commit>);
 
@@ -132,6 +158,10 @@ impl HasTree for Commits {
     fn same(&self, other: &Commits) -> bool {
         self.0.same(&other.0)
     }
+}
+
+impl Kinded for Commits {
+    ghost kind = { a_list commits };
 }
 
 impl PartialEq for Commits {

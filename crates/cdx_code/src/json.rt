@@ -1,61 +1,19 @@
 //! Commits, and who made them, in JSON.
 
-ghost use Rattle.std.specs.Prelude.{refl};
-ghost use Rattle.cdx_models.specs.Trees.{action, commit};
-ghost use Rattle.cdx_schema.specs.Kinds.{commits, a_record, a_list};
-ghost use Rattle.cdx_json.specs.Stays.{list_stays, record_stays};
+ghost use Rattle.cdx_schema.specs.Kinds.{commits};
+ghost use Rattle.cdx_json.specs.Stays.{list_stays};
 
 use crate::{Commit, Commits, IdentifiableAction};
 use cdx_json::{
-    Depth, FromJson, Kept, Kinded, Record, ToJson, keep_list, keep_record, keep_row,
-    list_from_value, list_to_value, optional_row, put_row, read_record, write_record,
+    Depth, FromJson, JsonRecord, Kept, ToJson, keep_list, keep_row, list_from_value, list_to_value,
+    optional_row, put_row,
 };
 use cdx_models::{JsonReadError, SpecVersion};
 use serde_json::{Map, Value};
 use std::alloc::{AllocError, Global};
 
-impl Kinded for IdentifiableAction {
-    ghost kind = { a_record action };
-}
-
-impl FromJson for IdentifiableAction {
-    fn from_json_at(
-        alloc: Global,
-        value: &Value,
-        version: SpecVersion,
-        depth: Depth,
-    ) -> Result<IdentifiableAction, JsonReadError> {
-        read_record(alloc, value, version, depth)
-    }
-}
-
-impl Kept for IdentifiableAction {
-    ghost stays = { λ w l x. record_stays w l action _ };
-
-    fn kept_as(
-        &self,
-        alloc: Global,
-        version: SpecVersion,
-        label: SpecVersion,
-    ) -> Result<IdentifiableAction, AllocError> {
-        keep_record(self, alloc, version, label)
-    }
-}
-
-impl ToJson for IdentifiableAction {
-    fn to_value(&self, alloc: Global, version: SpecVersion) -> Result<Value, AllocError> {
-        write_record(self, alloc, version)
-    }
-}
-
-impl Record for IdentifiableAction {
-    ghost name = { action };
-
-    ghost is_plain = { λ x. (refl, refl) };
-
-    ghost flat = { λ d. (refl, refl) };
-
-    #[tactic(auto, unfolding(cdx_json::specs::ByRows::rows_made, cdx_schema::specs::Table::rows, cdx_schema::specs::Table::list))]
+impl JsonRecord for IdentifiableAction {
+    #[tactic(auto, unfolding(cdx_json::proofs::OnRows::on_rows))]
     fn from_members(
         alloc: Global,
         map: &Map<String, Value>,
@@ -72,7 +30,7 @@ impl Record for IdentifiableAction {
         })
     }
 
-    #[tactic(auto, unfolding(cdx_json::specs::KeptRows::rows_held, cdx_schema::specs::Table::rows, cdx_schema::specs::Table::list))]
+    #[tactic(auto, unfolding(cdx_json::proofs::OnRows::on_rows))]
     fn kept_rows(
         &self,
         alloc: Global,
@@ -86,7 +44,7 @@ impl Record for IdentifiableAction {
         })
     }
 
-    #[tactic(auto, unfolding(cdx_json::specs::KeptRows::rows_put, cdx_schema::specs::Table::rows, cdx_schema::specs::Table::list))]
+    #[tactic(auto, unfolding(cdx_json::proofs::OnRows::on_rows))]
     fn put_members(
         &self,
         alloc: Global,
@@ -99,48 +57,8 @@ impl Record for IdentifiableAction {
     }
 }
 
-impl Kinded for Commit {
-    ghost kind = { a_record commit };
-}
-
-impl FromJson for Commit {
-    fn from_json_at(
-        alloc: Global,
-        value: &Value,
-        version: SpecVersion,
-        depth: Depth,
-    ) -> Result<Commit, JsonReadError> {
-        read_record(alloc, value, version, depth)
-    }
-}
-
-impl Kept for Commit {
-    ghost stays = { λ w l x. record_stays w l commit _ };
-
-    fn kept_as(
-        &self,
-        alloc: Global,
-        version: SpecVersion,
-        label: SpecVersion,
-    ) -> Result<Commit, AllocError> {
-        keep_record(self, alloc, version, label)
-    }
-}
-
-impl ToJson for Commit {
-    fn to_value(&self, alloc: Global, version: SpecVersion) -> Result<Value, AllocError> {
-        write_record(self, alloc, version)
-    }
-}
-
-impl Record for Commit {
-    ghost name = { commit };
-
-    ghost is_plain = { λ x. (refl, refl) };
-
-    ghost flat = { λ d. (refl, refl) };
-
-    #[tactic(auto, unfolding(cdx_json::specs::ByRows::rows_made, cdx_schema::specs::Table::rows, cdx_schema::specs::Table::list))]
+impl JsonRecord for Commit {
+    #[tactic(auto, unfolding(cdx_json::proofs::OnRows::on_rows))]
     fn from_members(
         alloc: Global,
         map: &Map<String, Value>,
@@ -161,7 +79,7 @@ impl Record for Commit {
         })
     }
 
-    #[tactic(auto, unfolding(cdx_json::specs::KeptRows::rows_held, cdx_schema::specs::Table::rows, cdx_schema::specs::Table::list))]
+    #[tactic(auto, unfolding(cdx_json::proofs::OnRows::on_rows))]
     fn kept_rows(
         &self,
         alloc: Global,
@@ -177,7 +95,7 @@ impl Record for Commit {
         })
     }
 
-    #[tactic(auto, unfolding(cdx_json::specs::KeptRows::rows_put, cdx_schema::specs::Table::rows, cdx_schema::specs::Table::list))]
+    #[tactic(auto, unfolding(cdx_json::proofs::OnRows::on_rows))]
     fn put_members(
         &self,
         alloc: Global,
@@ -191,10 +109,6 @@ impl Record for Commit {
         put_row(alloc, map, "message", &self.message, version)?;
         Ok(())
     }
-}
-
-impl Kinded for Commits {
-    ghost kind = { a_list commits };
 }
 
 impl FromJson for Commits {

@@ -2,9 +2,7 @@
 
 use crate::{Commit, Commits, IdentifiableAction};
 use cdx_events::{EventReader, List, OwnedAttribute, OwnedName};
-use cdx_leaf::{
-    Children, FromXml, Record, Rule, Taken, read_lax_validation_list_tag, read_whole, take_one,
-};
+use cdx_leaf::{Children, FromXml, Rule, Taken, XmlRecord, read_lax_validation_list_tag, take_one};
 use cdx_models::{SpecVersion, XmlReadError};
 use std::alloc::Global;
 
@@ -40,18 +38,14 @@ impl Children for IdentifiableAction {
     }
 }
 
-impl Record for IdentifiableAction {
+impl XmlRecord for IdentifiableAction {
     ghost use Rattle.std.specs.Prelude.{refl};
     ghost use Rattle.cdx_models.specs.Trees.{action};
-    ghost use Rattle.cdx_code.specs.Plain.{action_plain};
+    ghost use Rattle.cdx_leaf.specs.RowContents.{content_is};
 
     type Part = IdentifiableAction;
 
-    ghost name = { action };
-
-    ghost plain = { action_plain };
-
-    ghost is_record = { λ x. refl };
+    ghost no_content = { content_is action };
 
     ghost by_rows = { λ part. refl };
 
@@ -79,25 +73,6 @@ impl Record for IdentifiableAction {
         part: IdentifiableAction,
     ) -> Result<IdentifiableAction, XmlReadError> {
         Ok(part)
-    }
-}
-
-impl FromXml for IdentifiableAction {
-    ghost use Rattle.cdx_models.specs.Trees.{action};
-    ghost use Rattle.cdx_schema.specs.Kinds.{a_record};
-
-    ghost kind = { a_record action };
-
-    ghost depth = { λ d. d };
-
-    fn read_xml_element(
-        alloc: Global,
-        reader: &mut EventReader<'_>,
-        v: SpecVersion,
-        element: &OwnedName,
-        attributes: &List<OwnedAttribute>,
-    ) -> Result<IdentifiableAction, XmlReadError> {
-        read_whole(alloc, reader, v, element, attributes)
     }
 }
 
@@ -135,18 +110,14 @@ impl Children for Commit {
     }
 }
 
-impl Record for Commit {
+impl XmlRecord for Commit {
     ghost use Rattle.std.specs.Prelude.{refl};
     ghost use Rattle.cdx_models.specs.Trees.{commit};
-    ghost use Rattle.cdx_code.specs.Plain.{commit_plain};
+    ghost use Rattle.cdx_leaf.specs.RowContents.{content_is};
 
     type Part = Commit;
 
-    ghost name = { commit };
-
-    ghost plain = { commit_plain };
-
-    ghost is_record = { λ x. refl };
+    ghost no_content = { content_is commit };
 
     ghost by_rows = { λ part. refl };
 
@@ -179,31 +150,12 @@ impl Record for Commit {
     }
 }
 
-impl FromXml for Commit {
-    ghost use Rattle.cdx_models.specs.Trees.{commit};
-    ghost use Rattle.cdx_schema.specs.Kinds.{a_record};
-
-    ghost kind = { a_record commit };
-
-    ghost depth = { λ d. d };
-
-    fn read_xml_element(
-        alloc: Global,
-        reader: &mut EventReader<'_>,
-        v: SpecVersion,
-        element: &OwnedName,
-        attributes: &List<OwnedAttribute>,
-    ) -> Result<Commit, XmlReadError> {
-        read_whole(alloc, reader, v, element, attributes)
-    }
-}
-
 impl FromXml for Commits {
-    ghost use Rattle.cdx_schema.specs.Kinds.{a_list, commits};
-
-    ghost kind = { a_list commits };
+    ghost use Rattle.std.specs.Prelude.{refl};
 
     ghost depth = { λ d. d };
+
+    ghost at_top = { refl };
 
     fn read_xml_element(
         alloc: Global,

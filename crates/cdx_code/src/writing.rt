@@ -1,30 +1,15 @@
 //! Commits, and who made them, written as XML.
 
 ghost use Rattle.std.specs.Prelude.{refl, codes};
-ghost use Rattle.cdx_models.specs.Trees.{action, commit};
-ghost use Rattle.cdx_schema.specs.Kinds.{a_record, a_list, commits};
-ghost use Rattle.cdx_write.specs.Spelling.{tagged};
-ghost use Rattle.cdx_write.specs.WillWrite.{will_write};
-ghost use Rattle.cdx_code.specs.Records.{action_tree, commit_tree, commits_tree};
 
 use crate::{Commit, Commits, IdentifiableAction};
 use cdx_events::{EventWriter, List, OwnedAttribute};
 use cdx_models::{SpecVersion, XmlWriteError};
-use cdx_write::{
-    Element, Item, Kinded, Record, ToInnerXml, ToXml, put_child, write_list, write_record,
-};
+use cdx_write::{Element, HasContent, Item, Tagged, WrittenRecord, put_child, write_list};
 use std::alloc::{AllocError, Global};
 
-impl Kinded for IdentifiableAction {
-    ghost kind = { a_record action };
-}
-
-impl Record for IdentifiableAction {
-    ghost name = { action };
-
-    ghost is_plain = { λ x. (refl, λ xs. refl) };
-
-    #[tactic(auto, unfolding(cdx_write::specs::WrittenRows::attributes_put, cdx_schema::specs::Table::rows))]
+impl WrittenRecord for IdentifiableAction {
+    #[tactic(auto, unfolding(cdx_write::proofs::OnRows::on_rows))]
     fn attributes(
         &self,
         alloc: Global,
@@ -33,6 +18,7 @@ impl Record for IdentifiableAction {
         Ok(List::new(alloc))
     }
 
+    #[tactic(auto, unfolding(cdx_write::proofs::OnRows::on_rows), using(cdx_write::proofs::OnRows::in_turn))]
     fn write_rows(
         &self,
         alloc: Global,
@@ -45,52 +31,14 @@ impl Record for IdentifiableAction {
     }
 }
 
-impl Element for IdentifiableAction {
-    ghost keeps = { refl };
-
-    fn write_as(
-        &self,
-        alloc: Global,
-        writer: &mut EventWriter,
-        w: SpecVersion,
-        tag: &str,
-    ) -> Result<(), XmlWriteError> {
-        write_record(alloc, writer, w, tag, self)
-    }
-}
-
-impl ToInnerXml for IdentifiableAction {
-    ghost shown = { action_tree };
-
-    ghost kind = { a_record action };
-
-    ghost counts = { λ x. will_write (action_tree x) };
-
-    fn write_xml_named_element(
-        &self,
-        alloc: Global,
-        writer: &mut EventWriter,
-        w: SpecVersion,
-        tag: &str,
-    ) -> Result<(), XmlWriteError> {
-        write_record(alloc, writer, w, tag, self)
-    }
-
-    fn will_write(&self) -> bool {
+impl HasContent for IdentifiableAction {
+    fn has_content(&self) -> bool {
         true
     }
 }
 
-impl Kinded for Commit {
-    ghost kind = { a_record commit };
-}
-
-impl Record for Commit {
-    ghost name = { commit };
-
-    ghost is_plain = { λ x. (refl, λ xs. refl) };
-
-    #[tactic(auto, unfolding(cdx_write::specs::WrittenRows::attributes_put, cdx_schema::specs::Table::rows))]
+impl WrittenRecord for Commit {
+    #[tactic(auto, unfolding(cdx_write::proofs::OnRows::on_rows))]
     fn attributes(
         &self,
         alloc: Global,
@@ -99,6 +47,7 @@ impl Record for Commit {
         Ok(List::new(alloc))
     }
 
+    #[tactic(auto, unfolding(cdx_write::proofs::OnRows::on_rows), using(cdx_write::proofs::OnRows::in_turn))]
     fn write_rows(
         &self,
         alloc: Global,
@@ -113,51 +62,24 @@ impl Record for Commit {
     }
 }
 
-impl Element for Commit {
-    ghost keeps = { refl };
-
-    fn write_as(
-        &self,
-        alloc: Global,
-        writer: &mut EventWriter,
-        w: SpecVersion,
-        tag: &str,
-    ) -> Result<(), XmlWriteError> {
-        write_record(alloc, writer, w, tag, self)
-    }
-}
-
 impl Item for Commit {
     fn is_passed_over(&self) -> bool {
         false
     }
 }
 
-impl ToXml for Commit {
-    ghost shown = { commit_tree };
-
-    ghost kind = { a_record commit };
-
-    ghost tag = { tagged (codes "commit") };
-
-    ghost counts = { λ x. will_write (commit_tree x) };
-
-    fn write_xml_element(
-        &self,
-        alloc: Global,
-        writer: &mut EventWriter,
-        w: SpecVersion,
-    ) -> Result<(), XmlWriteError> {
-        write_record(alloc, writer, w, "commit", self)
-    }
-
-    fn will_write(&self) -> bool {
+impl HasContent for Commit {
+    fn has_content(&self) -> bool {
         true
     }
 }
 
-impl Kinded for Commits {
-    ghost kind = { a_list commits };
+impl Tagged for Commit {
+    ghost own_name = { codes "commit" };
+
+    fn own_name() -> &'static str {
+        "commit"
+    }
 }
 
 impl Element for Commits {
@@ -175,25 +97,16 @@ impl Element for Commits {
     }
 }
 
-impl ToXml for Commits {
-    ghost shown = { commits_tree };
-
-    ghost kind = { a_list commits };
-
-    ghost tag = { tagged (codes "commits") };
-
-    ghost counts = { λ x. will_write (commits_tree x) };
-
-    fn write_xml_element(
-        &self,
-        alloc: Global,
-        writer: &mut EventWriter,
-        w: SpecVersion,
-    ) -> Result<(), XmlWriteError> {
-        self.write_as(alloc, writer, w, "commits")
-    }
-
-    fn will_write(&self) -> bool {
+impl HasContent for Commits {
+    fn has_content(&self) -> bool {
         true
+    }
+}
+
+impl Tagged for Commits {
+    ghost own_name = { codes "commits" };
+
+    fn own_name() -> &'static str {
+        "commits"
     }
 }

@@ -8,7 +8,7 @@ use Rattle.serde_json.specs.Find.{as_array}
 use Rattle.cdx_models.specs.declared.bom.SpecVersion.{SpecVersion}
 use Rattle.cdx_models.specs.declared.bom.SpecVersion.TheVariants.{V1_3, V1_4, V1_5}
 use Rattle.cdx_models.specs.Versions.{knows}
-use Rattle.cdx_models.specs.Trees.{classification, service_data, Tree, text, items, fields, Trees, more, trees, each, list_tree, present, absent, number, boolean}
+use Rattle.cdx_models.specs.Trees.{classification, service_data, Tree, text, items, fields, Trees, more, trees, each, list_tree, present, absent, number, boolean, fields_of}
 use Rattle.cdx_models.specs.Entries.{entry_of}
 use Rattle.cdx_schema.specs.Kinds.{Kind, a_list, a_record, a_data, an_entry, classifications, flows}
 use Rattle.cdx_schema.specs.Table.{rows, list}
@@ -23,7 +23,7 @@ use Rattle.cdx_models.specs.declared.errors.JsonKind.TheVariants.{WrongKind}
 use Rattle.cdx_json.specs.Gives.{Fails, Gives, IsFaultAt}
 use Rattle.cdx_json.specs.ByRows.{list_read, own_by_rows, by_rows, rows_made}
 use Rattle.cdx_json.proofs.Rows.{fails_then, fails_here}
-use Rattle.cdx_json.specs.KeptRows.{parts, rows_put, put_own}
+use Rattle.cdx_json.specs.KeptRows.{rows_put, put_own}
 use Rattle.cdx_json.proofs.KeptRowsLaws.{rows_put_are}
 use Rattle.cdx_data.specs.Entries.{over}
 use Rattle.cdx_data.specs.Records.{classification_tree, service_data_tree, service_classification, service_entry}
@@ -171,7 +171,7 @@ classification_kept V1_5 l ts = refl
 
 pub classifications_kept : (w l : SpecVersion) (xs : List DataClassification) → kept w l (list_tree classification_tree xs) (a_list classifications) ≡ kept w l (list_tree classification_tree xs) a_data
 unfolding kept list
-classifications_kept w l xs = ap items (kept_alike classification_tree classification_tree (a_record classification) an_entry w l xs (λ x. classification_kept w l (parts (classification_tree x))))
+classifications_kept w l xs = ap items (kept_alike classification_tree classification_tree (a_record classification) an_entry w l xs (λ x. classification_kept w l (fields_of (classification_tree x))))
 
 -- a flow as an entry of 1.5
 flow_kept : (l : SpecVersion) (x : ServiceData) → entry_of (kept V1_5 l (service_data_tree x) (a_record service_data)) ≡ kept V1_5 l (service_entry x) an_entry
@@ -238,7 +238,7 @@ classification_spelled V1_5 ts = refl
 
 pub classifications_spelled : (w : SpecVersion) (xs : List DataClassification) → jspell (keep w (list_tree classification_tree xs) (a_list classifications)) w (a_list classifications) ≡ jspell (keep w (list_tree classification_tree xs) a_data) w a_data
 unfolding kept jspell list
-classifications_spelled w xs = ap json.array (spelled_alike classification_tree classification_tree (a_record classification) an_entry w xs (λ x. classification_spelled w (parts (classification_tree x))))
+classifications_spelled w xs = ap json.array (spelled_alike classification_tree classification_tree (a_record classification) an_entry w xs (λ x. classification_spelled w (fields_of (classification_tree x))))
 
 flow_spelled : (x : ServiceData) → jspell (keep V1_5 (service_data_tree x) (a_record service_data)) V1_5 (a_record service_data) ≡ jspell (keep V1_5 (service_entry x) an_entry) V1_5 an_entry
 unfolding kept jspell rows

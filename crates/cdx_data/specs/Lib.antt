@@ -1,6 +1,5 @@
 pub mod Entries
 pub mod Records
 pub mod Parts
-pub mod Plain
 pub mod Stays
 pub mod Whole

@@ -1,68 +1,24 @@
 //! The data of services in JSON.
 
-ghost use Rattle.std.specs.Prelude.{refl};
-ghost use Rattle.cdx_models.specs.Trees.{classification, service_data};
-ghost use Rattle.cdx_schema.specs.Kinds.{a_record, a_data, an_entry};
+ghost use Rattle.cdx_schema.specs.Kinds.{an_entry};
 ghost use Rattle.serde_json.specs.View.{items_view};
 ghost use Rattle.cdx_json.specs.ByRows.{list_read};
 ghost use Rattle.cdx_json.specs.Depths.{depth_of};
 ghost use Rattle.cdx_json.specs.Gives.{Gives};
-ghost use Rattle.cdx_json.specs.Stays.{record_stays};
 ghost use Rattle.cdx_data.specs.Records.{data_tree};
 ghost use Rattle.cdx_data.specs.Stays.{data_stays};
 
 use crate::service::{Data, DataClassification, ServiceData, classifications};
 use cdx_json::{
-    Depth, FromJson, Kept, Kinded, Record, ToJson, here, keep_list, keep_record, keep_row,
-    list_from_items, list_to_value, optional_row, put_required, put_row, read_record, required_row,
-    write_record,
+    Depth, FromJson, JsonRecord, Kept, ToJson, here, keep_list, keep_row, list_from_items,
+    list_to_value, optional_row, put_required, put_row, required_row,
 };
 use cdx_models::{JsonKind, JsonReadError, SpecVersion};
 use serde_json::{Map, Value};
 use std::alloc::{AllocError, Global};
 
-impl Kinded for DataClassification {
-    ghost kind = { a_record classification };
-}
-
-impl FromJson for DataClassification {
-    fn from_json_at(
-        alloc: Global,
-        value: &Value,
-        version: SpecVersion,
-        depth: Depth,
-    ) -> Result<DataClassification, JsonReadError> {
-        read_record(alloc, value, version, depth)
-    }
-}
-
-impl Kept for DataClassification {
-    ghost stays = { λ w l x. record_stays w l classification _ };
-
-    fn kept_as(
-        &self,
-        alloc: Global,
-        version: SpecVersion,
-        label: SpecVersion,
-    ) -> Result<DataClassification, AllocError> {
-        keep_record(self, alloc, version, label)
-    }
-}
-
-impl ToJson for DataClassification {
-    fn to_value(&self, alloc: Global, version: SpecVersion) -> Result<Value, AllocError> {
-        write_record(self, alloc, version)
-    }
-}
-
-impl Record for DataClassification {
-    ghost name = { classification };
-
-    ghost is_plain = { λ x. (refl, refl) };
-
-    ghost flat = { λ d. (refl, refl) };
-
-    #[tactic(auto, unfolding(cdx_json::specs::ByRows::rows_made, cdx_schema::specs::Table::rows, cdx_schema::specs::Table::list))]
+impl JsonRecord for DataClassification {
+    #[tactic(auto, unfolding(cdx_json::proofs::OnRows::on_rows))]
     fn from_members(
         alloc: Global,
         map: &Map<String, Value>,
@@ -77,7 +33,7 @@ impl Record for DataClassification {
         })
     }
 
-    #[tactic(auto, unfolding(cdx_json::specs::KeptRows::rows_held, cdx_schema::specs::Table::rows, cdx_schema::specs::Table::list))]
+    #[tactic(auto, unfolding(cdx_json::proofs::OnRows::on_rows))]
     fn kept_rows(
         &self,
         alloc: Global,
@@ -90,7 +46,7 @@ impl Record for DataClassification {
         })
     }
 
-    #[tactic(auto, unfolding(cdx_json::specs::KeptRows::rows_put, cdx_schema::specs::Table::rows, cdx_schema::specs::Table::list))]
+    #[tactic(auto, unfolding(cdx_json::proofs::OnRows::on_rows))]
     fn put_members(
         &self,
         alloc: Global,
@@ -102,48 +58,8 @@ impl Record for DataClassification {
     }
 }
 
-impl Kinded for ServiceData {
-    ghost kind = { a_record service_data };
-}
-
-impl FromJson for ServiceData {
-    fn from_json_at(
-        alloc: Global,
-        value: &Value,
-        version: SpecVersion,
-        depth: Depth,
-    ) -> Result<ServiceData, JsonReadError> {
-        read_record(alloc, value, version, depth)
-    }
-}
-
-impl Kept for ServiceData {
-    ghost stays = { λ w l x. record_stays w l service_data _ };
-
-    fn kept_as(
-        &self,
-        alloc: Global,
-        version: SpecVersion,
-        label: SpecVersion,
-    ) -> Result<ServiceData, AllocError> {
-        keep_record(self, alloc, version, label)
-    }
-}
-
-impl ToJson for ServiceData {
-    fn to_value(&self, alloc: Global, version: SpecVersion) -> Result<Value, AllocError> {
-        write_record(self, alloc, version)
-    }
-}
-
-impl Record for ServiceData {
-    ghost name = { service_data };
-
-    ghost is_plain = { λ x. (refl, refl) };
-
-    ghost flat = { λ d. (refl, refl) };
-
-    #[tactic(auto, unfolding(cdx_json::specs::ByRows::rows_made, cdx_schema::specs::Table::rows, cdx_schema::specs::Table::list))]
+impl JsonRecord for ServiceData {
+    #[tactic(auto, unfolding(cdx_json::proofs::OnRows::on_rows))]
     fn from_members(
         alloc: Global,
         map: &Map<String, Value>,
@@ -160,7 +76,7 @@ impl Record for ServiceData {
         })
     }
 
-    #[tactic(auto, unfolding(cdx_json::specs::KeptRows::rows_held, cdx_schema::specs::Table::rows, cdx_schema::specs::Table::list))]
+    #[tactic(auto, unfolding(cdx_json::proofs::OnRows::on_rows))]
     fn kept_rows(
         &self,
         alloc: Global,
@@ -174,7 +90,7 @@ impl Record for ServiceData {
         })
     }
 
-    #[tactic(auto, unfolding(cdx_json::specs::KeptRows::rows_put, cdx_schema::specs::Table::rows, cdx_schema::specs::Table::list))]
+    #[tactic(auto, unfolding(cdx_json::proofs::OnRows::on_rows))]
     fn put_members(
         &self,
         alloc: Global,
@@ -185,10 +101,6 @@ impl Record for ServiceData {
         put_row(alloc, map, "description", &self.description, version)?;
         self.classification.put_members(alloc, map, version)
     }
-}
-
-impl Kinded for Data {
-    ghost kind = { a_data };
 }
 
 impl FromJson for Data {
@@ -212,7 +124,8 @@ fn entries_from_items(
     version: SpecVersion,
     depth: Depth,
 ) -> Result<Data, JsonReadError>
-    ensures { Gives data_tree result (list_read (items_view items.now.items) version an_entry (depth_of depth)) }
+    ensures { Gives data_tree result
+        (list_read (items_view items.now.items) version an_entry (depth_of depth)) }
 {
     if SpecVersion::V1_5.is_known_to(version) {
         Ok(Data::ServiceData(list_from_items(alloc, items, version, depth)?))

@@ -4,27 +4,25 @@ use crate::parts::{DataPart, ServiceDataPart};
 use crate::service::{Data, DataClassification, ServiceData};
 use cdx_events::{EventReader, List, OwnedAttribute, OwnedName, Text};
 use cdx_leaf::{
-    Children, FromXml, Record, Rule, Taken, TextRecord, attribute_or_error, attribute_or_none,
-    child_or_error, read_record, read_text_record, read_whole, take_into, take_one,
+    Children, FromXml, Rule, Taken, TextRecord, XmlRecord, attribute_or_error, attribute_or_none,
+    child_or_error, read_record, read_text_record, take_into, take_one,
 };
 use cdx_models::{SpecVersion, XmlReadError};
 use std::alloc::Global;
 
 impl TextRecord for DataClassification {
     ghost use Rattle.cdx_models.specs.Trees.{classification};
-    ghost use Rattle.cdx_data.specs.Plain.{classification_content};
+    ghost use Rattle.cdx_leaf.specs.RowContents.{content_is};
     ghost use Rattle.cdx_data.specs.Whole.{classification_whole};
     ghost use Rattle.cdx_leaf.specs.Parts.{text_alone};
 
     type Start = Text;
 
-    ghost name = { classification };
-
     ghost start = { text_alone };
 
     ghost at = { 1 };
 
-    ghost content = { classification_content };
+    ghost content = { content_is classification };
 
     ghost whole = { classification_whole };
 
@@ -47,12 +45,11 @@ impl TextRecord for DataClassification {
 }
 
 impl FromXml for DataClassification {
-    ghost use Rattle.cdx_models.specs.Trees.{classification};
-    ghost use Rattle.cdx_schema.specs.Kinds.{a_record};
-
-    ghost kind = { a_record classification };
+    ghost use Rattle.std.specs.Prelude.{refl};
 
     ghost depth = { λ d. d };
+
+    ghost at_top = { refl };
 
     fn read_xml_element(
         alloc: Global,
@@ -102,18 +99,14 @@ impl Children for ServiceDataPart {
     }
 }
 
-impl Record for ServiceData {
+impl XmlRecord for ServiceData {
     ghost use Rattle.std.specs.Prelude.{refl};
     ghost use Rattle.cdx_models.specs.Trees.{service_data};
-    ghost use Rattle.cdx_data.specs.Plain.{service_data_plain};
+    ghost use Rattle.cdx_leaf.specs.RowContents.{content_is};
 
     type Part = ServiceDataPart;
 
-    ghost name = { service_data };
-
-    ghost plain = { service_data_plain };
-
-    ghost is_record = { λ x. refl };
+    ghost no_content = { content_is service_data };
 
     ghost by_rows = { λ part. refl };
 
@@ -152,25 +145,6 @@ impl Record for ServiceData {
             description: part.description,
             classification,
         })
-    }
-}
-
-impl FromXml for ServiceData {
-    ghost use Rattle.cdx_models.specs.Trees.{service_data};
-    ghost use Rattle.cdx_schema.specs.Kinds.{a_record};
-
-    ghost kind = { a_record service_data };
-
-    ghost depth = { λ d. d };
-
-    fn read_xml_element(
-        alloc: Global,
-        reader: &mut EventReader<'_>,
-        v: SpecVersion,
-        element: &OwnedName,
-        attributes: &List<OwnedAttribute>,
-    ) -> Result<ServiceData, XmlReadError> {
-        read_whole(alloc, reader, v, element, attributes)
     }
 }
 
@@ -219,11 +193,11 @@ impl Children for DataPart {
 /// The flows where there is one, which only 1.5 knows; classifications that stand beside them are read and dropped. Else
 /// the classifications. Unknown elements are skipped, and texts are passed over.
 impl FromXml for Data {
-    ghost use Rattle.cdx_schema.specs.Kinds.{a_data};
-
-    ghost kind = { a_data };
+    ghost use Rattle.std.specs.Prelude.{refl};
 
     ghost depth = { λ d. d };
+
+    ghost at_top = { refl };
 
     fn read_xml_element(
         alloc: Global,

@@ -1,7 +1,8 @@
 //! The data that a service takes or gives.
 
+ghost use Rattle.cdx_models.specs.Trees.{classification, service_data, list_tree};
+ghost use Rattle.cdx_schema.specs.Kinds.{a_data};
 ghost use Rattle.std.specs.Prelude.{◌≡◌, refl, IfOk, is_some, ◌||◌};
-ghost use Rattle.cdx_models.specs.Trees.{list_tree};
 ghost use Rattle.cdx_models.specs.Entries.{entry_of};
 ghost use Rattle.cdx_models.specs.Same.{same};
 ghost use Rattle.cdx_models.specs.SameLaws.{same_laws};
@@ -9,6 +10,7 @@ ghost use Rattle.cdx_data.specs.Records.{classification_tree, service_data_tree,
 
 use cdx_events::{List, Text};
 use cdx_models::{HasTree, copy_row, same_row};
+use cdx_schema::{Kinded, Record};
 use std::alloc::{AllocError, Global};
 
 /// How sensitive data is.
@@ -37,7 +39,8 @@ impl DataClassification {
         flow: &str,
         classification: &str,
     ) -> Result<DataClassification, AllocError>
-        ensures { IfOk result (λ r. r ≡ record { flow = flow.now; classification = classification.now }) }
+        ensures { IfOk result
+            (λ r. r ≡ record { flow = flow.now; classification = classification.now }) }
     {
         Ok(DataClassification {
             flow: Text::new(alloc, flow)?,
@@ -63,6 +66,14 @@ impl HasTree for DataClassification {
     }
 }
 
+impl Record for DataClassification {
+    ghost name = { classification };
+
+    ghost is_record = { λ x. refl };
+
+    ghost plain = { refl };
+}
+
 impl PartialEq for DataClassification {
     ghost eq = { λ a b. same (classification_tree a) (classification_tree b) };
 
@@ -76,8 +87,11 @@ impl PartialEq for DataClassification {
 /// Data with a name and a description. Known from 1.5 on.
 #[derive(Debug)]
 pub struct ServiceData {
+    /// The name of the data.
     pub name: Option<Text>,
+    /// What the data are.
     pub description: Option<Text>,
+    /// How they flow, and how they are classified.
     pub classification: DataClassification,
 }
 
@@ -110,6 +124,14 @@ impl HasTree for ServiceData {
             && same_row(&self.description, &other.description)
             && self.classification.same(&other.classification)
     }
+}
+
+impl Record for ServiceData {
+    ghost name = { service_data };
+
+    ghost is_record = { λ x. refl };
+
+    ghost plain = { refl };
 }
 
 impl PartialEq for ServiceData {
@@ -152,6 +174,10 @@ impl HasTree for Data {
             (Data::ServiceData(one), Data::ServiceData(other)) => same_entries(one, other),
         }
     }
+}
+
+impl Kinded for Data {
+    ghost kind = { a_data };
 }
 
 impl PartialEq for Data {
@@ -198,7 +224,9 @@ impl Entry for ServiceData {
 
 /// Whether the entries are equal one by one. It takes no memory.
 fn same_entries<T: Entry + Drop>(one: &List<T>, other: &List<ServiceData>) -> bool
-    ensures { result ≡ same (list_tree (λ x. entry_of (T.tree x)) one.now) (list_tree service_entry other.now) }
+    ensures { result
+        ≡ same (list_tree (λ x. entry_of (T.tree x)) one.now)
+        (list_tree service_entry other.now) }
 {
     let one = one.as_slice();
     let other = other.as_slice();
@@ -218,7 +246,8 @@ pub(crate) fn classifications(
     alloc: Global,
     held: &List<ServiceData>,
 ) -> Result<List<DataClassification>, AllocError>
-    ensures { IfOk result (λ r. list_tree classification_tree r ≡ list_tree service_classification held.now) }
+    ensures { IfOk result
+        (λ r. list_tree classification_tree r ≡ list_tree service_classification held.now) }
 {
     let mut copies = List::with_capacity(alloc, held.len())?;
     for item in held.as_slice() {

@@ -3,29 +3,23 @@
 ghost use Rattle.std.specs.Prelude.{◌≡◌, refl, codes, ◌&&◌, ◌||◌, is_some};
 ghost use Rattle.std.specs.List.{list_any};
 ghost use Rattle.cdx_models.specs.declared.bom.SpecVersion.TheVariants.{V1_5};
-ghost use Rattle.cdx_models.specs.Trees.{classification, service_data};
 ghost use Rattle.cdx_models.specs.Versions.{knows};
-ghost use Rattle.cdx_schema.specs.Kinds.{a_record, a_data};
-ghost use Rattle.cdx_write.specs.Spelling.{tagged, untagged, inner};
-ghost use Rattle.cdx_write.specs.WillWrite.{will_write};
+ghost use Rattle.cdx_schema.specs.Kinds.{a_data};
+ghost use Rattle.cdx_write.specs.Spelling.{untagged, inner};
 ghost use Rattle.cdx_write.specs.Writing.{Appends};
-ghost use Rattle.cdx_data.specs.Records.{classification_tree, service_data_tree, data_tree};
+ghost use Rattle.cdx_data.specs.Records.{data_tree};
 
 use crate::service::{Data, DataClassification, ServiceData, classifications};
 use cdx_events::{EventWriter, List, OwnedAttribute};
 use cdx_models::{SpecVersion, XmlWriteError};
 use cdx_write::{
-    Element, Item, Kinded, Record, ToXml, put_attribute, put_content, put_required_attribute,
-    put_required_child, write_close_tag, write_items, write_record, write_start_tag,
+    Element, HasContent, Item, Tagged, ToXml, WrittenRecord, put_attribute, put_content,
+    put_required_attribute, put_required_child, write_close_tag, write_items, write_start_tag,
 };
 use std::alloc::{AllocError, Global};
 
-impl Record for DataClassification {
-    ghost name = { classification };
-
-    ghost is_plain = { λ x. (refl, λ xs. refl) };
-
-    #[tactic(auto, unfolding(cdx_write::specs::WrittenRows::attributes_put, cdx_schema::specs::Table::rows))]
+impl WrittenRecord for DataClassification {
+    #[tactic(auto, unfolding(cdx_write::proofs::OnRows::on_rows))]
     fn attributes(
         &self,
         alloc: Global,
@@ -36,6 +30,7 @@ impl Record for DataClassification {
         Ok(attributes)
     }
 
+    #[tactic(auto, unfolding(cdx_write::proofs::OnRows::on_rows), using(cdx_write::proofs::OnRows::in_turn))]
     fn write_rows(
         &self,
         alloc: Global,
@@ -46,59 +41,28 @@ impl Record for DataClassification {
     }
 }
 
-impl Kinded for DataClassification {
-    ghost kind = { a_record classification };
-}
-
-impl Element for DataClassification {
-    ghost keeps = { refl };
-
-    fn write_as(
-        &self,
-        alloc: Global,
-        writer: &mut EventWriter,
-        w: SpecVersion,
-        tag: &str,
-    ) -> Result<(), XmlWriteError> {
-        write_record(alloc, writer, w, tag, self)
-    }
-}
-
 impl Item for DataClassification {
     fn is_passed_over(&self) -> bool {
         false
     }
 }
 
-impl ToXml for DataClassification {
-    ghost shown = { classification_tree };
-
-    ghost kind = { a_record classification };
-
-    ghost tag = { tagged (codes "classification") };
-
-    ghost counts = { λ x. will_write (classification_tree x) };
-
-    fn write_xml_element(
-        &self,
-        alloc: Global,
-        writer: &mut EventWriter,
-        w: SpecVersion,
-    ) -> Result<(), XmlWriteError> {
-        write_record(alloc, writer, w, "classification", self)
-    }
-
-    fn will_write(&self) -> bool {
+impl HasContent for DataClassification {
+    fn has_content(&self) -> bool {
         true
     }
 }
 
-impl Record for ServiceData {
-    ghost name = { service_data };
+impl Tagged for DataClassification {
+    ghost own_name = { codes "classification" };
 
-    ghost is_plain = { λ x. (refl, λ xs. refl) };
+    fn own_name() -> &'static str {
+        "classification"
+    }
+}
 
-    #[tactic(auto, unfolding(cdx_write::specs::WrittenRows::attributes_put, cdx_schema::specs::Table::rows))]
+impl WrittenRecord for ServiceData {
+    #[tactic(auto, unfolding(cdx_write::proofs::OnRows::on_rows))]
     fn attributes(
         &self,
         alloc: Global,
@@ -110,6 +74,7 @@ impl Record for ServiceData {
         Ok(attributes)
     }
 
+    #[tactic(auto, unfolding(cdx_write::proofs::OnRows::on_rows), using(cdx_write::proofs::OnRows::in_turn))]
     fn write_rows(
         &self,
         alloc: Global,
@@ -120,50 +85,23 @@ impl Record for ServiceData {
     }
 }
 
-impl Kinded for ServiceData {
-    ghost kind = { a_record service_data };
-}
-
-impl Element for ServiceData {
-    ghost keeps = { refl };
-
-    fn write_as(
-        &self,
-        alloc: Global,
-        writer: &mut EventWriter,
-        w: SpecVersion,
-        tag: &str,
-    ) -> Result<(), XmlWriteError> {
-        write_record(alloc, writer, w, tag, self)
-    }
-}
-
 impl Item for ServiceData {
     fn is_passed_over(&self) -> bool {
         false
     }
 }
 
-impl ToXml for ServiceData {
-    ghost shown = { service_data_tree };
-
-    ghost kind = { a_record service_data };
-
-    ghost tag = { tagged (codes "dataflow") };
-
-    ghost counts = { λ x. will_write (service_data_tree x) };
-
-    fn write_xml_element(
-        &self,
-        alloc: Global,
-        writer: &mut EventWriter,
-        w: SpecVersion,
-    ) -> Result<(), XmlWriteError> {
-        write_record(alloc, writer, w, "dataflow", self)
-    }
-
-    fn will_write(&self) -> bool {
+impl HasContent for ServiceData {
+    fn has_content(&self) -> bool {
         true
+    }
+}
+
+impl Tagged for ServiceData {
+    ghost own_name = { codes "dataflow" };
+
+    fn own_name() -> &'static str {
+        "dataflow"
     }
 }
 
@@ -176,7 +114,8 @@ fn any_flow(held: &List<ServiceData>) -> bool
 
 /// Whether the version writes them as flows: it knows flows, and there is one. It takes no memory.
 fn has_flow(held: &List<ServiceData>, w: SpecVersion) -> bool
-    ensures { result ≡ (knows V1_5 w && list_any (λ x. is_some x.name || is_some x.description) held.now) }
+    ensures { result
+        ≡ (knows V1_5 w && list_any (λ x. is_some x.name || is_some x.description) held.now) }
 {
     SpecVersion::V1_5.is_known_to(w) && any_flow(held)
 }
@@ -202,10 +141,6 @@ fn write_entries(
     }
 }
 
-impl Kinded for Data {
-    ghost kind = { a_data };
-}
-
 impl Element for Data {
     ghost keeps = { refl };
 
@@ -222,14 +157,14 @@ impl Element for Data {
     }
 }
 
+impl HasContent for Data {
+    fn has_content(&self) -> bool {
+        true
+    }
+}
+
 impl ToXml for Data {
-    ghost shown = { data_tree };
-
-    ghost kind = { a_data };
-
     ghost tag = { untagged };
-
-    ghost counts = { λ x. will_write (data_tree x) };
 
     /// Its entries without a tag, which the service around them writes. With at least one flow each entry is a `dataflow`,
     /// else each is a `classification`.
@@ -243,6 +178,6 @@ impl ToXml for Data {
     }
 
     fn will_write(&self) -> bool {
-        true
+        self.has_content()
     }
 }

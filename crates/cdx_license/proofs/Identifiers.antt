@@ -6,14 +6,13 @@ use Rattle.cdx_events.specs.declared.name.OwnedAttribute.{OwnedAttribute}
 use Rattle.cdx_events.specs.declared.name.Namespace.{Namespace}
 use Rattle.cdx_events.specs.Nodes.{Nodes, element}
 use Rattle.cdx_models.specs.declared.bom.SpecVersion.{SpecVersion}
-use Rattle.cdx_models.specs.Trees.{spdx_id, license_name, license, expression, is_absent}
+use Rattle.cdx_models.specs.Trees.{spdx_id, license_name, license, expression, is_absent, present}
 use Rattle.cdx_schema.specs.Faults.{lacking}
 use Rattle.cdx_schema.specs.Depth.{Depth}
 use Rattle.cdx_schema.specs.Kinds.{a_record, a_license_identifier, a_license_choice}
 use Rattle.cdx_schema.specs.XmlReading.{xread}
 use Rattle.cdx_license.specs.declared.license.LicenseIdentifier.{LicenseIdentifier}
 use Rattle.cdx_license.specs.declared.license.LicenseIdentifier.TheVariants.{SpdxId, Name}
-use Rattle.cdx_models.specs.Trees.{present}
 use Rattle.cdx_license.specs.Records.{identifier_tree}
 
 pub identifier_second : (o : Option LicenseIdentifier) (b : Bool) → b ≡ is_some o → not (is_absent (present identifier_tree o)) ≡ b

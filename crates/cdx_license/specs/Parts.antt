@@ -1,6 +1,6 @@
 -- The fields of licenses while they are read.
-use Rattle.std.specs.Prelude.{[], ◌∷◌}
-use Rattle.cdx_models.specs.Trees.{text, trees, Trees, one, present}
+use Rattle.std.specs.Prelude.{ℕ, List, [], ◌∷◌, Option}
+use Rattle.cdx_models.specs.Trees.{text, absent, trees, Trees, one, present}
 use Rattle.cdx_license.specs.Records.{identifier_tree, choice_tree}
 use Rattle.cdx_models.specs.Records.{attached_text_tree, properties_tree}
 use Rattle.cdx_license.specs.declared.parts.LicensePart.{LicensePart}
@@ -12,3 +12,7 @@ license_part x = trees (present text x.bom_ref ∷ present identifier_tree x.lic
 
 abbrev pub choices_part : ChoicesPart → Trees
 choices_part x = one (collected choice_tree x.items)
+
+-- What the attribute of an expression begins, whose content is a text.
+abbrev pub reference_alone : Option (List ℕ) → Trees
+reference_alone o = trees (present text o ∷ absent ∷ [])

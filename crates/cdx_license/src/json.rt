@@ -1,9 +1,9 @@
 //! Licenses in JSON.
 
-ghost use Rattle.std.specs.Prelude.{◌≡◌, refl, OnOk};
+ghost use Rattle.std.specs.Prelude.{◌≡◌, OnOk};
 ghost use Rattle.cdx_models.specs.Trees.{expression, license};
-ghost use Rattle.cdx_schema.specs.Kinds.{licenses, a_record, a_list, a_license_identifier, a_license_choice};
-ghost use Rattle.cdx_json.specs.Stays.{list_stays, record_stays};
+ghost use Rattle.cdx_schema.specs.Kinds.{licenses, a_license_identifier};
+ghost use Rattle.cdx_json.specs.Stays.{list_stays};
 ghost use Rattle.cdx_license.specs.Stays.{choice_stays, identifier_stays};
 ghost use Rattle.serde_json.specs.View.{members_view};
 ghost use Rattle.cdx_license.specs.Records.{identifier_tree, choice_tree};
@@ -15,57 +15,16 @@ ghost use Rattle.cdx_json.specs.KeptRows.{put_own};
 
 use crate::license::{Expression, License, LicenseChoice, LicenseIdentifier, Licenses};
 use cdx_json::{
-    Depth, FromJson, Kept, Kinded, Record, ToJson, has_member, here, keep_list, keep_record,
-    keep_row, keep_row_since, list_from_value, list_to_value, missing, optional_row,
-    optional_row_since, put_required, put_row, put_row_since, read_record, required_row,
-    write_record,
+    Depth, FromJson, JsonRecord, Kept, ToJson, has_member, here, keep_list, keep_row,
+    keep_row_since, list_from_value, list_to_value, missing, optional_row, optional_row_since,
+    put_required, put_row, put_row_since, required_row,
 };
 use cdx_models::{JsonKind, JsonReadError, SpecVersion};
 use serde_json::{Map, Value};
 use std::alloc::{AllocError, Global};
 
-impl Kinded for Expression {
-    ghost kind = { a_record expression };
-}
-
-impl FromJson for Expression {
-    fn from_json_at(
-        alloc: Global,
-        value: &Value,
-        version: SpecVersion,
-        depth: Depth,
-    ) -> Result<Expression, JsonReadError> {
-        read_record(alloc, value, version, depth)
-    }
-}
-
-impl Kept for Expression {
-    ghost stays = { λ w l x. record_stays w l expression _ };
-
-    fn kept_as(
-        &self,
-        alloc: Global,
-        version: SpecVersion,
-        label: SpecVersion,
-    ) -> Result<Expression, AllocError> {
-        keep_record(self, alloc, version, label)
-    }
-}
-
-impl ToJson for Expression {
-    fn to_value(&self, alloc: Global, version: SpecVersion) -> Result<Value, AllocError> {
-        write_record(self, alloc, version)
-    }
-}
-
-impl Record for Expression {
-    ghost name = { expression };
-
-    ghost is_plain = { λ x. (refl, refl) };
-
-    ghost flat = { λ d. (refl, refl) };
-
-    #[tactic(auto, unfolding(cdx_json::specs::ByRows::rows_made, cdx_schema::specs::Table::rows, cdx_schema::specs::Table::list))]
+impl JsonRecord for Expression {
+    #[tactic(auto, unfolding(cdx_json::proofs::OnRows::on_rows))]
     fn from_members(
         alloc: Global,
         map: &Map<String, Value>,
@@ -80,7 +39,7 @@ impl Record for Expression {
         })
     }
 
-    #[tactic(auto, unfolding(cdx_json::specs::KeptRows::rows_held, cdx_schema::specs::Table::rows, cdx_schema::specs::Table::list))]
+    #[tactic(auto, unfolding(cdx_json::proofs::OnRows::on_rows))]
     fn kept_rows(
         &self,
         alloc: Global,
@@ -93,7 +52,7 @@ impl Record for Expression {
         })
     }
 
-    #[tactic(auto, unfolding(cdx_json::specs::KeptRows::rows_put, cdx_schema::specs::Table::rows, cdx_schema::specs::Table::list))]
+    #[tactic(auto, unfolding(cdx_json::proofs::OnRows::on_rows))]
     fn put_members(
         &self,
         alloc: Global,
@@ -105,48 +64,8 @@ impl Record for Expression {
     }
 }
 
-impl Kinded for License {
-    ghost kind = { a_record license };
-}
-
-impl FromJson for License {
-    fn from_json_at(
-        alloc: Global,
-        value: &Value,
-        version: SpecVersion,
-        depth: Depth,
-    ) -> Result<License, JsonReadError> {
-        read_record(alloc, value, version, depth)
-    }
-}
-
-impl Kept for License {
-    ghost stays = { λ w l x. record_stays w l license _ };
-
-    fn kept_as(
-        &self,
-        alloc: Global,
-        version: SpecVersion,
-        label: SpecVersion,
-    ) -> Result<License, AllocError> {
-        keep_record(self, alloc, version, label)
-    }
-}
-
-impl ToJson for License {
-    fn to_value(&self, alloc: Global, version: SpecVersion) -> Result<Value, AllocError> {
-        write_record(self, alloc, version)
-    }
-}
-
-impl Record for License {
-    ghost name = { license };
-
-    ghost is_plain = { λ x. (refl, refl) };
-
-    ghost flat = { λ d. (refl, refl) };
-
-    #[tactic(auto, unfolding(cdx_json::specs::ByRows::rows_made, cdx_schema::specs::Table::rows, cdx_schema::specs::Table::list))]
+impl JsonRecord for License {
+    #[tactic(auto, unfolding(cdx_json::proofs::OnRows::on_rows))]
     fn from_members(
         alloc: Global,
         map: &Map<String, Value>,
@@ -174,7 +93,7 @@ impl Record for License {
         })
     }
 
-    #[tactic(auto, unfolding(cdx_json::specs::KeptRows::rows_held, cdx_schema::specs::Table::rows, cdx_schema::specs::Table::list))]
+    #[tactic(auto, unfolding(cdx_json::proofs::OnRows::on_rows))]
     fn kept_rows(
         &self,
         alloc: Global,
@@ -190,7 +109,7 @@ impl Record for License {
         })
     }
 
-    #[tactic(auto, unfolding(cdx_json::specs::KeptRows::rows_put, cdx_schema::specs::Table::rows, cdx_schema::specs::Table::list))]
+    #[tactic(auto, unfolding(cdx_json::proofs::OnRows::on_rows))]
     fn put_members(
         &self,
         alloc: Global,
@@ -218,10 +137,6 @@ impl Record for License {
         )?;
         Ok(())
     }
-}
-
-impl Kinded for Licenses {
-    ghost kind = { a_list licenses };
 }
 
 impl FromJson for Licenses {
@@ -255,10 +170,6 @@ impl ToJson for Licenses {
     fn to_value(&self, alloc: Global, version: SpecVersion) -> Result<Value, AllocError> {
         list_to_value(alloc, &self.0, version)
     }
-}
-
-impl Kinded for LicenseIdentifier {
-    ghost kind = { a_license_identifier };
 }
 
 impl FromJson for LicenseIdentifier {
@@ -331,17 +242,13 @@ fn put_identifier(
     held: &LicenseIdentifier,
     version: SpecVersion,
 ) -> Result<(), AllocError>
-    ensures { OnOk result (members_view map.new.entries
-        ≡ put_own a_license_identifier (identifier_tree held.now) version (members_view map.old.entries)) }
+    ensures { OnOk result (members_view map.new.entries ≡ put_own a_license_identifier
+        (identifier_tree held.now) version (members_view map.old.entries)) }
 {
     match held {
         LicenseIdentifier::SpdxId(id) => put_required(alloc, map, "id", id, version),
         LicenseIdentifier::Name(name) => put_required(alloc, map, "name", name, version),
     }
-}
-
-impl Kinded for LicenseChoice {
-    ghost kind = { a_license_choice };
 }
 
 impl FromJson for LicenseChoice {
@@ -365,7 +272,8 @@ fn choice_from_members(
     version: SpecVersion,
     depth: Depth,
 ) -> Result<LicenseChoice, JsonReadError>
-    ensures { Gives choice_tree result (choice_of (members_view map.now.entries) version (depth_of depth)) }
+    ensures { Gives choice_tree result
+        (choice_of (members_view map.now.entries) version (depth_of depth)) }
 {
     if is_lone_license(map) {
         Ok(LicenseChoice::License(required_row(alloc, map, "license", version, depth)?))

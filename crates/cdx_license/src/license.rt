@@ -1,5 +1,7 @@
 //! Licenses.
 
+ghost use Rattle.cdx_models.specs.Trees.{expression, license};
+ghost use Rattle.cdx_schema.specs.Kinds.{a_license_choice, a_license_identifier, a_list, licenses};
 ghost use Rattle.std.specs.Prelude.{◌≡◌, refl, IfOk, None};
 ghost use Rattle.cdx_license.specs.Records.{identifier_tree, identifier_there, license_tree, expression_tree, choice_tree, choice_there, licenses_tree};
 ghost use Rattle.cdx_models.specs.Same.{same};
@@ -7,6 +9,7 @@ ghost use Rattle.cdx_models.specs.SameLaws.{same_laws};
 
 use cdx_events::{List, Text};
 use cdx_models::{AttachedText, HasTree, Properties, copy_row, same_row};
+use cdx_schema::{Kinded, Record};
 use std::alloc::{AllocError, Global};
 
 /// How a license is named.
@@ -40,6 +43,10 @@ impl HasTree for LicenseIdentifier {
     }
 }
 
+impl Kinded for LicenseIdentifier {
+    ghost kind = { a_license_identifier };
+}
+
 impl PartialEq for LicenseIdentifier {
     ghost eq = { λ a b. same (identifier_tree a) (identifier_tree b) };
 
@@ -55,6 +62,7 @@ impl PartialEq for LicenseIdentifier {
 pub struct License {
     /// The name by which the rest of the bill refers to it. Known from 1.5 on.
     pub bom_ref: Option<Text>,
+    /// Its SPDX id, or its name.
     pub license_identifier: LicenseIdentifier,
     /// The license's own text.
     pub text: Option<AttachedText>,
@@ -99,6 +107,14 @@ impl HasTree for License {
             && same_row(&self.url, &other.url)
             && same_row(&self.properties, &other.properties)
     }
+}
+
+impl Record for License {
+    ghost name = { license };
+
+    ghost is_record = { λ x. refl };
+
+    ghost plain = { refl };
 }
 
 impl PartialEq for License {
@@ -149,6 +165,14 @@ impl HasTree for Expression {
     }
 }
 
+impl Record for Expression {
+    ghost name = { expression };
+
+    ghost is_record = { λ x. refl };
+
+    ghost plain = { refl };
+}
+
 impl PartialEq for Expression {
     ghost eq = { λ a b. same (expression_tree a) (expression_tree b) };
 
@@ -162,7 +186,9 @@ impl PartialEq for Expression {
 /// A license or an expression.
 #[derive(Debug, Drop)]
 pub enum LicenseChoice {
+    /// One license.
     License(License),
+    /// An SPDX expression over licenses.
     Expression(Expression),
 }
 
@@ -188,6 +214,10 @@ impl HasTree for LicenseChoice {
     }
 }
 
+impl Kinded for LicenseChoice {
+    ghost kind = { a_license_choice };
+}
+
 impl PartialEq for LicenseChoice {
     ghost eq = { λ a b. same (choice_tree a) (choice_tree b) };
 
@@ -198,6 +228,7 @@ impl PartialEq for LicenseChoice {
     }
 }
 
+/// Licenses and expressions, in order.
 #[derive(Debug, Drop)]
 pub struct Licenses(pub List<LicenseChoice>);
 
@@ -213,6 +244,10 @@ impl HasTree for Licenses {
     fn same(&self, other: &Licenses) -> bool {
         self.0.same(&other.0)
     }
+}
+
+impl Kinded for Licenses {
+    ghost kind = { a_list licenses };
 }
 
 impl PartialEq for Licenses {

@@ -4,20 +4,20 @@ use crate::license::{Expression, License, LicenseChoice, LicenseIdentifier, Lice
 use crate::parts::{ChoicesPart, LicensePart};
 use cdx_events::{EventReader, List, OwnedAttribute, OwnedName, Text};
 use cdx_leaf::{
-    Children, FromXml, Record, Rule, Taken, TextRecord, attribute_or_none, attribute_since,
-    child_or_error, read_exact_content, read_record, read_text_record, read_whole, refuse_missing,
-    take_into, take_one,
+    Children, FromXml, Rule, Taken, TextRecord, XmlRecord, attribute_or_none, attribute_since,
+    child_or_error, read_exact_content, read_record, read_text_record, refuse_missing, take_into,
+    take_one,
 };
 use cdx_models::{SpecVersion, XmlReadError};
 use std::alloc::Global;
 
 /// An `id` or a `name`. An element of another name lacks `id or name`, at its start.
 impl FromXml for LicenseIdentifier {
-    ghost use Rattle.cdx_schema.specs.Kinds.{a_license_identifier};
-
-    ghost kind = { a_license_identifier };
+    ghost use Rattle.std.specs.Prelude.{refl};
 
     ghost depth = { λ d. d };
+
+    ghost at_top = { refl };
 
     fn read_xml_element(
         alloc: Global,
@@ -101,18 +101,14 @@ impl Children for LicensePart {
     }
 }
 
-impl Record for License {
+impl XmlRecord for License {
     ghost use Rattle.std.specs.Prelude.{refl};
     ghost use Rattle.cdx_models.specs.Trees.{license};
-    ghost use Rattle.cdx_leaf.specs.Plain.{license_plain};
+    ghost use Rattle.cdx_leaf.specs.RowContents.{content_is};
 
     type Part = LicensePart;
 
-    ghost name = { license };
-
-    ghost plain = { license_plain };
-
-    ghost is_record = { λ x. refl };
+    ghost no_content = { content_is license };
 
     ghost by_rows = { λ part. refl };
 
@@ -158,41 +154,20 @@ impl Record for License {
     }
 }
 
-impl FromXml for License {
-    ghost use Rattle.cdx_models.specs.Trees.{license};
-    ghost use Rattle.cdx_schema.specs.Kinds.{a_record};
-
-    ghost kind = { a_record license };
-
-    ghost depth = { λ d. d };
-
-    fn read_xml_element(
-        alloc: Global,
-        reader: &mut EventReader<'_>,
-        v: SpecVersion,
-        element: &OwnedName,
-        attributes: &List<OwnedAttribute>,
-    ) -> Result<License, XmlReadError> {
-        read_whole(alloc, reader, v, element, attributes)
-    }
-}
-
 impl TextRecord for Expression {
     ghost use Rattle.std.specs.Prelude.{refl};
     ghost use Rattle.cdx_models.specs.Trees.{expression};
-    ghost use Rattle.cdx_leaf.specs.Plain.{expression_content};
-    ghost use Rattle.cdx_leaf.specs.Whole.{expression_whole};
-    ghost use Rattle.cdx_leaf.specs.Parts.{reference_alone};
+    ghost use Rattle.cdx_leaf.specs.RowContents.{content_is};
+    ghost use Rattle.cdx_license.specs.Whole.{expression_whole};
+    ghost use Rattle.cdx_license.specs.Parts.{reference_alone};
 
     type Start = Option<Text>;
-
-    ghost name = { expression };
 
     ghost start = { reference_alone };
 
     ghost at = { 1 };
 
-    ghost content = { expression_content };
+    ghost content = { content_is expression };
 
     ghost whole = { expression_whole };
 
@@ -215,12 +190,12 @@ impl TextRecord for Expression {
 }
 
 impl FromXml for Expression {
+    ghost use Rattle.std.specs.Prelude.{refl};
     ghost use Rattle.cdx_models.specs.Trees.{expression};
-    ghost use Rattle.cdx_schema.specs.Kinds.{a_record};
-
-    ghost kind = { a_record expression };
 
     ghost depth = { λ d. d };
+
+    ghost at_top = { refl };
 
     fn read_xml_element(
         alloc: Global,
@@ -235,11 +210,11 @@ impl FromXml for Expression {
 
 /// A `license` or an `expression`. An element of another name lacks `license or expression`, at its start.
 impl FromXml for LicenseChoice {
-    ghost use Rattle.cdx_schema.specs.Kinds.{a_license_choice};
-
-    ghost kind = { a_license_choice };
+    ghost use Rattle.std.specs.Prelude.{refl};
 
     ghost depth = { λ d. d };
+
+    ghost at_top = { refl };
 
     fn read_xml_element(
         alloc: Global,
@@ -292,11 +267,11 @@ impl Children for ChoicesPart {
 }
 
 impl FromXml for Licenses {
-    ghost use Rattle.cdx_schema.specs.Kinds.{a_list, licenses};
-
-    ghost kind = { a_list licenses };
+    ghost use Rattle.std.specs.Prelude.{refl};
 
     ghost depth = { λ d. d };
+
+    ghost at_top = { refl };
 
     fn read_xml_element(
         alloc: Global,

@@ -1,24 +1,18 @@
 //! Licenses as XML events.
 
 ghost use Rattle.std.specs.Prelude.{refl, codes};
-ghost use Rattle.cdx_license.specs.Records.{license_tree, expression_tree, choice_tree, identifier_tree, licenses_tree};
 ghost use Rattle.cdx_models.specs.Trees.{license, expression};
-ghost use Rattle.cdx_schema.specs.Kinds.{licenses, a_record, a_list, a_license_choice, a_license_identifier};
-ghost use Rattle.cdx_write.specs.Spelling.{tagged};
-ghost use Rattle.cdx_write.specs.WillWrite.{will_write};
+ghost use Rattle.cdx_schema.specs.Kinds.{licenses};
 
 use crate::license::{Expression, License, LicenseChoice, LicenseIdentifier, Licenses};
 use cdx_events::{EventWriter, List, OwnedAttribute};
 use cdx_models::{SpecVersion, XmlWriteError};
 use cdx_write::{
-    Element, Item, Kinded, Record, ToXml, put_attribute, put_attribute_since, put_child,
-    put_child_since, put_content, put_required_child, write_list, write_record, write_simple_tag,
+    Element, HasContent, Item, Tagged, WrittenRecord, put_attribute, put_attribute_since,
+    put_child, put_child_since, put_content, put_required_child, write_list, write_record,
+    write_simple_tag,
 };
 use std::alloc::{AllocError, Global};
-
-impl Kinded for LicenseIdentifier {
-    ghost kind = { a_license_identifier };
-}
 
 impl Element for LicenseIdentifier {
     ghost keeps = { refl };
@@ -37,35 +31,22 @@ impl Element for LicenseIdentifier {
     }
 }
 
-impl ToXml for LicenseIdentifier {
-    ghost shown = { identifier_tree };
-
-    ghost kind = { a_license_identifier };
-
-    ghost tag = { tagged (codes "id") };
-
-    ghost counts = { λ x. will_write (identifier_tree x) };
-
-    fn write_xml_element(
-        &self,
-        alloc: Global,
-        writer: &mut EventWriter,
-        w: SpecVersion,
-    ) -> Result<(), XmlWriteError> {
-        self.write_as(alloc, writer, w, "id")
-    }
-
-    fn will_write(&self) -> bool {
+impl HasContent for LicenseIdentifier {
+    fn has_content(&self) -> bool {
         true
     }
 }
 
-impl Record for License {
-    ghost name = { license };
+impl Tagged for LicenseIdentifier {
+    ghost own_name = { codes "id" };
 
-    ghost is_plain = { λ x. (refl, λ xs. refl) };
+    fn own_name() -> &'static str {
+        "id"
+    }
+}
 
-    #[tactic(auto, unfolding(cdx_write::specs::WrittenRows::attributes_put, cdx_schema::specs::Table::rows))]
+impl WrittenRecord for License {
+    #[tactic(auto, unfolding(cdx_write::proofs::OnRows::on_rows))]
     fn attributes(
         &self,
         alloc: Global,
@@ -103,35 +84,22 @@ impl Record for License {
     }
 }
 
-impl ToXml for License {
-    ghost shown = { license_tree };
-
-    ghost kind = { a_record license };
-
-    ghost tag = { tagged (codes "license") };
-
-    ghost counts = { λ x. will_write (license_tree x) };
-
-    fn write_xml_element(
-        &self,
-        alloc: Global,
-        writer: &mut EventWriter,
-        w: SpecVersion,
-    ) -> Result<(), XmlWriteError> {
-        write_record(alloc, writer, w, "license", self)
-    }
-
-    fn will_write(&self) -> bool {
+impl HasContent for License {
+    fn has_content(&self) -> bool {
         true
     }
 }
 
-impl Record for Expression {
-    ghost name = { expression };
+impl Tagged for License {
+    ghost own_name = { codes "license" };
 
-    ghost is_plain = { λ x. (refl, λ xs. refl) };
+    fn own_name() -> &'static str {
+        "license"
+    }
+}
 
-    #[tactic(auto, unfolding(cdx_write::specs::WrittenRows::attributes_put, cdx_schema::specs::Table::rows))]
+impl WrittenRecord for Expression {
+    #[tactic(auto, unfolding(cdx_write::proofs::OnRows::on_rows))]
     fn attributes(
         &self,
         alloc: Global,
@@ -152,31 +120,18 @@ impl Record for Expression {
     }
 }
 
-impl ToXml for Expression {
-    ghost shown = { expression_tree };
-
-    ghost kind = { a_record expression };
-
-    ghost tag = { tagged (codes "expression") };
-
-    ghost counts = { λ x. will_write (expression_tree x) };
-
-    fn write_xml_element(
-        &self,
-        alloc: Global,
-        writer: &mut EventWriter,
-        w: SpecVersion,
-    ) -> Result<(), XmlWriteError> {
-        write_record(alloc, writer, w, "expression", self)
-    }
-
-    fn will_write(&self) -> bool {
+impl HasContent for Expression {
+    fn has_content(&self) -> bool {
         true
     }
 }
 
-impl Kinded for LicenseChoice {
-    ghost kind = { a_license_choice };
+impl Tagged for Expression {
+    ghost own_name = { codes "expression" };
+
+    fn own_name() -> &'static str {
+        "expression"
+    }
 }
 
 impl Element for LicenseChoice {
@@ -202,31 +157,18 @@ impl Item for LicenseChoice {
     }
 }
 
-impl ToXml for LicenseChoice {
-    ghost shown = { choice_tree };
-
-    ghost kind = { a_license_choice };
-
-    ghost tag = { tagged (codes "license") };
-
-    ghost counts = { λ x. will_write (choice_tree x) };
-
-    fn write_xml_element(
-        &self,
-        alloc: Global,
-        writer: &mut EventWriter,
-        w: SpecVersion,
-    ) -> Result<(), XmlWriteError> {
-        self.write_as(alloc, writer, w, "license")
-    }
-
-    fn will_write(&self) -> bool {
+impl HasContent for LicenseChoice {
+    fn has_content(&self) -> bool {
         true
     }
 }
 
-impl Kinded for Licenses {
-    ghost kind = { a_list licenses };
+impl Tagged for LicenseChoice {
+    ghost own_name = { codes "license" };
+
+    fn own_name() -> &'static str {
+        "license"
+    }
 }
 
 impl Element for Licenses {
@@ -244,25 +186,16 @@ impl Element for Licenses {
     }
 }
 
-impl ToXml for Licenses {
-    ghost shown = { licenses_tree };
-
-    ghost kind = { a_list licenses };
-
-    ghost tag = { tagged (codes "licenses") };
-
-    ghost counts = { λ x. will_write (licenses_tree x) };
-
-    fn write_xml_element(
-        &self,
-        alloc: Global,
-        writer: &mut EventWriter,
-        w: SpecVersion,
-    ) -> Result<(), XmlWriteError> {
-        self.write_as(alloc, writer, w, "licenses")
-    }
-
-    fn will_write(&self) -> bool {
+impl HasContent for Licenses {
+    fn has_content(&self) -> bool {
         true
+    }
+}
+
+impl Tagged for Licenses {
+    ghost own_name = { codes "licenses" };
+
+    fn own_name() -> &'static str {
+        "licenses"
     }
 }

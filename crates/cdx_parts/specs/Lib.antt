@@ -1,4 +1,3 @@
 pub mod Records
 pub mod Parts
-pub mod Plain
 pub mod Whole

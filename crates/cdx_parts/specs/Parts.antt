@@ -1,6 +1,5 @@
 -- The fields of records while they are read from XML.
-use Rattle.cdx_models.specs.Trees.{Trees, one, absent}
-use Rattle.cdx_leaf.specs.Trees.{fields_of}
+use Rattle.cdx_models.specs.Trees.{Trees, one, absent, fields_of}
 use Rattle.cdx_parts.specs.Records.{swid_tree, evidence_tree}
 use Rattle.cdx_parts.specs.declared.component.Swid.{Swid}
 use Rattle.cdx_parts.specs.declared.component.ComponentEvidence.{ComponentEvidence}

@@ -1,5 +1,7 @@
 //! What a component is known by, and the evidence found in it.
 
+ghost use Rattle.cdx_models.specs.Trees.{copyright, evidence, swid};
+ghost use Rattle.cdx_schema.specs.Kinds.{a_list, a_text, copyright_texts};
 ghost use Rattle.std.specs.Prelude.{refl};
 ghost use Rattle.cdx_models.specs.Same.{same};
 ghost use Rattle.cdx_models.specs.SameLaws.{same_laws};
@@ -8,11 +10,13 @@ ghost use Rattle.cdx_parts.specs.Records.{swid_tree, cpe_tree, mime_type_tree, e
 use cdx_events::{List, Text};
 use cdx_license::Licenses;
 use cdx_models::{AttachedText, HasTree, copy_row, same_row};
+use cdx_schema::{Kinded, Record};
 use std::alloc::{AllocError, Global};
 
 /// A tag of a software identification (ISO/IEC 19770-2).
 #[derive(Debug)]
 pub struct Swid {
+    /// The tag that names the software.
     pub tag_id: Text,
     /// The name of the software that the tag is of.
     pub name: Text,
@@ -71,6 +75,14 @@ impl HasTree for Swid {
     }
 }
 
+impl Record for Swid {
+    ghost name = { swid };
+
+    ghost is_record = { λ x. refl };
+
+    ghost plain = { refl };
+}
+
 impl PartialEq for Swid {
     ghost eq = { λ a b. same (swid_tree a) (swid_tree b) };
 
@@ -97,6 +109,10 @@ impl HasTree for Cpe {
     fn same(&self, other: &Cpe) -> bool {
         self.0.same(&other.0)
     }
+}
+
+impl Kinded for Cpe {
+    ghost kind = { a_text };
 }
 
 impl PartialEq for Cpe {
@@ -127,6 +143,10 @@ impl HasTree for MimeType {
     }
 }
 
+impl Kinded for MimeType {
+    ghost kind = { a_text };
+}
+
 impl PartialEq for MimeType {
     ghost eq = { λ a b. same (mime_type_tree a) (mime_type_tree b) };
 
@@ -140,7 +160,9 @@ impl PartialEq for MimeType {
 /// What was found in a component's files.
 #[derive(Debug)]
 pub struct ComponentEvidence {
+    /// The licenses that were found.
     pub licenses: Option<Licenses>,
+    /// The copyright texts that were found.
     pub copyright: Option<CopyrightTexts>,
 }
 
@@ -171,6 +193,14 @@ impl HasTree for ComponentEvidence {
     }
 }
 
+impl Record for ComponentEvidence {
+    ghost name = { evidence };
+
+    ghost is_record = { λ x. refl };
+
+    ghost plain = { refl };
+}
+
 impl PartialEq for ComponentEvidence {
     ghost eq = { λ a b. same (evidence_tree a) (evidence_tree b) };
 
@@ -184,6 +214,7 @@ impl PartialEq for ComponentEvidence {
 /// A copyright statement.
 #[derive(Debug, Drop)]
 pub struct Copyright {
+    /// The text.
     pub text: Text,
 }
 
@@ -203,6 +234,14 @@ impl HasTree for Copyright {
     }
 }
 
+impl Record for Copyright {
+    ghost name = { copyright };
+
+    ghost is_record = { λ x. refl };
+
+    ghost plain = { refl };
+}
+
 impl PartialEq for Copyright {
     ghost eq = { λ a b. same (copyright_tree a) (copyright_tree b) };
 
@@ -213,6 +252,7 @@ impl PartialEq for Copyright {
     }
 }
 
+/// Copyright texts, in order.
 #[derive(Debug, Drop)]
 pub struct CopyrightTexts(pub List<Copyright>);
 
@@ -228,6 +268,10 @@ impl HasTree for CopyrightTexts {
     fn same(&self, other: &CopyrightTexts) -> bool {
         self.0.same(&other.0)
     }
+}
+
+impl Kinded for CopyrightTexts {
+    ghost kind = { a_list copyright_texts };
 }
 
 impl PartialEq for CopyrightTexts {

@@ -1,63 +1,20 @@
 //! Software tags, platform names, media types and evidence in JSON.
 
-ghost use Rattle.std.specs.Prelude.{refl};
-ghost use Rattle.cdx_models.specs.Trees.{swid, evidence, copyright};
-ghost use Rattle.cdx_schema.specs.Kinds.{copyright_texts, a_text, a_record, a_list};
-ghost use Rattle.cdx_json.specs.Stays.{text_stays, record_stays, list_stays};
+ghost use Rattle.cdx_schema.specs.Kinds.{copyright_texts};
+ghost use Rattle.cdx_json.specs.Stays.{text_stays, list_stays};
 
 use crate::component::{ComponentEvidence, Copyright, CopyrightTexts, Cpe, MimeType, Swid};
 use cdx_events::Text;
 use cdx_json::{
-    Depth, FromJson, Kept, Kinded, Record, ToJson, keep_list, keep_record, keep_row,
-    list_from_value, list_to_value, optional_row, put_required, put_row, read_record, required_row,
-    write_record,
+    Depth, FromJson, JsonRecord, Kept, ToJson, keep_list, keep_row, list_from_value, list_to_value,
+    optional_row, put_required, put_row, required_row,
 };
 use cdx_models::{HasTree, JsonReadError, SpecVersion};
 use serde_json::{Map, Value};
 use std::alloc::{AllocError, Global};
 
-impl Kinded for Swid {
-    ghost kind = { a_record swid };
-}
-
-impl FromJson for Swid {
-    fn from_json_at(
-        alloc: Global,
-        value: &Value,
-        version: SpecVersion,
-        depth: Depth,
-    ) -> Result<Swid, JsonReadError> {
-        read_record(alloc, value, version, depth)
-    }
-}
-
-impl Kept for Swid {
-    ghost stays = { λ w l x. record_stays w l swid _ };
-
-    fn kept_as(
-        &self,
-        alloc: Global,
-        version: SpecVersion,
-        label: SpecVersion,
-    ) -> Result<Swid, AllocError> {
-        keep_record(self, alloc, version, label)
-    }
-}
-
-impl ToJson for Swid {
-    fn to_value(&self, alloc: Global, version: SpecVersion) -> Result<Value, AllocError> {
-        write_record(self, alloc, version)
-    }
-}
-
-impl Record for Swid {
-    ghost name = { swid };
-
-    ghost is_plain = { λ x. (refl, refl) };
-
-    ghost flat = { λ d. (refl, refl) };
-
-    #[tactic(auto, unfolding(cdx_json::specs::ByRows::rows_made, cdx_schema::specs::Table::rows, cdx_schema::specs::Table::list))]
+impl JsonRecord for Swid {
+    #[tactic(auto, unfolding(cdx_json::proofs::OnRows::on_rows))]
     fn from_members(
         alloc: Global,
         map: &Map<String, Value>,
@@ -82,7 +39,7 @@ impl Record for Swid {
         })
     }
 
-    #[tactic(auto, unfolding(cdx_json::specs::KeptRows::rows_held, cdx_schema::specs::Table::rows, cdx_schema::specs::Table::list))]
+    #[tactic(auto, unfolding(cdx_json::proofs::OnRows::on_rows))]
     fn kept_rows(
         &self,
         alloc: Global,
@@ -100,7 +57,7 @@ impl Record for Swid {
         })
     }
 
-    #[tactic(auto, unfolding(cdx_json::specs::KeptRows::rows_put, cdx_schema::specs::Table::rows, cdx_schema::specs::Table::list))]
+    #[tactic(auto, unfolding(cdx_json::proofs::OnRows::on_rows))]
     fn put_members(
         &self,
         alloc: Global,
@@ -116,10 +73,6 @@ impl Record for Swid {
         put_row(alloc, map, "url", &self.url, version)?;
         Ok(())
     }
-}
-
-impl Kinded for Cpe {
-    ghost kind = { a_text };
 }
 
 impl FromJson for Cpe {
@@ -148,14 +101,10 @@ impl Kept for Cpe {
 }
 
 impl ToJson for Cpe {
-    #[tactic(auto, unfolding(cdx_schema::specs::JsonSpelling::jspell, cdx_schema::specs::Keeping::kept))]
+    #[tactic(auto, unfolding(cdx_json::proofs::OnRows::on_spelled))]
     fn to_value(&self, alloc: Global, version: SpecVersion) -> Result<Value, AllocError> {
         Value::try_from_str(alloc, self.0.as_str())
     }
-}
-
-impl Kinded for MimeType {
-    ghost kind = { a_text };
 }
 
 impl FromJson for MimeType {
@@ -184,54 +133,14 @@ impl Kept for MimeType {
 }
 
 impl ToJson for MimeType {
-    #[tactic(auto, unfolding(cdx_schema::specs::JsonSpelling::jspell, cdx_schema::specs::Keeping::kept))]
+    #[tactic(auto, unfolding(cdx_json::proofs::OnRows::on_spelled))]
     fn to_value(&self, alloc: Global, version: SpecVersion) -> Result<Value, AllocError> {
         Value::try_from_str(alloc, self.0.as_str())
     }
 }
 
-impl Kinded for ComponentEvidence {
-    ghost kind = { a_record evidence };
-}
-
-impl FromJson for ComponentEvidence {
-    fn from_json_at(
-        alloc: Global,
-        value: &Value,
-        version: SpecVersion,
-        depth: Depth,
-    ) -> Result<ComponentEvidence, JsonReadError> {
-        read_record(alloc, value, version, depth)
-    }
-}
-
-impl Kept for ComponentEvidence {
-    ghost stays = { λ w l x. record_stays w l evidence _ };
-
-    fn kept_as(
-        &self,
-        alloc: Global,
-        version: SpecVersion,
-        label: SpecVersion,
-    ) -> Result<ComponentEvidence, AllocError> {
-        keep_record(self, alloc, version, label)
-    }
-}
-
-impl ToJson for ComponentEvidence {
-    fn to_value(&self, alloc: Global, version: SpecVersion) -> Result<Value, AllocError> {
-        write_record(self, alloc, version)
-    }
-}
-
-impl Record for ComponentEvidence {
-    ghost name = { evidence };
-
-    ghost is_plain = { λ x. (refl, refl) };
-
-    ghost flat = { λ d. (refl, refl) };
-
-    #[tactic(auto, unfolding(cdx_json::specs::ByRows::rows_made, cdx_schema::specs::Table::rows, cdx_schema::specs::Table::list))]
+impl JsonRecord for ComponentEvidence {
+    #[tactic(auto, unfolding(cdx_json::proofs::OnRows::on_rows))]
     fn from_members(
         alloc: Global,
         map: &Map<String, Value>,
@@ -246,7 +155,7 @@ impl Record for ComponentEvidence {
         })
     }
 
-    #[tactic(auto, unfolding(cdx_json::specs::KeptRows::rows_held, cdx_schema::specs::Table::rows, cdx_schema::specs::Table::list))]
+    #[tactic(auto, unfolding(cdx_json::proofs::OnRows::on_rows))]
     fn kept_rows(
         &self,
         alloc: Global,
@@ -259,7 +168,7 @@ impl Record for ComponentEvidence {
         })
     }
 
-    #[tactic(auto, unfolding(cdx_json::specs::KeptRows::rows_put, cdx_schema::specs::Table::rows, cdx_schema::specs::Table::list))]
+    #[tactic(auto, unfolding(cdx_json::proofs::OnRows::on_rows))]
     fn put_members(
         &self,
         alloc: Global,
@@ -271,48 +180,8 @@ impl Record for ComponentEvidence {
     }
 }
 
-impl Kinded for Copyright {
-    ghost kind = { a_record copyright };
-}
-
-impl FromJson for Copyright {
-    fn from_json_at(
-        alloc: Global,
-        value: &Value,
-        version: SpecVersion,
-        depth: Depth,
-    ) -> Result<Copyright, JsonReadError> {
-        read_record(alloc, value, version, depth)
-    }
-}
-
-impl Kept for Copyright {
-    ghost stays = { λ w l x. record_stays w l copyright _ };
-
-    fn kept_as(
-        &self,
-        alloc: Global,
-        version: SpecVersion,
-        label: SpecVersion,
-    ) -> Result<Copyright, AllocError> {
-        keep_record(self, alloc, version, label)
-    }
-}
-
-impl ToJson for Copyright {
-    fn to_value(&self, alloc: Global, version: SpecVersion) -> Result<Value, AllocError> {
-        write_record(self, alloc, version)
-    }
-}
-
-impl Record for Copyright {
-    ghost name = { copyright };
-
-    ghost is_plain = { λ x. (refl, refl) };
-
-    ghost flat = { λ d. (refl, refl) };
-
-    #[tactic(auto, unfolding(cdx_json::specs::ByRows::rows_made, cdx_schema::specs::Table::rows, cdx_schema::specs::Table::list))]
+impl JsonRecord for Copyright {
+    #[tactic(auto, unfolding(cdx_json::proofs::OnRows::on_rows))]
     fn from_members(
         alloc: Global,
         map: &Map<String, Value>,
@@ -323,7 +192,7 @@ impl Record for Copyright {
         Ok(Copyright { text })
     }
 
-    #[tactic(auto, unfolding(cdx_json::specs::KeptRows::rows_held, cdx_schema::specs::Table::rows, cdx_schema::specs::Table::list))]
+    #[tactic(auto, unfolding(cdx_json::proofs::OnRows::on_rows))]
     fn kept_rows(
         &self,
         alloc: Global,
@@ -335,7 +204,7 @@ impl Record for Copyright {
         })
     }
 
-    #[tactic(auto, unfolding(cdx_json::specs::KeptRows::rows_put, cdx_schema::specs::Table::rows, cdx_schema::specs::Table::list))]
+    #[tactic(auto, unfolding(cdx_json::proofs::OnRows::on_rows))]
     fn put_members(
         &self,
         alloc: Global,
@@ -344,10 +213,6 @@ impl Record for Copyright {
     ) -> Result<(), AllocError> {
         put_required(alloc, map, "text", &self.text, version)
     }
-}
-
-impl Kinded for CopyrightTexts {
-    ghost kind = { a_list copyright_texts };
 }
 
 impl FromJson for CopyrightTexts {

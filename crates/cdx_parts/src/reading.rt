@@ -3,8 +3,8 @@
 use crate::component::{ComponentEvidence, Copyright, CopyrightTexts, Cpe, Swid};
 use cdx_events::{EventReader, List, OwnedAttribute, OwnedName, Text};
 use cdx_leaf::{
-    Children, FromXml, Record, Rule, Taken, TextRecord, attribute_or_error, attribute_or_none,
-    attribute_value, read_list_tag, read_text_record, read_whole, take_one,
+    Children, FromXml, Rule, Taken, TextRecord, XmlRecord, attribute_or_error, attribute_or_none,
+    attribute_value, read_list_tag, read_text_record, take_one,
 };
 use cdx_models::{SpecVersion, XmlReadError};
 use std::alloc::Global;
@@ -40,18 +40,14 @@ impl Children for Swid {
     }
 }
 
-impl Record for Swid {
+impl XmlRecord for Swid {
     ghost use Rattle.std.specs.Prelude.{refl};
     ghost use Rattle.cdx_models.specs.Trees.{swid};
-    ghost use Rattle.cdx_parts.specs.Plain.{swid_plain};
+    ghost use Rattle.cdx_leaf.specs.RowContents.{content_is};
 
     type Part = Swid;
 
-    ghost name = { swid };
-
-    ghost plain = { swid_plain };
-
-    ghost is_record = { λ x. refl };
+    ghost no_content = { content_is swid };
 
     ghost by_rows = { λ part. refl };
 
@@ -86,31 +82,12 @@ impl Record for Swid {
     }
 }
 
-impl FromXml for Swid {
-    ghost use Rattle.cdx_models.specs.Trees.{swid};
-    ghost use Rattle.cdx_schema.specs.Kinds.{a_record};
-
-    ghost kind = { a_record swid };
-
-    ghost depth = { λ d. d };
-
-    fn read_xml_element(
-        alloc: Global,
-        reader: &mut EventReader<'_>,
-        v: SpecVersion,
-        element: &OwnedName,
-        attributes: &List<OwnedAttribute>,
-    ) -> Result<Swid, XmlReadError> {
-        read_whole(alloc, reader, v, element, attributes)
-    }
-}
-
 impl FromXml for Cpe {
-    ghost use Rattle.cdx_schema.specs.Kinds.{a_text};
-
-    ghost kind = { a_text };
+    ghost use Rattle.std.specs.Prelude.{refl};
 
     ghost depth = { λ d. d };
+
+    ghost at_top = { refl };
 
     fn read_xml_element(
         alloc: Global,
@@ -154,18 +131,14 @@ impl Children for ComponentEvidence {
     }
 }
 
-impl Record for ComponentEvidence {
+impl XmlRecord for ComponentEvidence {
     ghost use Rattle.std.specs.Prelude.{refl};
     ghost use Rattle.cdx_models.specs.Trees.{evidence};
-    ghost use Rattle.cdx_parts.specs.Plain.{evidence_plain};
+    ghost use Rattle.cdx_leaf.specs.RowContents.{content_is};
 
     type Part = ComponentEvidence;
 
-    ghost name = { evidence };
-
-    ghost plain = { evidence_plain };
-
-    ghost is_record = { λ x. refl };
+    ghost no_content = { content_is evidence };
 
     ghost by_rows = { λ part. refl };
 
@@ -195,40 +168,19 @@ impl Record for ComponentEvidence {
     }
 }
 
-impl FromXml for ComponentEvidence {
-    ghost use Rattle.cdx_models.specs.Trees.{evidence};
-    ghost use Rattle.cdx_schema.specs.Kinds.{a_record};
-
-    ghost kind = { a_record evidence };
-
-    ghost depth = { λ d. d };
-
-    fn read_xml_element(
-        alloc: Global,
-        reader: &mut EventReader<'_>,
-        v: SpecVersion,
-        element: &OwnedName,
-        attributes: &List<OwnedAttribute>,
-    ) -> Result<ComponentEvidence, XmlReadError> {
-        read_whole(alloc, reader, v, element, attributes)
-    }
-}
-
 impl TextRecord for Copyright {
     ghost use Rattle.cdx_models.specs.Trees.{copyright};
-    ghost use Rattle.cdx_parts.specs.Plain.{copyright_content};
+    ghost use Rattle.cdx_leaf.specs.RowContents.{content_is};
     ghost use Rattle.cdx_parts.specs.Whole.{copyright_whole};
     ghost use Rattle.cdx_parts.specs.Parts.{no_fields};
 
     type Start = ();
 
-    ghost name = { copyright };
-
     ghost start = { no_fields };
 
     ghost at = { 0 };
 
-    ghost content = { copyright_content };
+    ghost content = { content_is copyright };
 
     ghost whole = { copyright_whole };
 
@@ -248,12 +200,11 @@ impl TextRecord for Copyright {
 }
 
 impl FromXml for Copyright {
-    ghost use Rattle.cdx_models.specs.Trees.{copyright};
-    ghost use Rattle.cdx_schema.specs.Kinds.{a_record};
-
-    ghost kind = { a_record copyright };
+    ghost use Rattle.std.specs.Prelude.{refl};
 
     ghost depth = { λ d. d };
+
+    ghost at_top = { refl };
 
     fn read_xml_element(
         alloc: Global,
@@ -267,11 +218,11 @@ impl FromXml for Copyright {
 }
 
 impl FromXml for CopyrightTexts {
-    ghost use Rattle.cdx_schema.specs.Kinds.{a_list, copyright_texts};
-
-    ghost kind = { a_list copyright_texts };
+    ghost use Rattle.std.specs.Prelude.{refl};
 
     ghost depth = { λ d. d };
+
+    ghost at_top = { refl };
 
     fn read_xml_element(
         alloc: Global,

@@ -1,29 +1,20 @@
 //! Software tags, platform names, media types and evidence.
 
 ghost use Rattle.std.specs.Prelude.{refl, codes};
-ghost use Rattle.cdx_models.specs.Trees.{swid, evidence, copyright};
-ghost use Rattle.cdx_schema.specs.Kinds.{copyright_texts, a_text, a_record, a_list};
 ghost use Rattle.cdx_write.specs.Lone.{text_is_lone};
-ghost use Rattle.cdx_write.specs.Spelling.{tagged};
 ghost use Rattle.cdx_write.specs.Stays.{evidence_keeps_hollow};
-ghost use Rattle.cdx_write.specs.WillWrite.{will_write};
-ghost use Rattle.cdx_parts.specs.Records.{swid_tree, cpe_tree, evidence_tree, copyright_tree, copyrights_tree};
 
 use crate::component::{ComponentEvidence, Copyright, CopyrightTexts, Cpe, MimeType, Swid};
 use cdx_events::{EventWriter, List, OwnedAttribute, Text};
 use cdx_models::{SpecVersion, XmlWriteError};
 use cdx_write::{
-    Element, Filled, Item, Kinded, Lone, Record, ToXml, is_there, put_attribute, put_cdata,
-    put_child, put_required_attribute, write_list, write_lone, write_record,
+    Element, Filled, HasContent, Item, Lone, Tagged, WrittenRecord, is_there, put_attribute,
+    put_cdata, put_child, put_required_attribute, write_list, write_lone,
 };
 use std::alloc::{AllocError, Global};
 
-impl Record for Swid {
-    ghost name = { swid };
-
-    ghost is_plain = { λ x. (refl, λ xs. refl) };
-
-    #[tactic(auto, unfolding(cdx_write::specs::WrittenRows::attributes_put, cdx_schema::specs::Table::rows))]
+impl WrittenRecord for Swid {
+    #[tactic(auto, unfolding(cdx_write::proofs::OnRows::on_rows))]
     fn attributes(
         &self,
         alloc: Global,
@@ -38,6 +29,7 @@ impl Record for Swid {
         Ok(attributes)
     }
 
+    #[tactic(auto, unfolding(cdx_write::proofs::OnRows::on_rows), using(cdx_write::proofs::OnRows::in_turn))]
     fn write_rows(
         &self,
         alloc: Global,
@@ -49,49 +41,18 @@ impl Record for Swid {
     }
 }
 
-impl Kinded for Swid {
-    ghost kind = { a_record swid };
-}
-
-impl Element for Swid {
-    ghost keeps = { refl };
-
-    fn write_as(
-        &self,
-        alloc: Global,
-        writer: &mut EventWriter,
-        w: SpecVersion,
-        tag: &str,
-    ) -> Result<(), XmlWriteError> {
-        write_record(alloc, writer, w, tag, self)
-    }
-}
-
-impl ToXml for Swid {
-    ghost shown = { swid_tree };
-
-    ghost kind = { a_record swid };
-
-    ghost tag = { tagged (codes "swid") };
-
-    ghost counts = { λ x. will_write (swid_tree x) };
-
-    fn write_xml_element(
-        &self,
-        alloc: Global,
-        writer: &mut EventWriter,
-        w: SpecVersion,
-    ) -> Result<(), XmlWriteError> {
-        write_record(alloc, writer, w, "swid", self)
-    }
-
-    fn will_write(&self) -> bool {
+impl HasContent for Swid {
+    fn has_content(&self) -> bool {
         true
     }
 }
 
-impl Kinded for Cpe {
-    ghost kind = { a_text };
+impl Tagged for Swid {
+    ghost own_name = { codes "swid" };
+
+    fn own_name() -> &'static str {
+        "swid"
+    }
 }
 
 impl Lone for Cpe {
@@ -116,31 +77,18 @@ impl Element for Cpe {
     }
 }
 
-impl ToXml for Cpe {
-    ghost shown = { cpe_tree };
-
-    ghost kind = { a_text };
-
-    ghost tag = { tagged (codes "cpe") };
-
-    ghost counts = { λ x. will_write (cpe_tree x) };
-
-    fn write_xml_element(
-        &self,
-        alloc: Global,
-        writer: &mut EventWriter,
-        w: SpecVersion,
-    ) -> Result<(), XmlWriteError> {
-        write_lone(alloc, writer, w, "cpe", self)
-    }
-
-    fn will_write(&self) -> bool {
+impl HasContent for Cpe {
+    fn has_content(&self) -> bool {
         true
     }
 }
 
-impl Kinded for MimeType {
-    ghost kind = { a_text };
+impl Tagged for Cpe {
+    ghost own_name = { codes "cpe" };
+
+    fn own_name() -> &'static str {
+        "cpe"
+    }
 }
 
 impl Lone for MimeType {
@@ -151,12 +99,8 @@ impl Lone for MimeType {
     }
 }
 
-impl Record for ComponentEvidence {
-    ghost name = { evidence };
-
-    ghost is_plain = { λ x. (refl, λ xs. refl) };
-
-    #[tactic(auto, unfolding(cdx_write::specs::WrittenRows::attributes_put, cdx_schema::specs::Table::rows))]
+impl WrittenRecord for ComponentEvidence {
+    #[tactic(auto, unfolding(cdx_write::proofs::OnRows::on_rows))]
     fn attributes(
         &self,
         alloc: Global,
@@ -165,6 +109,7 @@ impl Record for ComponentEvidence {
         Ok(List::new(alloc))
     }
 
+    #[tactic(auto, unfolding(cdx_write::proofs::OnRows::on_rows), using(cdx_write::proofs::OnRows::in_turn))]
     fn write_rows(
         &self,
         alloc: Global,
@@ -176,62 +121,31 @@ impl Record for ComponentEvidence {
     }
 }
 
-impl Kinded for ComponentEvidence {
-    ghost kind = { a_record evidence };
-}
-
-impl Element for ComponentEvidence {
-    ghost keeps = { refl };
-
-    fn write_as(
-        &self,
-        alloc: Global,
-        writer: &mut EventWriter,
-        w: SpecVersion,
-        tag: &str,
-    ) -> Result<(), XmlWriteError> {
-        write_record(alloc, writer, w, tag, self)
-    }
-}
-
 impl Filled for ComponentEvidence {
     ghost keeps_hollow = { λ x. evidence_keeps_hollow _ };
 
     fn is_hollow(&self) -> bool {
-        !self.will_write()
+        !self.has_content()
     }
 }
 
-impl ToXml for ComponentEvidence {
-    ghost shown = { evidence_tree };
-
-    ghost kind = { a_record evidence };
-
-    ghost tag = { tagged (codes "evidence") };
-
-    ghost counts = { λ x. will_write (evidence_tree x) };
-
-    fn write_xml_element(
-        &self,
-        alloc: Global,
-        writer: &mut EventWriter,
-        w: SpecVersion,
-    ) -> Result<(), XmlWriteError> {
-        write_record(alloc, writer, w, "evidence", self)
-    }
-
+impl HasContent for ComponentEvidence {
     /// False exactly where both fields are absent.
-    fn will_write(&self) -> bool {
+    fn has_content(&self) -> bool {
         is_there(&self.licenses) || is_there(&self.copyright)
     }
 }
 
-impl Record for Copyright {
-    ghost name = { copyright };
+impl Tagged for ComponentEvidence {
+    ghost own_name = { codes "evidence" };
 
-    ghost is_plain = { λ x. (refl, λ xs. refl) };
+    fn own_name() -> &'static str {
+        "evidence"
+    }
+}
 
-    #[tactic(auto, unfolding(cdx_write::specs::WrittenRows::attributes_put, cdx_schema::specs::Table::rows))]
+impl WrittenRecord for Copyright {
+    #[tactic(auto, unfolding(cdx_write::proofs::OnRows::on_rows))]
     fn attributes(
         &self,
         alloc: Global,
@@ -240,6 +154,7 @@ impl Record for Copyright {
         Ok(List::new(alloc))
     }
 
+    #[tactic(auto, unfolding(cdx_write::proofs::OnRows::on_rows), using(cdx_write::proofs::OnRows::in_turn))]
     fn write_rows(
         &self,
         alloc: Global,
@@ -250,55 +165,24 @@ impl Record for Copyright {
     }
 }
 
-impl Kinded for Copyright {
-    ghost kind = { a_record copyright };
-}
-
-impl Element for Copyright {
-    ghost keeps = { refl };
-
-    fn write_as(
-        &self,
-        alloc: Global,
-        writer: &mut EventWriter,
-        w: SpecVersion,
-        tag: &str,
-    ) -> Result<(), XmlWriteError> {
-        write_record(alloc, writer, w, tag, self)
-    }
-}
-
 impl Item for Copyright {
     fn is_passed_over(&self) -> bool {
         false
     }
 }
 
-impl ToXml for Copyright {
-    ghost shown = { copyright_tree };
-
-    ghost kind = { a_record copyright };
-
-    ghost tag = { tagged (codes "text") };
-
-    ghost counts = { λ x. will_write (copyright_tree x) };
-
-    fn write_xml_element(
-        &self,
-        alloc: Global,
-        writer: &mut EventWriter,
-        w: SpecVersion,
-    ) -> Result<(), XmlWriteError> {
-        write_record(alloc, writer, w, "text", self)
-    }
-
-    fn will_write(&self) -> bool {
+impl HasContent for Copyright {
+    fn has_content(&self) -> bool {
         true
     }
 }
 
-impl Kinded for CopyrightTexts {
-    ghost kind = { a_list copyright_texts };
+impl Tagged for Copyright {
+    ghost own_name = { codes "text" };
+
+    fn own_name() -> &'static str {
+        "text"
+    }
 }
 
 impl Element for CopyrightTexts {
@@ -316,25 +200,16 @@ impl Element for CopyrightTexts {
     }
 }
 
-impl ToXml for CopyrightTexts {
-    ghost shown = { copyrights_tree };
-
-    ghost kind = { a_list copyright_texts };
-
-    ghost tag = { tagged (codes "copyright") };
-
-    ghost counts = { λ x. will_write (copyrights_tree x) };
-
-    fn write_xml_element(
-        &self,
-        alloc: Global,
-        writer: &mut EventWriter,
-        w: SpecVersion,
-    ) -> Result<(), XmlWriteError> {
-        self.write_as(alloc, writer, w, "copyright")
-    }
-
-    fn will_write(&self) -> bool {
+impl HasContent for CopyrightTexts {
+    fn has_content(&self) -> bool {
         true
+    }
+}
+
+impl Tagged for CopyrightTexts {
+    ghost own_name = { codes "copyright" };
+
+    fn own_name() -> &'static str {
+        "copyright"
     }
 }

@@ -1,6 +1,5 @@
 -- The fields of patches and issues while they are read from XML.
-use Rattle.cdx_models.specs.Trees.{Trees}
-use Rattle.cdx_leaf.specs.Trees.{fields_of}
+use Rattle.cdx_models.specs.Trees.{Trees, fields_of}
 use Rattle.cdx_patch.specs.Records.{diff_tree, source_tree, issue_tree, patch_tree}
 use Rattle.cdx_patch.specs.declared.code.Diff.{Diff}
 use Rattle.cdx_patch.specs.declared.code.Source.{Source}

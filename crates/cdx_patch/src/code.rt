@@ -1,5 +1,7 @@
 //! Patches and what they resolve.
 
+ghost use Rattle.cdx_models.specs.Trees.{diff, issue, patch, source};
+ghost use Rattle.cdx_schema.specs.Kinds.{a_list, patches};
 ghost use Rattle.std.specs.Prelude.{refl};
 ghost use Rattle.cdx_models.specs.Same.{same};
 ghost use Rattle.cdx_models.specs.SameLaws.{same_laws};
@@ -7,6 +9,7 @@ ghost use Rattle.cdx_patch.specs.Records.{diff_tree, source_tree, issue_tree, pa
 
 use cdx_events::{List, Text};
 use cdx_models::{AttachedText, HasTree, copy_row, same_row};
+use cdx_schema::{Kinded, Record};
 use std::alloc::{AllocError, Global};
 
 /// What a patch changes.
@@ -42,6 +45,14 @@ impl HasTree for Diff {
     }
 }
 
+impl Record for Diff {
+    ghost name = { diff };
+
+    ghost is_record = { λ x. refl };
+
+    ghost plain = { refl };
+}
+
 impl PartialEq for Diff {
     ghost eq = { λ a b. same (diff_tree a) (diff_tree b) };
 
@@ -55,7 +66,9 @@ impl PartialEq for Diff {
 /// Where an issue is told of.
 #[derive(Debug)]
 pub struct Source {
+    /// Its name.
     pub name: Option<Text>,
+    /// Where it can be found.
     pub url: Option<Text>,
 }
 
@@ -83,6 +96,14 @@ impl HasTree for Source {
     }
 }
 
+impl Record for Source {
+    ghost name = { source };
+
+    ghost is_record = { λ x. refl };
+
+    ghost plain = { refl };
+}
+
 impl PartialEq for Source {
     ghost eq = { λ a b. same (source_tree a) (source_tree b) };
 
@@ -100,8 +121,11 @@ pub struct Issue {
     pub issue_type: Text,
     /// The identifier that its source gives it.
     pub id: Option<Text>,
+    /// Its name.
     pub name: Option<Text>,
+    /// What it is about.
     pub description: Option<Text>,
+    /// Where it is told.
     pub source: Option<Source>,
     /// Addresses of what else tells of it.
     pub references: Option<List<Text>>,
@@ -147,6 +171,14 @@ impl HasTree for Issue {
     }
 }
 
+impl Record for Issue {
+    ghost name = { issue };
+
+    ghost is_record = { λ x. refl };
+
+    ghost plain = { refl };
+}
+
 impl PartialEq for Issue {
     ghost eq = { λ a b. same (issue_tree a) (issue_tree b) };
 
@@ -162,6 +194,7 @@ impl PartialEq for Issue {
 pub struct Patch {
     /// What it is, as `backport`.
     pub patch_type: Text,
+    /// What it changes.
     pub diff: Option<Diff>,
     /// The issues that it resolves.
     pub resolves: Option<List<Issue>>,
@@ -198,6 +231,14 @@ impl HasTree for Patch {
     }
 }
 
+impl Record for Patch {
+    ghost name = { patch };
+
+    ghost is_record = { λ x. refl };
+
+    ghost plain = { refl };
+}
+
 impl PartialEq for Patch {
     ghost eq = { λ a b. same (patch_tree a) (patch_tree b) };
 
@@ -208,6 +249,7 @@ impl PartialEq for Patch {
     }
 }
 
+/// Patches, in order.
 #[derive(Debug, Drop)]
 pub struct Patches(pub List<Patch>);
 
@@ -223,6 +265,10 @@ impl HasTree for Patches {
     fn same(&self, other: &Patches) -> bool {
         self.0.same(&other.0)
     }
+}
+
+impl Kinded for Patches {
+    ghost kind = { a_list patches };
 }
 
 impl PartialEq for Patches {

@@ -7,7 +7,6 @@ use Rattle.cdx_events.specs.declared.name.Namespace.{Namespace}
 use Rattle.cdx_events.specs.Nodes.{Nodes, element, characters, cdata, no_nodes, node}
 use Rattle.cdx_models.specs.declared.errors.XmlReadError.{XmlReadError}
 use Rattle.cdx_models.specs.declared.bom.SpecVersion.{SpecVersion}
-use Rattle.cdx_models.specs.Trees.{spdx_id, license_name, license, expression, is_absent}
 use Rattle.cdx_models.specs.Trees as trees
 use Rattle.cdx_schema.specs.Faults.{lacking}
 use Rattle.cdx_schema.specs.Results.{◌>>=◌}
@@ -16,7 +15,6 @@ use Rattle.cdx_schema.specs.Kinds.{a_reference}
 use Rattle.cdx_schema.specs.XmlReading.{xread, nodes_read, no_plan, find_attribute, after_text}
 use Rattle.cdx_leaf.specs.Fault.{Fails}
 use Rattle.cdx_leaf.specs.Attribute.{or_fault}
-use Rattle.cdx_models.specs.Trees.{present}
 use Rattle.cdx_leaf.proofs.Whole.{start_is}
 
 module _ (v : SpecVersion) (n : OwnedName) (a : List OwnedAttribute) (ns : Namespace) (d : Depth) (p : ℕ) (nodes : Nodes) where

@@ -1,11 +1,10 @@
 -- References as elements.
-use Rattle.std.proofs.Common.{◌≡◌, ℕ, List, [], ◌∷◌, ◌++◌, codes, refl, ap, ◌∙◌}
+use Rattle.std.proofs.Common.{◌≡◌, ℕ, List, [], ◌∷◌, codes, refl, ap, ◌∙◌}
 use Rattle.cdx_events.specs.declared.name.OwnedName.{OwnedName}
 use Rattle.cdx_events.specs.Name.{local}
 use Rattle.cdx_models.specs.declared.bom.SpecVersion.{SpecVersion}
 use Rattle.cdx_models.specs.Trees.{text}
 use Rattle.cdx_schema.specs.Kinds.{a_reference}
-use Rattle.cdx_schema.specs.Nodes.{◌⊕◌}
 use Rattle.cdx_schema.specs.Keeping.{kept}
 use Rattle.cdx_schema.specs.XmlSpelling.{nodes_of}
 use Rattle.cdx_write.specs.Listed.{item_put}

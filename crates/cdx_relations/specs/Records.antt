@@ -1,5 +1,5 @@
 -- The trees of dependencies and compositions, a field for each row of the schema and in its order.
-use Rattle.std.specs.Prelude.{◌≡◌, [], ◌∷◌}
+use Rattle.std.specs.Prelude.{[], ◌∷◌}
 use Rattle.cdx_models.specs.Trees.{dependency, composition, Tree, text, fields, trees, present, list_tree}
 use Rattle.cdx_signature.specs.Records.{signature_tree}
 use Rattle.cdx_relations.specs.declared.dependency.Dependency.{Dependency}

@@ -1,5 +1,7 @@
 //! How complete the parts of a bill are known.
 
+ghost use Rattle.cdx_models.specs.Trees.{composition};
+ghost use Rattle.cdx_schema.specs.Kinds.{a_list, a_reference, compositions};
 ghost use Rattle.std.specs.Prelude.{◌≡◌, refl, IfOk};
 ghost use Rattle.cdx_relations.specs.Records.{bom_reference_tree, composition_tree, compositions_tree};
 ghost use Rattle.cdx_models.specs.Same.{same};
@@ -7,6 +9,7 @@ ghost use Rattle.cdx_models.specs.SameLaws.{same_laws};
 
 use cdx_events::{List, Text};
 use cdx_models::{HasTree, copy_row, same_row};
+use cdx_schema::{Kinded, Record};
 use cdx_signature::Signature;
 use std::alloc::{AllocError, Global};
 
@@ -35,6 +38,10 @@ impl HasTree for BomReference {
     fn same(&self, other: &BomReference) -> bool {
         self.0.same(&other.0)
     }
+}
+
+impl Kinded for BomReference {
+    ghost kind = { a_reference };
 }
 
 impl PartialEq for BomReference {
@@ -104,6 +111,14 @@ impl HasTree for Composition {
     }
 }
 
+impl Record for Composition {
+    ghost name = { composition };
+
+    ghost is_record = { λ x. refl };
+
+    ghost plain = { refl };
+}
+
 impl PartialEq for Composition {
     ghost eq = { λ a b. same (composition_tree a) (composition_tree b) };
 
@@ -114,6 +129,7 @@ impl PartialEq for Composition {
     }
 }
 
+/// Compositions, in order.
 #[derive(Debug, Drop)]
 pub struct Compositions(pub List<Composition>);
 
@@ -129,6 +145,10 @@ impl HasTree for Compositions {
     fn same(&self, other: &Compositions) -> bool {
         self.0.same(&other.0)
     }
+}
+
+impl Kinded for Compositions {
+    ghost kind = { a_list compositions };
 }
 
 impl PartialEq for Compositions {

@@ -1,5 +1,7 @@
 //! Which component or service depends on which.
 
+ghost use Rattle.cdx_models.specs.Trees.{dependency};
+ghost use Rattle.cdx_schema.specs.Kinds.{a_list, dependencies};
 ghost use Rattle.std.specs.Prelude.{refl};
 ghost use Rattle.cdx_relations.specs.Records.{dependency_tree, dependencies_tree};
 ghost use Rattle.cdx_models.specs.Same.{same};
@@ -7,6 +9,7 @@ ghost use Rattle.cdx_models.specs.SameLaws.{same_laws};
 
 use cdx_events::{List, Text};
 use cdx_models::HasTree;
+use cdx_schema::{Kinded, Record};
 use std::alloc::{AllocError, Global};
 
 /// What a component or service depends on directly.
@@ -35,6 +38,14 @@ impl HasTree for Dependency {
     }
 }
 
+impl Record for Dependency {
+    ghost name = { dependency };
+
+    ghost is_record = { λ x. refl };
+
+    ghost plain = { refl };
+}
+
 impl PartialEq for Dependency {
     ghost eq = { λ a b. same (dependency_tree a) (dependency_tree b) };
 
@@ -61,6 +72,10 @@ impl HasTree for Dependencies {
     fn same(&self, other: &Dependencies) -> bool {
         self.0.same(&other.0)
     }
+}
+
+impl Kinded for Dependencies {
+    ghost kind = { a_list dependencies };
 }
 
 impl PartialEq for Dependencies {

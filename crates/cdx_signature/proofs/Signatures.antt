@@ -1,5 +1,5 @@
 -- Signatures, and the lists in them.
-use Rattle.std.proofs.Common.{◌≡◌, ℕ, suc, ◌+◌, List, Result, Ok, Err, refl, sym, ap, ◌∙◌, subst}
+use Rattle.std.proofs.Common.{◌≡◌, ℕ, suc, ◌+◌, List, true, Result, Ok, Err, refl, sym, ap, ◌∙◌, subst}
 use Rattle.std.specs.Prelude.{codes}
 use Rattle.cdx_events.specs.declared.name.OwnedName.{OwnedName}
 use Rattle.cdx_events.specs.declared.name.OwnedAttribute.{OwnedAttribute}
@@ -17,15 +17,16 @@ use Rattle.cdx_schema.specs.Results.{◌>>=◌}
 use Rattle.cdx_schema.specs.Depth.{Depth}
 use Rattle.cdx_schema.specs.Kinds.{a_record, a_signature}
 use Rattle.cdx_schema.specs.Nodes.{places_of}
+use Rattle.cdx_schema.specs.Plain.{is_plain}
 use Rattle.cdx_schema.specs.Table.{rows, rule, list}
-use Rattle.cdx_schema.specs.XmlReading.{Element, Plan, record_plan, attributes_read, in_force, ended, signature_plan, signature_of, xread, nodes_read}
+use Rattle.cdx_schema.specs.XmlReading.{Element, Plan, no_content, content_from, record_plan, attributes_read, in_force, ended, signature_plan, signature_of, xread, nodes_read}
 use Rattle.cdx_signature.specs.declared.parts.SignerPart.{SignerPart}
 use Rattle.cdx_leaf.specs.declared.rule.Rule.TheVariants.{Strict}
 use Rattle.cdx_leaf.specs.Fault.{Fails}
 use Rattle.cdx_leaf.specs.Each.{each, plan_step}
 use Rattle.cdx_leaf.specs.Listing.{listing_plan, ReadsItems}
 use Rattle.cdx_signature.specs.Parts.{signer_part}
-use Rattle.cdx_leaf.specs.Plain.{IsPlain, signers_plain, chain_plain}
+use Rattle.cdx_leaf.specs.RowContents.{content_is}
 use Rattle.cdx_leaf.specs.Reading.{Reads, ReadsAs, after}
 use Rattle.cdx_leaf.specs.Trees.{collected}
 use Rattle.cdx_leaf.proofs.ChildSteps.{each_is}
@@ -48,11 +49,11 @@ chain_listed : IsListed chain (codes "chain")
 unfolding rows rule list attributes_read ended
 chain_listed = record { begins = λ a v el p. refl; plan = refl; ends = λ xs v el q. ap (λ t. Ok (one t)) (filled_list signer_tree xs) }
 
-listed_is : (name : Name) (inner : List ℕ) → IsPlain name → IsListed name inner → (v : SpecVersion) (n : OwnedName) (a : List OwnedAttribute) (ns : Namespace) (d : Depth) (p : ℕ) (nodes : Nodes)
+listed_is : (name : Name) (inner : List ℕ) → content_from 0 (rows name) ≡ no_content → is_plain name ≡ true → IsListed name inner → (v : SpecVersion) (n : OwnedName) (a : List OwnedAttribute) (ns : Namespace) (d : Depth) (p : ℕ) (nodes : Nodes)
     → xread (element n a ns nodes) v (a_record name) p d ≡ (each (plan_step (listing_plan Strict inner (a_record signer)) v d n.local_name) nodes (suc p) (one absent) >>= λ ts. finished name v n.local_name (suc (p + places_of nodes)) ts)
-listed_is name inner plain listed v n a ns d p nodes =
+listed_is name inner alone plain listed v n a ns d p nodes =
     let last : Trees → Result Tree XmlReadError = λ ts. finished name v n.local_name (suc (p + places_of nodes)) ts in
-    record_is name plain v n a ns d p nodes
+    record_is name alone plain v n a ns d p nodes
     ∙ ap (λ x. (x >>= λ ts. each (plan_step (record_plan name) v d n.local_name) nodes (suc p) ts) >>= last) (listed.begins a v n.local_name p)
     ∙ ap (λ (x : Plan). each (plan_step x v d n.local_name) nodes (suc p) (one absent) >>= last) listed.plan
 
@@ -62,19 +63,19 @@ finishes name inner listed v el q old new end denoted (Ok xs) h =
     (ap (λ r. r >>= λ ts. finished name v el q ts) h.0 ∙ ap (λ r. r >>= λ us. Ok (fields name us)) (listed.ends xs v el q), h.1)
 finishes name inner listed v el q old new end denoted (Err e) h = (h.0, first_fails e new.place denoted (λ ts. finished name v el q ts) h.1)
 
-reads_listed : (name : Name) (inner : List ℕ) → IsPlain name → IsListed name inner → (old new : Cursor) (v : SpecVersion) (n : OwnedName) (a : List OwnedAttribute) (result : Result (List Signer) XmlReadError)
+reads_listed : (name : Name) (inner : List ℕ) → content_from 0 (rows name) ≡ no_content → is_plain name ≡ true → IsListed name inner → (old new : Cursor) (v : SpecVersion) (n : OwnedName) (a : List OwnedAttribute) (result : Result (List Signer) XmlReadError)
     → ReadsItems signer_tree (a_record signer) (λ d. d) old new v n inner Strict result → ReadsAs (λ xs. fields name (one (list_tree signer_tree xs))) old new n a v (a_record name) (λ d. d) result
-reads_listed name inner plain listed old new v n a result reads d ns p nodes rest st =
-    subst (λ x. Reads (λ xs. fields name (one (list_tree signer_tree xs))) old new (after old nodes rest) x result) (sym (listed_is name inner plain listed v n a ns d p nodes))
+reads_listed name inner alone plain listed old new v n a result reads d ns p nodes rest st =
+    subst (λ x. Reads (λ xs. fields name (one (list_tree signer_tree xs))) old new (after old nodes rest) x result) (sym (listed_is name inner alone plain listed v n a ns d p nodes))
     (finishes name inner listed v n.local_name (suc (p + places_of nodes)) old new (after old nodes rest) (each (plan_step (listing_plan Strict inner (a_record signer)) v d n.local_name) nodes (suc p) (one absent)) result (reads d p nodes rest st))
 
 pub reads_signers : (old new : Cursor) (v : SpecVersion) (n : OwnedName) (a : List OwnedAttribute) (result : Result (List Signer) XmlReadError)
     → ReadsItems signer_tree (a_record signer) (λ d. d) old new v n (codes "signer") Strict result → ReadsAs (λ xs. fields signers (one (list_tree signer_tree xs))) old new n a v (a_record signers) (λ d. d) result
-reads_signers old new v n a result reads = reads_listed signers (codes "signer") signers_plain signers_listed old new v n a result reads
+reads_signers old new v n a result reads = reads_listed signers (codes "signer") (content_is signers) refl signers_listed old new v n a result reads
 
 pub reads_chain : (old new : Cursor) (v : SpecVersion) (n : OwnedName) (a : List OwnedAttribute) (result : Result (List Signer) XmlReadError)
     → ReadsItems signer_tree (a_record signer) (λ d. d) old new v n (codes "chain") Strict result → ReadsAs (λ xs. fields chain (one (list_tree signer_tree xs))) old new n a v (a_record chain) (λ d. d) result
-reads_chain old new v n a result reads = reads_listed chain (codes "chain") chain_plain chain_listed old new v n a result reads
+reads_chain old new v n a result reads = reads_listed chain (codes "chain") (content_is chain) refl chain_listed old new v n a result reads
 
 -- ---- a whole signature
 

@@ -1,8 +1,8 @@
 //! Signatures in JSON.
 
-ghost use Rattle.std.specs.Prelude.{◌≡◌, refl, option_map, Some, IfOk};
-ghost use Rattle.cdx_schema.specs.Kinds.{signer_list, a_list, a_record, a_text, a_signature};
-ghost use Rattle.cdx_json.specs.Stays.{text_stays, record_stays};
+ghost use Rattle.std.specs.Prelude.{◌≡◌, option_map, Some, IfOk};
+ghost use Rattle.cdx_schema.specs.Kinds.{signer_list, a_list, a_text};
+ghost use Rattle.cdx_json.specs.Stays.{text_stays};
 ghost use Rattle.cdx_signature.specs.Stays.{signature_stays};
 ghost use Rattle.serde_json.specs.Find.{as_str};
 ghost use Rattle.serde_json.specs.View.{view, members_view};
@@ -20,17 +20,12 @@ ghost use Rattle.cdx_json.specs.KeptRows.{put_kept};
 use crate::signature::{Algorithm, Signature, Signer};
 use cdx_events::List;
 use cdx_json::{
-    Depth, FromJson, Kept, Kinded, Record, ToJson, has_value, here, keep_list, keep_record,
-    list_from_items, list_row, put_required, put_required_list, read_record, required_row,
-    write_record,
+    Depth, FromJson, JsonRecord, Kept, ToJson, has_value, here, keep_list, list_from_items,
+    list_row, put_required, put_required_list, required_row,
 };
 use cdx_models::{HasTree, JsonKind, JsonReadError, SpecVersion};
 use serde_json::{Map, Value};
 use std::alloc::{AllocError, Global};
-
-impl Kinded for Algorithm {
-    ghost kind = { a_text };
-}
 
 impl FromJson for Algorithm {
     /// A text, as any `Algorithm` that a text gives: the variant is the one that `Algorithm::new_unchecked` gives.
@@ -40,8 +35,10 @@ impl FromJson for Algorithm {
         version: SpecVersion,
         depth: Depth,
     ) -> Result<Algorithm, JsonReadError>
-        ensures gives { Gives algorithm_tree result (jread (view value.now) version a_text (depth_of depth)) }
-        ensures variant { IfOk result (λ r. option_map algorithm_of (as_str (view value.now)) ≡ Some r) }
+        ensures gives { Gives algorithm_tree result
+            (jread (view value.now) version a_text (depth_of depth)) }
+        ensures variant { IfOk result
+            (λ r. option_map algorithm_of (as_str (view value.now)) ≡ Some r) }
     {
         match value.as_str() {
             None => Err(here(alloc, JsonKind::WrongKind)),
@@ -60,7 +57,8 @@ impl Kept for Algorithm {
         version: SpecVersion,
         label: SpecVersion,
     ) -> Result<Algorithm, AllocError>
-        ensures gives { IfOk result (λ r. algorithm_tree r ≡ kept version label (algorithm_tree self.now) a_text) }
+        ensures gives { IfOk result
+            (λ r. algorithm_tree r ≡ kept version label (algorithm_tree self.now) a_text) }
         ensures variant { IfOk result (λ r. r ≡ self.now) }
     {
         self.copy(alloc)
@@ -68,54 +66,14 @@ impl Kept for Algorithm {
 }
 
 impl ToJson for Algorithm {
-    #[tactic(auto, unfolding(cdx_schema::specs::JsonSpelling::jspell, cdx_schema::specs::Keeping::kept))]
+    #[tactic(auto, unfolding(cdx_json::proofs::OnRows::on_spelled))]
     fn to_value(&self, alloc: Global, version: SpecVersion) -> Result<Value, AllocError> {
         Value::try_from_str(alloc, self.as_str())
     }
 }
 
-impl Kinded for Signer {
-    ghost kind = { a_record signer };
-}
-
-impl FromJson for Signer {
-    fn from_json_at(
-        alloc: Global,
-        value: &Value,
-        version: SpecVersion,
-        depth: Depth,
-    ) -> Result<Signer, JsonReadError> {
-        read_record(alloc, value, version, depth)
-    }
-}
-
-impl Kept for Signer {
-    ghost stays = { λ w l x. record_stays w l signer _ };
-
-    fn kept_as(
-        &self,
-        alloc: Global,
-        version: SpecVersion,
-        label: SpecVersion,
-    ) -> Result<Signer, AllocError> {
-        keep_record(self, alloc, version, label)
-    }
-}
-
-impl ToJson for Signer {
-    fn to_value(&self, alloc: Global, version: SpecVersion) -> Result<Value, AllocError> {
-        write_record(self, alloc, version)
-    }
-}
-
-impl Record for Signer {
-    ghost name = { signer };
-
-    ghost is_plain = { λ x. (refl, refl) };
-
-    ghost flat = { λ d. (refl, refl) };
-
-    #[tactic(auto, unfolding(cdx_json::specs::ByRows::rows_made, cdx_schema::specs::Table::rows, cdx_schema::specs::Table::list))]
+impl JsonRecord for Signer {
+    #[tactic(auto, unfolding(cdx_json::proofs::OnRows::on_rows))]
     fn from_members(
         alloc: Global,
         map: &Map<String, Value>,
@@ -127,7 +85,7 @@ impl Record for Signer {
         Ok(Signer { algorithm, value })
     }
 
-    #[tactic(auto, unfolding(cdx_json::specs::KeptRows::rows_held, cdx_schema::specs::Table::rows, cdx_schema::specs::Table::list))]
+    #[tactic(auto, unfolding(cdx_json::proofs::OnRows::on_rows))]
     fn kept_rows(
         &self,
         alloc: Global,
@@ -140,7 +98,7 @@ impl Record for Signer {
         })
     }
 
-    #[tactic(auto, unfolding(cdx_json::specs::KeptRows::rows_put, cdx_schema::specs::Table::rows, cdx_schema::specs::Table::list))]
+    #[tactic(auto, unfolding(cdx_json::proofs::OnRows::on_rows))]
     fn put_members(
         &self,
         alloc: Global,
@@ -150,10 +108,6 @@ impl Record for Signer {
         put_required(alloc, map, "algorithm", &self.algorithm, version)?;
         put_required(alloc, map, "value", &self.value, version)
     }
-}
-
-impl Kinded for Signature {
-    ghost kind = { a_signature };
 }
 
 impl FromJson for Signature {
@@ -228,8 +182,8 @@ fn signers_to_value(
     held: &List<Signer>,
     version: SpecVersion,
 ) -> Result<Value, AllocError>
-    ensures { IfOk result (λ v. view v
-        ≡ object (put_kept name.now (a_list signer_list) (list_tree signer_tree held.now) version no_members)) }
+    ensures { IfOk result (λ v. view v ≡ object (put_kept name.now (a_list signer_list)
+        (list_tree signer_tree held.now) version no_members)) }
 {
     let mut map = Map::new(alloc);
     put_required_list(alloc, &mut map, name, held, version)?;

@@ -4,8 +4,7 @@ use crate::parts::{SignaturePart, SignerPart};
 use crate::signature::{Algorithm, Signature, Signer};
 use cdx_events::{EventReader, List, OwnedAttribute, OwnedName};
 use cdx_leaf::{
-    Children, FromXml, Record, Rule, Taken, child_or_error, read_items, read_record, read_whole,
-    take_one,
+    Children, FromXml, Rule, Taken, XmlRecord, child_or_error, read_items, read_record, take_one,
 };
 use cdx_models::{SpecVersion, XmlReadError};
 use std::alloc::Global;
@@ -41,18 +40,14 @@ impl Children for SignerPart {
     }
 }
 
-impl Record for Signer {
+impl XmlRecord for Signer {
     ghost use Rattle.std.specs.Prelude.{refl};
     ghost use Rattle.cdx_models.specs.Trees.{signer};
-    ghost use Rattle.cdx_leaf.specs.Plain.{signer_plain};
+    ghost use Rattle.cdx_leaf.specs.RowContents.{content_is};
 
     type Part = SignerPart;
 
-    ghost name = { signer };
-
-    ghost plain = { signer_plain };
-
-    ghost is_record = { λ x. refl };
+    ghost no_content = { content_is signer };
 
     ghost by_rows = { λ part. refl };
 
@@ -84,25 +79,6 @@ impl Record for Signer {
             algorithm: Algorithm::new_unchecked(alloc, algorithm.as_str())?,
             value,
         })
-    }
-}
-
-impl FromXml for Signer {
-    ghost use Rattle.cdx_models.specs.Trees.{signer};
-    ghost use Rattle.cdx_schema.specs.Kinds.{a_record};
-
-    ghost kind = { a_record signer };
-
-    ghost depth = { λ d. d };
-
-    fn read_xml_element(
-        alloc: Global,
-        reader: &mut EventReader<'_>,
-        v: SpecVersion,
-        element: &OwnedName,
-        attributes: &List<OwnedAttribute>,
-    ) -> Result<Signer, XmlReadError> {
-        read_whole(alloc, reader, v, element, attributes)
     }
 }
 
@@ -162,11 +138,11 @@ impl Children for SignaturePart {
 
 /// The signers or the chain that stands last in the element, or else the single signer.
 impl FromXml for Signature {
-    ghost use Rattle.cdx_schema.specs.Kinds.{a_signature};
-
-    ghost kind = { a_signature };
+    ghost use Rattle.std.specs.Prelude.{refl};
 
     ghost depth = { λ d. d };
+
+    ghost at_top = { refl };
 
     fn read_xml_element(
         alloc: Global,

@@ -1,5 +1,7 @@
 //! Signatures in the JSON Signature Format.
 
+ghost use Rattle.cdx_models.specs.Trees.{signer};
+ghost use Rattle.cdx_schema.specs.Kinds.{a_signature, a_text};
 ghost use Rattle.std.specs.Prelude.{◌≡◌, refl, IfOk};
 ghost use Rattle.cdx_signature.specs.Records.{algorithm_tree, signer_tree, signature_tree, signature_there};
 ghost use Rattle.cdx_signature.specs.Signatures.{algorithm_of, algorithm_name, signer_of};
@@ -8,24 +10,39 @@ ghost use Rattle.cdx_models.specs.SameLaws.{same_laws};
 
 use cdx_events::{List, Text};
 use cdx_models::HasTree;
+use cdx_schema::{Kinded, Record};
 use std::alloc::{AllocError, Global};
 
 /// An algorithm of a signature, by its name in the JSON Signature Format. Two that have the same name are equal.
 #[derive(Debug, Drop)]
 pub enum Algorithm {
+    /// RSASSA-PKCS1-v1_5 with SHA-256.
     RS256,
+    /// RSASSA-PKCS1-v1_5 with SHA-384.
     RS384,
+    /// RSASSA-PKCS1-v1_5 with SHA-512.
     RS512,
+    /// RSASSA-PSS with SHA-256.
     PS256,
+    /// RSASSA-PSS with SHA-384.
     PS384,
+    /// RSASSA-PSS with SHA-512.
     PS512,
+    /// ECDSA with SHA-256.
     ES256,
+    /// ECDSA with SHA-384.
     ES384,
+    /// ECDSA with SHA-512.
     ES512,
+    /// EdDSA on the curve Ed25519.
     Ed25519,
+    /// EdDSA on the curve Ed448.
     Ed448,
+    /// HMAC with SHA-256.
     HS256,
+    /// HMAC with SHA-384.
     HS384,
+    /// HMAC with SHA-512.
     HS512,
     /// Any other algorithm, by its name.
     Unknown(Text),
@@ -112,6 +129,10 @@ impl HasTree for Algorithm {
     }
 }
 
+impl Kinded for Algorithm {
+    ghost kind = { a_text };
+}
+
 impl PartialEq for Algorithm {
     ghost eq = { λ a b. same (algorithm_tree a) (algorithm_tree b) };
 
@@ -125,6 +146,7 @@ impl PartialEq for Algorithm {
 /// One signature: its algorithm and its value.
 #[derive(Debug)]
 pub struct Signer {
+    /// How it was signed.
     pub algorithm: Algorithm,
     /// The signature itself, in base64url by the JSON Signature Format, which isn't checked.
     pub value: Text,
@@ -169,6 +191,14 @@ impl HasTree for Signer {
     }
 }
 
+impl Record for Signer {
+    ghost name = { signer };
+
+    ghost is_record = { λ x. refl };
+
+    ghost plain = { refl };
+}
+
 impl PartialEq for Signer {
     ghost eq = { λ a b. same (signer_tree a) (signer_tree b) };
 
@@ -186,6 +216,7 @@ pub enum Signature {
     Signers(List<Signer>),
     /// Signatures of which each also signs the ones before it.
     Chain(List<Signer>),
+    /// One signer.
     Single(Signer),
 }
 
@@ -238,6 +269,10 @@ impl HasTree for Signature {
             (Signature::Single(one), Signature::Single(other)) => one.same(other),
         }
     }
+}
+
+impl Kinded for Signature {
+    ghost kind = { a_signature };
 }
 
 impl PartialEq for Signature {

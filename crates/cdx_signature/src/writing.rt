@@ -1,12 +1,12 @@
 //! Signatures as XML events.
 
 ghost use Rattle.std.specs.Prelude.{refl, codes, [], ◌∷◌, ◌++◌};
-ghost use Rattle.cdx_signature.specs.Records.{signer_tree, signature_tree};
+ghost use Rattle.cdx_signature.specs.Records.{signer_tree};
 ghost use Rattle.cdx_models.specs.Trees.{signer, list_tree};
-ghost use Rattle.cdx_schema.specs.Kinds.{Lists, a_text, a_record, a_list, a_signature};
+ghost use Rattle.cdx_schema.specs.Kinds.{Lists, a_record, a_list};
 ghost use Rattle.cdx_write.specs.Listed.{IsListOf};
 ghost use Rattle.cdx_write.specs.Lone.{text_is_lone};
-ghost use Rattle.cdx_write.specs.Spelling.{tagged, untagged, written};
+ghost use Rattle.cdx_write.specs.Spelling.{untagged, written};
 ghost use Rattle.cdx_write.specs.WillWrite.{will_write};
 ghost use Rattle.cdx_write.specs.Writing.{Appends, start_tag, end_tag};
 
@@ -14,14 +14,10 @@ use crate::signature::{Algorithm, Signature, Signer};
 use cdx_events::{EventWriter, List, OwnedAttribute, Text};
 use cdx_models::{SpecVersion, XmlWriteError};
 use cdx_write::{
-    Element, Item, Kinded, Lone, Record, ToXml, put_required_child, write_close_tag, write_list,
-    write_lone, write_record, write_start_tag,
+    Element, HasContent, Item, Lone, Tagged, ToXml, WrittenRecord, put_required_child,
+    write_close_tag, write_list, write_lone, write_record, write_start_tag,
 };
 use std::alloc::{AllocError, Global};
-
-impl Kinded for Algorithm {
-    ghost kind = { a_text };
-}
 
 impl Lone for Algorithm {
     ghost lone = { λ x. text_is_lone _ };
@@ -45,12 +41,8 @@ impl Element for Algorithm {
     }
 }
 
-impl Record for Signer {
-    ghost name = { signer };
-
-    ghost is_plain = { λ x. (refl, λ xs. refl) };
-
-    #[tactic(auto, unfolding(cdx_write::specs::WrittenRows::attributes_put, cdx_schema::specs::Table::rows))]
+impl WrittenRecord for Signer {
+    #[tactic(auto, unfolding(cdx_write::proofs::OnRows::on_rows))]
     fn attributes(
         &self,
         alloc: Global,
@@ -70,38 +62,20 @@ impl Record for Signer {
     }
 }
 
-impl Kinded for Signer {
-    ghost kind = { a_record signer };
-}
-
-impl Element for Signer {
-    ghost keeps = { refl };
-
-    fn write_as(
-        &self,
-        alloc: Global,
-        writer: &mut EventWriter,
-        w: SpecVersion,
-        tag: &str,
-    ) -> Result<(), XmlWriteError> {
-        write_record(alloc, writer, w, tag, self)
-    }
-}
-
 impl Item for Signer {
     fn is_passed_over(&self) -> bool {
         false
     }
 }
 
+impl HasContent for Signer {
+    fn has_content(&self) -> bool {
+        true
+    }
+}
+
 impl ToXml for Signer {
-    ghost shown = { signer_tree };
-
-    ghost kind = { a_record signer };
-
     ghost tag = { untagged };
-
-    ghost counts = { λ x. will_write (signer_tree x) };
 
     /// Without a tag, which whatever holds the signer writes.
     fn write_xml_element(
@@ -128,16 +102,15 @@ fn write_signers(
     item_tag: &str,
     held: &List<Signer>,
 ) -> Result<(), XmlWriteError>
-    ensures { (l : Lists) → IsListOf (a_record signer) item_tag.now l → Appends writer.old writer.new
-        (start_tag tag.now ∷ written (list_tree signer_tree held.now) w name.now (a_list l) ++ end_tag tag.now ∷ []) result }
+    ensures { (l : Lists) → IsListOf (a_record signer) item_tag.now l
+        → Appends writer.old writer.new (start_tag tag.now
+        ∷ written (list_tree signer_tree held.now) w name.now (a_list l) ++ end_tag tag.now
+        ∷ [])
+        result }
 {
     write_start_tag(alloc, writer, tag)?;
     write_list(alloc, writer, w, name, item_tag, held)?;
     write_close_tag(alloc, writer, tag)
-}
-
-impl Kinded for Signature {
-    ghost kind = { a_signature };
 }
 
 impl Element for Signature {
@@ -160,25 +133,16 @@ impl Element for Signature {
     }
 }
 
-impl ToXml for Signature {
-    ghost shown = { signature_tree };
-
-    ghost kind = { a_signature };
-
-    ghost tag = { tagged (codes "signature") };
-
-    ghost counts = { λ x. will_write (signature_tree x) };
-
-    fn write_xml_element(
-        &self,
-        alloc: Global,
-        writer: &mut EventWriter,
-        w: SpecVersion,
-    ) -> Result<(), XmlWriteError> {
-        self.write_as(alloc, writer, w, "signature")
-    }
-
-    fn will_write(&self) -> bool {
+impl HasContent for Signature {
+    fn has_content(&self) -> bool {
         true
+    }
+}
+
+impl Tagged for Signature {
+    ghost own_name = { codes "signature" };
+
+    fn own_name() -> &'static str {
+        "signature"
     }
 }

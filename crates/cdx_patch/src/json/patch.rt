@@ -1,62 +1,20 @@
 //! Patches in JSON.
 
-ghost use Rattle.std.specs.Prelude.{refl};
-ghost use Rattle.cdx_models.specs.Trees.{diff, patch};
-ghost use Rattle.cdx_schema.specs.Kinds.{patches, a_record, a_list};
-ghost use Rattle.cdx_json.specs.Stays.{list_stays, record_stays};
+ghost use Rattle.cdx_schema.specs.Kinds.{patches};
+ghost use Rattle.cdx_json.specs.Stays.{list_stays};
 
 use crate::{Diff, Patch, Patches};
 use cdx_json::{
-    Depth, FromJson, Kept, Kinded, Record, ToJson, keep_list, keep_optional_list, keep_record,
-    keep_row, list_from_value, list_to_value, optional_list_row, optional_row, put_optional_list,
-    put_required, put_row, read_record, required_row, write_record,
+    Depth, FromJson, JsonRecord, Kept, ToJson, keep_list, keep_optional_list, keep_row,
+    list_from_value, list_to_value, optional_list_row, optional_row, put_optional_list,
+    put_required, put_row, required_row,
 };
 use cdx_models::{JsonReadError, SpecVersion};
 use serde_json::{Map, Value};
 use std::alloc::{AllocError, Global};
 
-impl Kinded for Diff {
-    ghost kind = { a_record diff };
-}
-
-impl FromJson for Diff {
-    fn from_json_at(
-        alloc: Global,
-        value: &Value,
-        version: SpecVersion,
-        depth: Depth,
-    ) -> Result<Diff, JsonReadError> {
-        read_record(alloc, value, version, depth)
-    }
-}
-
-impl Kept for Diff {
-    ghost stays = { λ w l x. record_stays w l diff _ };
-
-    fn kept_as(
-        &self,
-        alloc: Global,
-        version: SpecVersion,
-        label: SpecVersion,
-    ) -> Result<Diff, AllocError> {
-        keep_record(self, alloc, version, label)
-    }
-}
-
-impl ToJson for Diff {
-    fn to_value(&self, alloc: Global, version: SpecVersion) -> Result<Value, AllocError> {
-        write_record(self, alloc, version)
-    }
-}
-
-impl Record for Diff {
-    ghost name = { diff };
-
-    ghost is_plain = { λ x. (refl, refl) };
-
-    ghost flat = { λ d. (refl, refl) };
-
-    #[tactic(auto, unfolding(cdx_json::specs::ByRows::rows_made, cdx_schema::specs::Table::rows, cdx_schema::specs::Table::list))]
+impl JsonRecord for Diff {
+    #[tactic(auto, unfolding(cdx_json::proofs::OnRows::on_rows))]
     fn from_members(
         alloc: Global,
         map: &Map<String, Value>,
@@ -68,7 +26,7 @@ impl Record for Diff {
         Ok(Diff { text, url })
     }
 
-    #[tactic(auto, unfolding(cdx_json::specs::KeptRows::rows_held, cdx_schema::specs::Table::rows, cdx_schema::specs::Table::list))]
+    #[tactic(auto, unfolding(cdx_json::proofs::OnRows::on_rows))]
     fn kept_rows(
         &self,
         alloc: Global,
@@ -81,7 +39,7 @@ impl Record for Diff {
         })
     }
 
-    #[tactic(auto, unfolding(cdx_json::specs::KeptRows::rows_put, cdx_schema::specs::Table::rows, cdx_schema::specs::Table::list))]
+    #[tactic(auto, unfolding(cdx_json::proofs::OnRows::on_rows))]
     fn put_members(
         &self,
         alloc: Global,
@@ -93,48 +51,8 @@ impl Record for Diff {
     }
 }
 
-impl Kinded for Patch {
-    ghost kind = { a_record patch };
-}
-
-impl FromJson for Patch {
-    fn from_json_at(
-        alloc: Global,
-        value: &Value,
-        version: SpecVersion,
-        depth: Depth,
-    ) -> Result<Patch, JsonReadError> {
-        read_record(alloc, value, version, depth)
-    }
-}
-
-impl Kept for Patch {
-    ghost stays = { λ w l x. record_stays w l patch _ };
-
-    fn kept_as(
-        &self,
-        alloc: Global,
-        version: SpecVersion,
-        label: SpecVersion,
-    ) -> Result<Patch, AllocError> {
-        keep_record(self, alloc, version, label)
-    }
-}
-
-impl ToJson for Patch {
-    fn to_value(&self, alloc: Global, version: SpecVersion) -> Result<Value, AllocError> {
-        write_record(self, alloc, version)
-    }
-}
-
-impl Record for Patch {
-    ghost name = { patch };
-
-    ghost is_plain = { λ x. (refl, refl) };
-
-    ghost flat = { λ d. (refl, refl) };
-
-    #[tactic(auto, unfolding(cdx_json::specs::ByRows::rows_made, cdx_schema::specs::Table::rows, cdx_schema::specs::Table::list))]
+impl JsonRecord for Patch {
+    #[tactic(auto, unfolding(cdx_json::proofs::OnRows::on_rows))]
     fn from_members(
         alloc: Global,
         map: &Map<String, Value>,
@@ -151,7 +69,7 @@ impl Record for Patch {
         })
     }
 
-    #[tactic(auto, unfolding(cdx_json::specs::KeptRows::rows_held, cdx_schema::specs::Table::rows, cdx_schema::specs::Table::list))]
+    #[tactic(auto, unfolding(cdx_json::proofs::OnRows::on_rows))]
     fn kept_rows(
         &self,
         alloc: Global,
@@ -165,7 +83,7 @@ impl Record for Patch {
         })
     }
 
-    #[tactic(auto, unfolding(cdx_json::specs::KeptRows::rows_put, cdx_schema::specs::Table::rows, cdx_schema::specs::Table::list))]
+    #[tactic(auto, unfolding(cdx_json::proofs::OnRows::on_rows))]
     fn put_members(
         &self,
         alloc: Global,
@@ -176,10 +94,6 @@ impl Record for Patch {
         put_row(alloc, map, "diff", &self.diff, version)?;
         put_optional_list(alloc, map, "resolves", &self.resolves, version)
     }
-}
-
-impl Kinded for Patches {
-    ghost kind = { a_list patches };
 }
 
 impl FromJson for Patches {

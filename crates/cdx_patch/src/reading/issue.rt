@@ -2,9 +2,7 @@
 
 use crate::{Issue, Source};
 use cdx_events::{EventReader, List, OwnedAttribute, OwnedName};
-use cdx_leaf::{
-    Children, FromXml, Record, Rule, Taken, attribute_or_error, read_whole, take_list, take_one,
-};
+use cdx_leaf::{Children, Rule, Taken, XmlRecord, attribute_or_error, take_list, take_one};
 use cdx_models::{SpecVersion, XmlReadError};
 use std::alloc::Global;
 
@@ -39,18 +37,14 @@ impl Children for Source {
     }
 }
 
-impl Record for Source {
+impl XmlRecord for Source {
     ghost use Rattle.std.specs.Prelude.{refl};
     ghost use Rattle.cdx_models.specs.Trees.{source};
-    ghost use Rattle.cdx_patch.specs.Plain.{source_plain};
+    ghost use Rattle.cdx_leaf.specs.RowContents.{content_is};
 
     type Part = Source;
 
-    ghost name = { source };
-
-    ghost plain = { source_plain };
-
-    ghost is_record = { λ x. refl };
+    ghost no_content = { content_is source };
 
     ghost by_rows = { λ part. refl };
 
@@ -77,25 +71,6 @@ impl Record for Source {
         part: Source,
     ) -> Result<Source, XmlReadError> {
         Ok(part)
-    }
-}
-
-impl FromXml for Source {
-    ghost use Rattle.cdx_models.specs.Trees.{source};
-    ghost use Rattle.cdx_schema.specs.Kinds.{a_record};
-
-    ghost kind = { a_record source };
-
-    ghost depth = { λ d. d };
-
-    fn read_xml_element(
-        alloc: Global,
-        reader: &mut EventReader<'_>,
-        v: SpecVersion,
-        element: &OwnedName,
-        attributes: &List<OwnedAttribute>,
-    ) -> Result<Source, XmlReadError> {
-        read_whole(alloc, reader, v, element, attributes)
     }
 }
 
@@ -141,18 +116,14 @@ impl Children for Issue {
     }
 }
 
-impl Record for Issue {
+impl XmlRecord for Issue {
     ghost use Rattle.std.specs.Prelude.{refl};
     ghost use Rattle.cdx_models.specs.Trees.{issue};
-    ghost use Rattle.cdx_patch.specs.Plain.{issue_plain};
+    ghost use Rattle.cdx_leaf.specs.RowContents.{content_is};
 
     type Part = Issue;
 
-    ghost name = { issue };
-
-    ghost plain = { issue_plain };
-
-    ghost is_record = { λ x. refl };
+    ghost no_content = { content_is issue };
 
     ghost by_rows = { λ part. refl };
 
@@ -183,24 +154,5 @@ impl Record for Issue {
         part: Issue,
     ) -> Result<Issue, XmlReadError> {
         Ok(part)
-    }
-}
-
-impl FromXml for Issue {
-    ghost use Rattle.cdx_models.specs.Trees.{issue};
-    ghost use Rattle.cdx_schema.specs.Kinds.{a_record};
-
-    ghost kind = { a_record issue };
-
-    ghost depth = { λ d. d };
-
-    fn read_xml_element(
-        alloc: Global,
-        reader: &mut EventReader<'_>,
-        v: SpecVersion,
-        element: &OwnedName,
-        attributes: &List<OwnedAttribute>,
-    ) -> Result<Issue, XmlReadError> {
-        read_whole(alloc, reader, v, element, attributes)
     }
 }

@@ -3,8 +3,8 @@
 use crate::{Diff, Patch, Patches};
 use cdx_events::{EventReader, List, OwnedAttribute, OwnedName};
 use cdx_leaf::{
-    Children, FromXml, Record, Rule, Taken, attribute_or_error, read_lax_validation_list_tag,
-    read_whole, take_list, take_one,
+    Children, FromXml, Rule, Taken, XmlRecord, attribute_or_error, read_lax_validation_list_tag,
+    take_list, take_one,
 };
 use cdx_models::{SpecVersion, XmlReadError};
 use std::alloc::Global;
@@ -40,18 +40,14 @@ impl Children for Diff {
     }
 }
 
-impl Record for Diff {
+impl XmlRecord for Diff {
     ghost use Rattle.std.specs.Prelude.{refl};
     ghost use Rattle.cdx_models.specs.Trees.{diff};
-    ghost use Rattle.cdx_patch.specs.Plain.{diff_plain};
+    ghost use Rattle.cdx_leaf.specs.RowContents.{content_is};
 
     type Part = Diff;
 
-    ghost name = { diff };
-
-    ghost plain = { diff_plain };
-
-    ghost is_record = { λ x. refl };
+    ghost no_content = { content_is diff };
 
     ghost by_rows = { λ part. refl };
 
@@ -78,25 +74,6 @@ impl Record for Diff {
         part: Diff,
     ) -> Result<Diff, XmlReadError> {
         Ok(part)
-    }
-}
-
-impl FromXml for Diff {
-    ghost use Rattle.cdx_models.specs.Trees.{diff};
-    ghost use Rattle.cdx_schema.specs.Kinds.{a_record};
-
-    ghost kind = { a_record diff };
-
-    ghost depth = { λ d. d };
-
-    fn read_xml_element(
-        alloc: Global,
-        reader: &mut EventReader<'_>,
-        v: SpecVersion,
-        element: &OwnedName,
-        attributes: &List<OwnedAttribute>,
-    ) -> Result<Diff, XmlReadError> {
-        read_whole(alloc, reader, v, element, attributes)
     }
 }
 
@@ -139,18 +116,14 @@ impl Children for Patch {
     }
 }
 
-impl Record for Patch {
+impl XmlRecord for Patch {
     ghost use Rattle.std.specs.Prelude.{refl};
     ghost use Rattle.cdx_models.specs.Trees.{patch};
-    ghost use Rattle.cdx_patch.specs.Plain.{patch_plain};
+    ghost use Rattle.cdx_leaf.specs.RowContents.{content_is};
 
     type Part = Patch;
 
-    ghost name = { patch };
-
-    ghost plain = { patch_plain };
-
-    ghost is_record = { λ x. refl };
+    ghost no_content = { content_is patch };
 
     ghost by_rows = { λ part. refl };
 
@@ -181,31 +154,12 @@ impl Record for Patch {
     }
 }
 
-impl FromXml for Patch {
-    ghost use Rattle.cdx_models.specs.Trees.{patch};
-    ghost use Rattle.cdx_schema.specs.Kinds.{a_record};
-
-    ghost kind = { a_record patch };
-
-    ghost depth = { λ d. d };
-
-    fn read_xml_element(
-        alloc: Global,
-        reader: &mut EventReader<'_>,
-        v: SpecVersion,
-        element: &OwnedName,
-        attributes: &List<OwnedAttribute>,
-    ) -> Result<Patch, XmlReadError> {
-        read_whole(alloc, reader, v, element, attributes)
-    }
-}
-
 impl FromXml for Patches {
-    ghost use Rattle.cdx_schema.specs.Kinds.{a_list, patches};
-
-    ghost kind = { a_list patches };
+    ghost use Rattle.std.specs.Prelude.{refl};
 
     ghost depth = { λ d. d };
+
+    ghost at_top = { refl };
 
     fn read_xml_element(
         alloc: Global,

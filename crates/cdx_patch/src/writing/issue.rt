@@ -1,32 +1,19 @@
 //! Issues written as XML.
 
-ghost use Rattle.std.specs.Prelude.{refl, codes};
-ghost use Rattle.cdx_models.specs.Trees.{source, issue};
-ghost use Rattle.cdx_schema.specs.Kinds.{a_record};
-ghost use Rattle.cdx_write.specs.Spelling.{tagged};
+ghost use Rattle.std.specs.Prelude.{codes};
 ghost use Rattle.cdx_write.specs.Stays.{source_keeps_hollow};
-ghost use Rattle.cdx_write.specs.WillWrite.{will_write};
-ghost use Rattle.cdx_patch.specs.Records.{source_tree, issue_tree};
 
 use crate::{Issue, Source};
 use cdx_events::{EventWriter, List, OwnedAttribute};
 use cdx_models::{SpecVersion, XmlWriteError};
 use cdx_write::{
-    Element, Filled, Item, Kinded, Record, ToXml, is_there, put_child, put_filled_child, put_list,
-    put_required_attribute, write_record,
+    Filled, HasContent, Item, Tagged, WrittenRecord, is_there, put_child, put_filled_child,
+    put_list, put_required_attribute,
 };
 use std::alloc::{AllocError, Global};
 
-impl Kinded for Source {
-    ghost kind = { a_record source };
-}
-
-impl Record for Source {
-    ghost name = { source };
-
-    ghost is_plain = { λ x. (refl, λ xs. refl) };
-
-    #[tactic(auto, unfolding(cdx_write::specs::WrittenRows::attributes_put, cdx_schema::specs::Table::rows))]
+impl WrittenRecord for Source {
+    #[tactic(auto, unfolding(cdx_write::proofs::OnRows::on_rows))]
     fn attributes(
         &self,
         alloc: Global,
@@ -35,6 +22,7 @@ impl Record for Source {
         Ok(List::new(alloc))
     }
 
+    #[tactic(auto, unfolding(cdx_write::proofs::OnRows::on_rows), using(cdx_write::proofs::OnRows::in_turn))]
     fn write_rows(
         &self,
         alloc: Global,
@@ -46,62 +34,31 @@ impl Record for Source {
     }
 }
 
-impl Element for Source {
-    ghost keeps = { refl };
-
-    fn write_as(
-        &self,
-        alloc: Global,
-        writer: &mut EventWriter,
-        w: SpecVersion,
-        tag: &str,
-    ) -> Result<(), XmlWriteError> {
-        write_record(alloc, writer, w, tag, self)
-    }
-}
-
 impl Filled for Source {
     ghost keeps_hollow = { λ x. source_keeps_hollow _ };
 
     fn is_hollow(&self) -> bool {
-        !self.will_write()
+        !self.has_content()
     }
 }
 
-impl ToXml for Source {
-    ghost shown = { source_tree };
-
-    ghost kind = { a_record source };
-
-    ghost tag = { tagged (codes "source") };
-
-    ghost counts = { λ x. will_write (source_tree x) };
-
-    fn write_xml_element(
-        &self,
-        alloc: Global,
-        writer: &mut EventWriter,
-        w: SpecVersion,
-    ) -> Result<(), XmlWriteError> {
-        write_record(alloc, writer, w, "source", self)
-    }
-
+impl HasContent for Source {
     /// False exactly where name and url are absent.
-    fn will_write(&self) -> bool {
+    fn has_content(&self) -> bool {
         is_there(&self.name) || is_there(&self.url)
     }
 }
 
-impl Kinded for Issue {
-    ghost kind = { a_record issue };
+impl Tagged for Source {
+    ghost own_name = { codes "source" };
+
+    fn own_name() -> &'static str {
+        "source"
+    }
 }
 
-impl Record for Issue {
-    ghost name = { issue };
-
-    ghost is_plain = { λ x. (refl, λ xs. refl) };
-
-    #[tactic(auto, unfolding(cdx_write::specs::WrittenRows::attributes_put, cdx_schema::specs::Table::rows))]
+impl WrittenRecord for Issue {
+    #[tactic(auto, unfolding(cdx_write::proofs::OnRows::on_rows))]
     fn attributes(
         &self,
         alloc: Global,
@@ -112,6 +69,7 @@ impl Record for Issue {
         Ok(attributes)
     }
 
+    #[tactic(auto, unfolding(cdx_write::proofs::OnRows::on_rows), using(cdx_write::proofs::OnRows::in_turn))]
     fn write_rows(
         &self,
         alloc: Global,
@@ -126,45 +84,22 @@ impl Record for Issue {
     }
 }
 
-impl Element for Issue {
-    ghost keeps = { refl };
-
-    fn write_as(
-        &self,
-        alloc: Global,
-        writer: &mut EventWriter,
-        w: SpecVersion,
-        tag: &str,
-    ) -> Result<(), XmlWriteError> {
-        write_record(alloc, writer, w, tag, self)
-    }
-}
-
 impl Item for Issue {
     fn is_passed_over(&self) -> bool {
         false
     }
 }
 
-impl ToXml for Issue {
-    ghost shown = { issue_tree };
-
-    ghost kind = { a_record issue };
-
-    ghost tag = { tagged (codes "issue") };
-
-    ghost counts = { λ x. will_write (issue_tree x) };
-
-    fn write_xml_element(
-        &self,
-        alloc: Global,
-        writer: &mut EventWriter,
-        w: SpecVersion,
-    ) -> Result<(), XmlWriteError> {
-        write_record(alloc, writer, w, "issue", self)
-    }
-
-    fn will_write(&self) -> bool {
+impl HasContent for Issue {
+    fn has_content(&self) -> bool {
         true
+    }
+}
+
+impl Tagged for Issue {
+    ghost own_name = { codes "issue" };
+
+    fn own_name() -> &'static str {
+        "issue"
     }
 }

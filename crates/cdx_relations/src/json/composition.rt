@@ -1,24 +1,19 @@
 //! Compositions in JSON.
 
-ghost use Rattle.std.specs.Prelude.{refl};
 ghost use Rattle.cdx_models.specs.Trees.{composition};
-ghost use Rattle.cdx_schema.specs.Kinds.{compositions, a_record, a_list, a_reference};
-ghost use Rattle.cdx_json.specs.Stays.{reference_stays, list_stays, record_stays};
+ghost use Rattle.cdx_schema.specs.Kinds.{compositions};
+ghost use Rattle.cdx_json.specs.Stays.{reference_stays, list_stays};
 
 use crate::composition::{BomReference, Composition, Compositions};
 use cdx_json::{
-    Depth, FromJson, Kept, Kinded, Record, ToJson, here, keep_list, keep_optional_list,
-    keep_optional_list_since, keep_record, keep_row_since, list_from_value, list_to_value,
-    optional_list_row, optional_list_row_since, optional_row_since, put_optional_list,
-    put_optional_list_since, put_required, put_row_since, read_record, required_row, write_record,
+    Depth, FromJson, JsonRecord, Kept, ToJson, here, keep_list, keep_optional_list,
+    keep_optional_list_since, keep_row_since, list_from_value, list_to_value, optional_list_row,
+    optional_list_row_since, optional_row_since, put_optional_list, put_optional_list_since,
+    put_required, put_row_since, required_row,
 };
 use cdx_models::{HasTree, JsonKind, JsonReadError, SpecVersion};
 use serde_json::{Map, Value};
 use std::alloc::{AllocError, Global};
-
-impl Kinded for BomReference {
-    ghost kind = { a_reference };
-}
 
 impl FromJson for BomReference {
     fn from_json_at(
@@ -49,54 +44,14 @@ impl Kept for BomReference {
 }
 
 impl ToJson for BomReference {
-    #[tactic(auto, unfolding(cdx_schema::specs::JsonSpelling::jspell, cdx_schema::specs::Keeping::kept))]
+    #[tactic(auto, unfolding(cdx_json::proofs::OnRows::on_spelled))]
     fn to_value(&self, alloc: Global, version: SpecVersion) -> Result<Value, AllocError> {
         Value::try_from_str(alloc, self.0.as_str())
     }
 }
 
-impl Kinded for Composition {
-    ghost kind = { a_record composition };
-}
-
-impl FromJson for Composition {
-    fn from_json_at(
-        alloc: Global,
-        value: &Value,
-        version: SpecVersion,
-        depth: Depth,
-    ) -> Result<Composition, JsonReadError> {
-        read_record(alloc, value, version, depth)
-    }
-}
-
-impl Kept for Composition {
-    ghost stays = { λ w l x. record_stays w l composition _ };
-
-    fn kept_as(
-        &self,
-        alloc: Global,
-        version: SpecVersion,
-        label: SpecVersion,
-    ) -> Result<Composition, AllocError> {
-        keep_record(self, alloc, version, label)
-    }
-}
-
-impl ToJson for Composition {
-    fn to_value(&self, alloc: Global, version: SpecVersion) -> Result<Value, AllocError> {
-        write_record(self, alloc, version)
-    }
-}
-
-impl Record for Composition {
-    ghost name = { composition };
-
-    ghost is_plain = { λ x. (refl, refl) };
-
-    ghost flat = { λ d. (refl, refl) };
-
-    #[tactic(auto, unfolding(cdx_json::specs::ByRows::rows_made, cdx_schema::specs::Table::rows, cdx_schema::specs::Table::list))]
+impl JsonRecord for Composition {
+    #[tactic(auto, unfolding(cdx_json::proofs::OnRows::on_rows))]
     fn from_members(
         alloc: Global,
         map: &Map<String, Value>,
@@ -133,7 +88,7 @@ impl Record for Composition {
         })
     }
 
-    #[tactic(auto, unfolding(cdx_json::specs::KeptRows::rows_held, cdx_schema::specs::Table::rows, cdx_schema::specs::Table::list))]
+    #[tactic(auto, unfolding(cdx_json::proofs::OnRows::on_rows))]
     fn kept_rows(
         &self,
         alloc: Global,
@@ -156,7 +111,7 @@ impl Record for Composition {
         })
     }
 
-    #[tactic(auto, unfolding(cdx_json::specs::KeptRows::rows_put, cdx_schema::specs::Table::rows, cdx_schema::specs::Table::list))]
+    #[tactic(auto, unfolding(cdx_json::proofs::OnRows::on_rows))]
     fn put_members(
         &self,
         alloc: Global,
@@ -192,10 +147,6 @@ impl Record for Composition {
         )?;
         Ok(())
     }
-}
-
-impl Kinded for Compositions {
-    ghost kind = { a_list compositions };
 }
 
 impl FromJson for Compositions {

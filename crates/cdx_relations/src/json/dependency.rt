@@ -1,61 +1,20 @@
 //! Dependencies in JSON.
 
-ghost use Rattle.std.specs.Prelude.{refl};
 ghost use Rattle.cdx_models.specs.Trees.{dependency};
-ghost use Rattle.cdx_schema.specs.Kinds.{dependencies, a_record, a_list};
-ghost use Rattle.cdx_json.specs.Stays.{list_stays, record_stays};
+ghost use Rattle.cdx_schema.specs.Kinds.{dependencies};
+ghost use Rattle.cdx_json.specs.Stays.{list_stays};
 
 use crate::dependency::{Dependencies, Dependency};
 use cdx_json::{
-    Depth, FromJson, Kept, Kinded, Record, ToJson, keep_list, keep_record, list_from_value,
-    list_row, list_to_value, put_list, put_required, read_record, required_row, write_record,
+    Depth, FromJson, JsonRecord, Kept, ToJson, keep_list, list_from_value, list_row, list_to_value,
+    put_list, put_required, required_row,
 };
 use cdx_models::{JsonReadError, SpecVersion};
 use serde_json::{Map, Value};
 use std::alloc::{AllocError, Global};
 
-impl Kinded for Dependency {
-    ghost kind = { a_record dependency };
-}
-
-impl FromJson for Dependency {
-    fn from_json_at(
-        alloc: Global,
-        value: &Value,
-        version: SpecVersion,
-        depth: Depth,
-    ) -> Result<Dependency, JsonReadError> {
-        read_record(alloc, value, version, depth)
-    }
-}
-
-impl Kept for Dependency {
-    ghost stays = { λ w l x. record_stays w l dependency _ };
-
-    fn kept_as(
-        &self,
-        alloc: Global,
-        version: SpecVersion,
-        label: SpecVersion,
-    ) -> Result<Dependency, AllocError> {
-        keep_record(self, alloc, version, label)
-    }
-}
-
-impl ToJson for Dependency {
-    fn to_value(&self, alloc: Global, version: SpecVersion) -> Result<Value, AllocError> {
-        write_record(self, alloc, version)
-    }
-}
-
-impl Record for Dependency {
-    ghost name = { dependency };
-
-    ghost is_plain = { λ x. (refl, refl) };
-
-    ghost flat = { λ d. (refl, refl) };
-
-    #[tactic(auto, unfolding(cdx_json::specs::ByRows::rows_made, cdx_schema::specs::Table::rows, cdx_schema::specs::Table::list))]
+impl JsonRecord for Dependency {
+    #[tactic(auto, unfolding(cdx_json::proofs::OnRows::on_rows))]
     fn from_members(
         alloc: Global,
         map: &Map<String, Value>,
@@ -70,7 +29,7 @@ impl Record for Dependency {
         })
     }
 
-    #[tactic(auto, unfolding(cdx_json::specs::KeptRows::rows_held, cdx_schema::specs::Table::rows, cdx_schema::specs::Table::list))]
+    #[tactic(auto, unfolding(cdx_json::proofs::OnRows::on_rows))]
     fn kept_rows(
         &self,
         alloc: Global,
@@ -83,7 +42,7 @@ impl Record for Dependency {
         })
     }
 
-    #[tactic(auto, unfolding(cdx_json::specs::KeptRows::rows_put, cdx_schema::specs::Table::rows, cdx_schema::specs::Table::list))]
+    #[tactic(auto, unfolding(cdx_json::proofs::OnRows::on_rows))]
     fn put_members(
         &self,
         alloc: Global,
@@ -93,10 +52,6 @@ impl Record for Dependency {
         put_required(alloc, map, "ref", &self.dependency_ref, version)?;
         put_list(alloc, map, "dependsOn", &self.depends_on, version)
     }
-}
-
-impl Kinded for Dependencies {
-    ghost kind = { a_list dependencies };
 }
 
 impl FromJson for Dependencies {

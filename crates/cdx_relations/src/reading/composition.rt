@@ -4,18 +4,18 @@ use crate::composition::{BomReference, Composition, Compositions};
 use crate::parts::CompositionPart;
 use cdx_events::{EventReader, List, OwnedAttribute, OwnedName};
 use cdx_leaf::{
-    Children, FromXml, Record, Rule, Taken, attribute_or_error, attribute_since, child_or_error,
-    closing_tag_or_error, read_lax_validation_list_tag, read_whole, take_list, take_one,
+    Children, FromXml, Rule, Taken, XmlRecord, attribute_or_error, attribute_since, child_or_error,
+    closing_tag_or_error, read_lax_validation_list_tag, take_list, take_one,
 };
 use cdx_models::{SpecVersion, XmlReadError};
 use std::alloc::Global;
 
 impl FromXml for BomReference {
-    ghost use Rattle.cdx_schema.specs.Kinds.{a_reference};
-
-    ghost kind = { a_reference };
+    ghost use Rattle.std.specs.Prelude.{refl};
 
     ghost depth = { λ d. d };
+
+    ghost at_top = { refl };
 
     fn read_xml_element(
         alloc: Global,
@@ -98,18 +98,14 @@ impl Children for CompositionPart {
     }
 }
 
-impl Record for Composition {
+impl XmlRecord for Composition {
     ghost use Rattle.std.specs.Prelude.{refl};
     ghost use Rattle.cdx_models.specs.Trees.{composition};
-    ghost use Rattle.cdx_leaf.specs.Plain.{composition_plain};
+    ghost use Rattle.cdx_leaf.specs.RowContents.{content_is};
 
     type Part = CompositionPart;
 
-    ghost name = { composition };
-
-    ghost plain = { composition_plain };
-
-    ghost is_record = { λ x. refl };
+    ghost no_content = { content_is composition };
 
     ghost by_rows = { λ part. refl };
 
@@ -151,31 +147,12 @@ impl Record for Composition {
     }
 }
 
-impl FromXml for Composition {
-    ghost use Rattle.cdx_models.specs.Trees.{composition};
-    ghost use Rattle.cdx_schema.specs.Kinds.{a_record};
-
-    ghost kind = { a_record composition };
-
-    ghost depth = { λ d. d };
-
-    fn read_xml_element(
-        alloc: Global,
-        reader: &mut EventReader<'_>,
-        v: SpecVersion,
-        element: &OwnedName,
-        attributes: &List<OwnedAttribute>,
-    ) -> Result<Composition, XmlReadError> {
-        read_whole(alloc, reader, v, element, attributes)
-    }
-}
-
 impl FromXml for Compositions {
-    ghost use Rattle.cdx_schema.specs.Kinds.{a_list, compositions};
-
-    ghost kind = { a_list compositions };
+    ghost use Rattle.std.specs.Prelude.{refl};
 
     ghost depth = { λ d. d };
+
+    ghost at_top = { refl };
 
     fn read_xml_element(
         alloc: Global,

@@ -9,9 +9,7 @@ ghost use Rattle.cdx_leaf.specs.Trees.{collected};
 use crate::composition::BomReference;
 use crate::dependency::{Dependencies, Dependency};
 use cdx_events::{EventReader, List, OwnedAttribute, OwnedName, Text};
-use cdx_leaf::{
-    Children, FromXml, Record, Rule, Taken, attribute_or_error, read_list_tag, read_whole,
-};
+use cdx_leaf::{Children, FromXml, Rule, Taken, XmlRecord, attribute_or_error, read_list_tag};
 use cdx_models::{SpecVersion, XmlReadError};
 use std::alloc::Global;
 
@@ -25,7 +23,8 @@ fn take_reference(
     field: &mut List<Text>,
 ) -> Result<Taken, XmlReadError>
     requires { IsIn reader.old element.now }
-    ensures { TakesMore (collected text field.old) (collected text field.new) reader.old reader.new v a_reference (λ d. d) element.now attributes.now result }
+    ensures { TakesMore (collected text field.old) (collected text field.new) reader.old reader.new
+        v a_reference (λ d. d) element.now attributes.now result }
 {
     let reference = BomReference::read_xml_element(alloc, reader, v, element, attributes)?;
     field.push(reference.0)?;
@@ -69,18 +68,14 @@ impl Children for Dependency {
     }
 }
 
-impl Record for Dependency {
+impl XmlRecord for Dependency {
     ghost use Rattle.std.specs.Prelude.{refl};
     ghost use Rattle.cdx_models.specs.Trees.{dependency};
-    ghost use Rattle.cdx_leaf.specs.Plain.{dependency_plain};
+    ghost use Rattle.cdx_leaf.specs.RowContents.{content_is};
 
     type Part = Dependency;
 
-    ghost name = { dependency };
-
-    ghost plain = { dependency_plain };
-
-    ghost is_record = { λ x. refl };
+    ghost no_content = { content_is dependency };
 
     ghost by_rows = { λ part. refl };
 
@@ -110,31 +105,12 @@ impl Record for Dependency {
     }
 }
 
-impl FromXml for Dependency {
-    ghost use Rattle.cdx_models.specs.Trees.{dependency};
-    ghost use Rattle.cdx_schema.specs.Kinds.{a_record};
-
-    ghost kind = { a_record dependency };
-
-    ghost depth = { λ d. d };
-
-    fn read_xml_element(
-        alloc: Global,
-        reader: &mut EventReader<'_>,
-        v: SpecVersion,
-        element: &OwnedName,
-        attributes: &List<OwnedAttribute>,
-    ) -> Result<Dependency, XmlReadError> {
-        read_whole(alloc, reader, v, element, attributes)
-    }
-}
-
 impl FromXml for Dependencies {
-    ghost use Rattle.cdx_schema.specs.Kinds.{a_list, dependencies};
-
-    ghost kind = { a_list dependencies };
+    ghost use Rattle.std.specs.Prelude.{refl};
 
     ghost depth = { λ d. d };
+
+    ghost at_top = { refl };
 
     fn read_xml_element(
         alloc: Global,

@@ -1,27 +1,20 @@
 //! Compositions as XML events.
 
 ghost use Rattle.std.specs.Prelude.{refl, codes};
-ghost use Rattle.cdx_relations.specs.Records.{composition_tree, compositions_tree};
 ghost use Rattle.cdx_models.specs.Trees.{composition};
-ghost use Rattle.cdx_schema.specs.Kinds.{compositions, a_record, a_list};
-ghost use Rattle.cdx_write.specs.Spelling.{tagged};
-ghost use Rattle.cdx_write.specs.WillWrite.{will_write};
+ghost use Rattle.cdx_schema.specs.Kinds.{compositions};
 
 use crate::composition::{Composition, Compositions};
 use cdx_events::{EventWriter, List, OwnedAttribute};
 use cdx_models::{SpecVersion, XmlWriteError};
 use cdx_write::{
-    Element, Item, Kinded, Record, ToXml, put_attribute_since, put_child_since, put_list,
-    put_list_since, put_required_child, write_list, write_record,
+    Element, HasContent, Item, Tagged, WrittenRecord, put_attribute_since, put_child_since,
+    put_list, put_list_since, put_required_child, write_list,
 };
 use std::alloc::{AllocError, Global};
 
-impl Record for Composition {
-    ghost name = { composition };
-
-    ghost is_plain = { λ x. (refl, λ xs. refl) };
-
-    #[tactic(auto, unfolding(cdx_write::specs::WrittenRows::attributes_put, cdx_schema::specs::Table::rows))]
+impl WrittenRecord for Composition {
+    #[tactic(auto, unfolding(cdx_write::proofs::OnRows::on_rows))]
     fn attributes(
         &self,
         alloc: Global,
@@ -75,55 +68,24 @@ impl Record for Composition {
     }
 }
 
-impl Kinded for Composition {
-    ghost kind = { a_record composition };
-}
-
-impl Element for Composition {
-    ghost keeps = { refl };
-
-    fn write_as(
-        &self,
-        alloc: Global,
-        writer: &mut EventWriter,
-        w: SpecVersion,
-        tag: &str,
-    ) -> Result<(), XmlWriteError> {
-        write_record(alloc, writer, w, tag, self)
-    }
-}
-
 impl Item for Composition {
     fn is_passed_over(&self) -> bool {
         false
     }
 }
 
-impl ToXml for Composition {
-    ghost shown = { composition_tree };
-
-    ghost kind = { a_record composition };
-
-    ghost tag = { tagged (codes "composition") };
-
-    ghost counts = { λ x. will_write (composition_tree x) };
-
-    fn write_xml_element(
-        &self,
-        alloc: Global,
-        writer: &mut EventWriter,
-        w: SpecVersion,
-    ) -> Result<(), XmlWriteError> {
-        write_record(alloc, writer, w, "composition", self)
-    }
-
-    fn will_write(&self) -> bool {
+impl HasContent for Composition {
+    fn has_content(&self) -> bool {
         true
     }
 }
 
-impl Kinded for Compositions {
-    ghost kind = { a_list compositions };
+impl Tagged for Composition {
+    ghost own_name = { codes "composition" };
+
+    fn own_name() -> &'static str {
+        "composition"
+    }
 }
 
 impl Element for Compositions {
@@ -141,25 +103,16 @@ impl Element for Compositions {
     }
 }
 
-impl ToXml for Compositions {
-    ghost shown = { compositions_tree };
-
-    ghost kind = { a_list compositions };
-
-    ghost tag = { tagged (codes "compositions") };
-
-    ghost counts = { λ x. will_write (compositions_tree x) };
-
-    fn write_xml_element(
-        &self,
-        alloc: Global,
-        writer: &mut EventWriter,
-        w: SpecVersion,
-    ) -> Result<(), XmlWriteError> {
-        self.write_as(alloc, writer, w, "compositions")
-    }
-
-    fn will_write(&self) -> bool {
+impl HasContent for Compositions {
+    fn has_content(&self) -> bool {
         true
+    }
+}
+
+impl Tagged for Compositions {
+    ghost own_name = { codes "compositions" };
+
+    fn own_name() -> &'static str {
+        "compositions"
     }
 }

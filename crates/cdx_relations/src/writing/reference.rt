@@ -1,18 +1,16 @@
 //! References to parts of the bill as XML events.
 
 ghost use Rattle.std.specs.Prelude.{refl};
-ghost use Rattle.cdx_relations.specs.Records.{bom_reference_tree};
 ghost use Rattle.cdx_models.specs.Trees.{text, list_tree};
 ghost use Rattle.cdx_schema.specs.Kinds.{Lists, a_reference, a_list};
 ghost use Rattle.cdx_write.specs.Listed.{IsListOf};
 ghost use Rattle.cdx_write.specs.Spelling.{written, inner};
-ghost use Rattle.cdx_write.specs.WillWrite.{will_write};
 ghost use Rattle.cdx_write.specs.Writing.{Appends};
 
 use crate::composition::BomReference;
 use cdx_events::{EventWriter, List, OwnedAttribute, OwnedName, Text};
 use cdx_models::{SpecVersion, XmlWriteError};
-use cdx_write::{Element, Item, Kinded, ToInnerXml, write_close_tag, write_opening};
+use cdx_write::{Element, HasContent, Item, write_close_tag, write_opening};
 use std::alloc::Global;
 
 /// An empty element whose attribute `ref` is the reference.
@@ -22,7 +20,8 @@ pub(crate) fn write_reference(
     tag: &str,
     target: &Text,
 ) -> Result<(), XmlWriteError>
-    ensures { (w : SpecVersion) → Appends writer.old writer.new (written (text target.now) w tag.now a_reference) result }
+    ensures { (w : SpecVersion)
+        → Appends writer.old writer.new (written (text target.now) w tag.now a_reference) result }
 {
     let name = OwnedName::local(alloc, "ref")?;
     let value = target.copy(alloc)?;
@@ -48,10 +47,6 @@ pub(crate) fn write_references(
     Ok(())
 }
 
-impl Kinded for BomReference {
-    ghost kind = { a_reference };
-}
-
 impl Element for BomReference {
     ghost keeps = { refl };
 
@@ -72,24 +67,8 @@ impl Item for BomReference {
     }
 }
 
-impl ToInnerXml for BomReference {
-    ghost shown = { bom_reference_tree };
-
-    ghost kind = { a_reference };
-
-    ghost counts = { λ x. will_write (bom_reference_tree x) };
-
-    fn write_xml_named_element(
-        &self,
-        alloc: Global,
-        writer: &mut EventWriter,
-        w: SpecVersion,
-        tag: &str,
-    ) -> Result<(), XmlWriteError> {
-        write_reference(alloc, writer, tag, &self.0)
-    }
-
-    fn will_write(&self) -> bool {
+impl HasContent for BomReference {
+    fn has_content(&self) -> bool {
         true
     }
 }

@@ -1,12 +1,11 @@
-use Rattle.std.proofs.Common.{ap, ◌∙◌}
+use Rattle.std.proofs.Common.{ap, ◌∙◌, codes}
 use Rattle.serde_json.specs.Data.{object}
 use Rattle.serde_json.specs.View.{members_view}
 use Rattle.serde_json.proofs.Views.{view-Object}
-use Rattle.cdx_models.specs.Trees.{license}
+use Rattle.cdx_models.specs.Trees.{license, fields_of}
 use Rattle.cdx_license.specs.Records.{license_tree, expression_tree}
 use Rattle.cdx_schema.specs.Kinds.{a_record}
-use Rattle.cdx_json.specs.KeptRows.{parts, put_kept}
-use Rattle.std.proofs.Common.{codes}
+use Rattle.cdx_json.specs.KeptRows.{put_kept}
 use Rattle.cdx_json.proofs.Spelled.{if_ok}
 use Rattle.cdx_license.proofs.Licensed.{license_spelled, expression_spelled}
 use Rattle.cdx_license.proofs.json.LicenseChoiceToJson.to_value.Goals as goal
@@ -14,7 +13,7 @@ use Rattle.cdx_license.proofs.json.LicenseChoiceToJson.to_value.Goals as goal
 pub returns-in_ok-put_required-in-License : goal.returns-in_ok-put_required-in-License
 returns-in_ok-put_required-in-License c =
     rw c.in-License.is (view-Object c.put_required.new.map ∙ ap object (c.in_ok-put_required-in-License.ensures ∙ ap (λ es. put_kept (codes "license") (a_record license) (license_tree c.in-License.held) c.args.version (members_view es)) c.new-map.ensures.empty)
-    ∙ license_spelled c.args.version (parts (license_tree c.in-License.held)))
+    ∙ license_spelled c.args.version (fields_of (license_tree c.in-License.held)))
 
 pub returns-in-Expression : goal.returns-in-Expression
-returns-in-Expression c = rw c.in-Expression.is (if_ok c.to_value.result (λ v e. e ∙ expression_spelled c.args.version (parts (expression_tree c.in-Expression.held))) c.to_value.ensures)
+returns-in-Expression c = rw c.in-Expression.is (if_ok c.to_value.result (λ v e. e ∙ expression_spelled c.args.version (fields_of (expression_tree c.in-Expression.held))) c.to_value.ensures)

@@ -1,9 +1,8 @@
 use Rattle.std.proofs.Common.{ap, ◌∙◌, refl}
-use Rattle.cdx_models.specs.Trees.{signer, signers, chain, fields, one, list_tree}
+use Rattle.cdx_models.specs.Trees.{signer, signers, chain, fields, one, list_tree, fields_of}
 use Rattle.cdx_signature.specs.Records.{signer_tree}
 use Rattle.cdx_schema.specs.Kinds.{signer_list, chain_list}
 use Rattle.cdx_schema.specs.Table.{list}
-use Rattle.cdx_json.specs.KeptRows.{parts}
 use Rattle.cdx_signature.proofs.Signed.{signers_kept, chain_kept, single_kept}
 use Rattle.cdx_signature.proofs.json.SignatureKept.kept_as.Goals as goal
 
@@ -16,4 +15,4 @@ unfolding list
 returns-in_ok-keep_list-in-Chain c = rw c.in-Chain.is (ap (λ t. fields chain (one t)) (c.in_ok-keep_list-in-Chain.ensures chain_list refl) ∙ chain_kept c.args.version c.args.label (list_tree signer_tree c.in-Chain.held))
 
 pub returns-in_ok-kept_as-in-Single : goal.returns-in_ok-kept_as-in-Single
-returns-in_ok-kept_as-in-Single c = rw c.in-Single.is (c.in_ok-kept_as-in-Single.ensures ∙ single_kept c.args.version c.args.label signer (parts (signer_tree c.in-Single.held)))
+returns-in_ok-kept_as-in-Single c = rw c.in-Single.is (c.in_ok-kept_as-in-Single.ensures ∙ single_kept c.args.version c.args.label signer (fields_of (signer_tree c.in-Single.held)))

@@ -1,7 +1,6 @@
 use Rattle.std.proofs.Common.{◌∙◌}
-use Rattle.cdx_models.specs.Trees.{signer, each}
+use Rattle.cdx_models.specs.Trees.{signer, each, fields_of}
 use Rattle.cdx_signature.specs.Records.{signer_tree}
-use Rattle.cdx_json.specs.KeptRows.{parts}
 use Rattle.cdx_json.proofs.Spelled.{if_ok}
 use Rattle.cdx_signature.proofs.Signed.{signers_spelled, chain_spelled, single_spelled}
 use Rattle.cdx_signature.proofs.json.SignatureToJson.to_value.Goals as goal
@@ -13,4 +12,4 @@ pub returns-in-Chain : goal.returns-in-Chain
 returns-in-Chain c = rw c.in-Chain.is (if_ok c.signers_to_value-in-Chain.result (λ v e. e ∙ chain_spelled c.args.version (each signer_tree c.in-Chain.chain)) c.signers_to_value-in-Chain.ensures)
 
 pub returns-in-Single : goal.returns-in-Single
-returns-in-Single c = rw c.in-Single.is (if_ok c.to_value.result (λ v e. e ∙ single_spelled c.args.version signer (parts (signer_tree c.in-Single.signer))) c.to_value.ensures)
+returns-in-Single c = rw c.in-Single.is (if_ok c.to_value.result (λ v e. e ∙ single_spelled c.args.version signer (fields_of (signer_tree c.in-Single.signer))) c.to_value.ensures)

@@ -1,10 +1,9 @@
 use Rattle.std.proofs.Common.{Ok, Err, refl, sym, ap, ◌∙◌}
 use Rattle.std.proofs.lemmas.Result.{err_from_is_err_and}
-use Rattle.cdx_models.specs.Trees.{more, signer, present}
+use Rattle.cdx_models.specs.Trees.{more, signer, present, fields_of}
 use Rattle.cdx_schema.specs.Depth.{top}
 use Rattle.cdx_schema.specs.XmlReading.{signature_plan}
 use Rattle.cdx_signature.specs.Records.{signature_tree, signer_tree}
-use Rattle.cdx_leaf.specs.Trees.{fields_of}
 use Rattle.cdx_signature.specs.Parts.{signer_part}
 use Rattle.cdx_signature.proofs.Signatures.{nothing_yet, signature_fails, signature_listed, signature_single}
 use Rattle.cdx_leaf.proofs.Whole.{past_start, finished_as}

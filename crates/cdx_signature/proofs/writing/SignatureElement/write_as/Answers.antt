@@ -1,9 +1,8 @@
 use Rattle.std.proofs.Common.{refl}
-use Rattle.cdx_models.specs.Trees.{each}
+use Rattle.cdx_models.specs.Trees.{each, fields_of}
 use Rattle.cdx_signature.specs.Records.{signer_tree}
 use Rattle.cdx_schema.specs.Kinds.{signer_list, chain_list}
 use Rattle.cdx_schema.specs.Table.{list}
-use Rattle.cdx_write.specs.WrittenRows.{parts}
 use Rattle.cdx_write.proofs.RowWords.{appends_same}
 use Rattle.cdx_signature.proofs.Written.{signers_signature, chain_signature, single_signature}
 use Rattle.cdx_signature.proofs.writing.SignatureElement.write_as.Goals as goal
@@ -20,4 +19,4 @@ returns-in-Chain c =
 
 pub returns-in-Single : goal.returns-in-Single
 returns-in-Single c =
-    rw c.in-Single.is (appends_same c.args.writer.now c.write_record.new.writer _ _ c.write_record.result (single_signature (parts (signer_tree c.in-Single.held)) c.args.w c.args.tag.now) c.write_record.ensures)
+    rw c.in-Single.is (appends_same c.args.writer.now c.write_record.new.writer _ _ c.write_record.result (single_signature (fields_of (signer_tree c.in-Single.held)) c.args.w c.args.tag.now) c.write_record.ensures)

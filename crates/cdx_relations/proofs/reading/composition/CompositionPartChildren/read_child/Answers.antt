@@ -1,8 +1,7 @@
 use Rattle.std.proofs.Common.{refl, sym, ◌∙◌}
 use Rattle.std.specs.Prelude.{codes}
 use Rattle.cdx_models.specs.declared.bom.SpecVersion.TheVariants.{V1_4, V1_5}
-use Rattle.cdx_models.specs.Trees.{composition}
-use Rattle.cdx_models.specs.Trees.{present, list_tree}
+use Rattle.cdx_models.specs.Trees.{composition, present, list_tree}
 use Rattle.cdx_relations.specs.Records.{bom_reference_tree}
 use Rattle.cdx_leaf.specs.declared.rule.Rule.TheVariants.{Lax}
 use Rattle.cdx_schema.specs.Kinds as kinds

@@ -1,0 +1,18 @@
+use Rattle.std.proofs.Common.{refl}
+use Rattle.std.specs.Prelude.{codes}
+use Rattle.std.proofs.lemmas.Result.{err_from_is_err_and}
+use Rattle.cdx_schema.specs.Kinds.{member}
+use Rattle.cdx_schema.specs.Table.{rows}
+use Rattle.cdx_leaf.proofs.Attributes.{row_ok, rows_end, row_fails, must_row, must_row_fails}
+use Rattle.cdx_patch.proofs.reading.issue.IssueXmlRecord.begin.Goals as goal
+
+pub returns-in_err-attribute_or_error : goal.returns-in_err-attribute_or_error
+unfolding rows
+returns-in_err-attribute_or_error c =
+    let q = err_from_is_err_and c.from_residual.result c.from_residual.ensures.1 in
+    let e = c.in_err-attribute_or_error.field-0.0 in
+    rw (q.1, q.2) (row_fails c.args.attributes.now c.args._v c.args.element.now.local_name c.args.place _ _ e _ (must_row_fails c.args.attributes.now c.args._v c.args.element.now.local_name c.args.place (codes "type") (member (codes "type")) e _ c.in_err-attribute_or_error.ensures))
+
+pub returns : goal.returns
+unfolding rows
+returns c = row_ok c.args.attributes.now c.args._v c.args.element.now.local_name c.args.place _ _ _ _ (must_row c.args.attributes.now c.args._v c.args.element.now.local_name c.args.place (codes "type") (member (codes "type")) _ c.in_ok-attribute_or_error.ensures) (row_ok c.args.attributes.now c.args._v c.args.element.now.local_name c.args.place _ _ _ _ refl (row_ok c.args.attributes.now c.args._v c.args.element.now.local_name c.args.place _ _ _ _ refl (row_ok c.args.attributes.now c.args._v c.args.element.now.local_name c.args.place _ _ _ _ refl (row_ok c.args.attributes.now c.args._v c.args.element.now.local_name c.args.place _ _ _ _ refl (row_ok c.args.attributes.now c.args._v c.args.element.now.local_name c.args.place _ _ _ _ refl (rows_end c.args.attributes.now c.args._v c.args.element.now.local_name c.args.place))))))

@@ -1,0 +1,15 @@
+use Rattle.std.proofs.Common.{refl}
+use Rattle.cdx_schema.specs.Kinds.{links}
+use Rattle.cdx_schema.specs.Table.{rows, list}
+use Rattle.cdx_write.specs.WrittenRows.{rows_written}
+use Rattle.cdx_write.proofs.Appended.{then_all, last_row}
+use Rattle.cdx_patch.proofs.writing.issue.IssueWrittenRecord.write_rows.Goals as goal
+
+pub returns : goal.returns
+unfolding rows_written rows list
+returns c =
+    then_all c.args.writer.now c.put_child.new.writer c.put_list.new.writer _ _ c.put_list.result c.in_ok-put_child.ensures
+    (then_all c.put_child.new.writer c.put_child-2.new.writer c.put_list.new.writer _ _ c.put_list.result c.in_ok-put_child-2.ensures
+    (then_all c.put_child-2.new.writer c.put_child-3.new.writer c.put_list.new.writer _ _ c.put_list.result c.in_ok-put_child-3.ensures
+    (then_all c.put_child-3.new.writer c.put_filled_child.new.writer c.put_list.new.writer _ _ c.put_list.result c.in_ok-put_filled_child.ensures
+    (last_row c.put_filled_child.new.writer c.put_list.new.writer _ c.put_list.result (c.put_list.ensures links (refl, refl))))))

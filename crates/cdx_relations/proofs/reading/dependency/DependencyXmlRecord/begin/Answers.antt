@@ -1,0 +1,20 @@
+use Rattle.std.proofs.Common.{ap, sym, Ok}
+use Rattle.std.specs.Prelude.{codes}
+use Rattle.std.proofs.lemmas.Result.{err_from_is_err_and}
+use Rattle.cdx_models.specs.Trees.{text}
+use Rattle.cdx_schema.specs.Kinds.{member}
+use Rattle.cdx_schema.specs.Table.{rows}
+use Rattle.cdx_leaf.specs.Trees.{collected}
+use Rattle.cdx_leaf.proofs.Attributes.{row_ok, rows_end, row_fails, must_row, must_row_fails}
+use Rattle.cdx_relations.proofs.reading.dependency.DependencyXmlRecord.begin.Goals as goal
+
+pub returns-in_err-attribute_or_error : goal.returns-in_err-attribute_or_error
+unfolding rows
+returns-in_err-attribute_or_error c =
+    let q = err_from_is_err_and c.from_residual.result c.from_residual.ensures.1 in
+    let e = c.in_err-attribute_or_error.field-0.0 in
+    rw (q.1, q.2) (row_fails c.args.attributes.now c.args._v c.args.element.now.local_name c.args.place _ _ e _ (must_row_fails c.args.attributes.now c.args._v c.args.element.now.local_name c.args.place (codes "ref") (member (codes "ref")) e _ c.in_err-attribute_or_error.ensures))
+
+pub returns : goal.returns
+unfolding rows
+returns c = (row_ok c.args.attributes.now c.args._v c.args.element.now.local_name c.args.place _ _ _ _ (must_row c.args.attributes.now c.args._v c.args.element.now.local_name c.args.place (codes "ref") (member (codes "ref")) _ c.in_ok-attribute_or_error.ensures) (row_ok c.args.attributes.now c.args._v c.args.element.now.local_name c.args.place _ _ _ _ (ap (λ l. Ok (collected text l)) (sym c.new.ensures)) (rows_end c.args.attributes.now c.args._v c.args.element.now.local_name c.args.place)))
