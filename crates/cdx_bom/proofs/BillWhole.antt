@@ -8,13 +8,13 @@ use Rattle.cdx_events.specs.declared.name.OwnedName.{OwnedName}
 use Rattle.cdx_events.specs.declared.name.OwnedAttribute.{OwnedAttribute}
 use Rattle.cdx_events.specs.declared.name.Namespace.{Namespace}
 use Rattle.cdx_events.specs.Cursor.{Cursor}
-use Rattle.cdx_events.specs.Nodes.{Node, Nodes, element, document}
+use Rattle.cdx_events.specs.Nodes.{Nodes, element}
 use Rattle.cdx_models.specs.declared.bom.SpecVersion.{SpecVersion}
 use Rattle.cdx_models.specs.declared.errors.XmlReadError.{XmlReadError}
 use Rattle.cdx_models.specs.declared.errors.XmlReadError.TheVariants.{ElementReadError, UnexpectedElementReadError, RequiredDataMissing, RequiredAttributeMissing, InvalidParseError, InvalidNamespaceError, TooDeep, Memory}
 use Rattle.cdx_models.specs.Trees.{bill, Tree, Trees, fields}
 use Rattle.cdx_models.specs.Versions.{namespace}
-use Rattle.cdx_schema.specs.Depth.{Depth, top}
+use Rattle.cdx_schema.specs.Depth.{top}
 use Rattle.cdx_schema.specs.Faults.{unexpected, namespaced}
 use Rattle.cdx_schema.specs.Kinds.{a_bill, a_record}
 use Rattle.cdx_schema.specs.Laws.{IsShallow}
@@ -28,13 +28,13 @@ use Rattle.cdx_schema.specs.Table.{rows}
 use Rattle.cdx_schema.specs.XmlReading.{xread, in_namespace, attributes_read, in_force, ended, record_plan, xml_denotes}
 use Rattle.cdx_leaf.specs.Attribute.{Gives}
 use Rattle.cdx_leaf.specs.Begun.{ReadsBegun}
-use Rattle.cdx_leaf.specs.Fault.{Denotes, Fails}
-use Rattle.cdx_leaf.specs.Plain.{IsPlain}
+use Rattle.cdx_leaf.specs.Fault.{Denotes}
 use Rattle.cdx_leaf.specs.Reading.{Stands, Reads, ReadsAs, after}
+use Rattle.cdx_leaf.specs.RowContents.{content_is}
 use Rattle.cdx_leaf.specs.Roots.{IsRootOf}
 use Rattle.cdx_leaf.specs.Tags.{namespace_read}
 use Rattle.cdx_leaf.proofs.Roots.{same_root, denotes_read}
-use Rattle.cdx_leaf.proofs.Whole.{so_far, finished, begins, start_is, part_fails, record_is}
+use Rattle.cdx_leaf.proofs.Whole.{so_far, finished, begins, start_is, part_fails, IsNested, nested_is}
 use Rattle.cdx_bom.specs.declared.bom.Bom.{Bom}
 use Rattle.cdx_bom.specs.declared.reading.part.BillPart.{BillPart}
 use Rattle.cdx_bom.specs.Trees.{bom_tree}
@@ -42,9 +42,9 @@ use Rattle.cdx_bom.specs.Reading.{bill_slots, at_top}
 use Rattle.cdx_bom.specs.RootChecks.{name_read}
 use Rattle.cdx_bom.specs.BillReading.{ReadsBill, IsRefusal}
 
-bill_plain : IsPlain bill
-unfolding rows
-bill_plain = record { no_content = refl; shallow = λ d. refl; same_depth = λ d. refl }
+-- A bill is its fields, read outside all components and services, and its end.
+bill_is : (v : SpecVersion) (n : OwnedName) (a : List OwnedAttribute) (ns : Namespace) (p : ℕ) (nodes : Nodes) → IsNested bill v n a ns top top p nodes
+bill_is v n a ns p nodes = nested_is bill (content_is bill) v n a ns top p nodes refl
 
 -- Nothing is missing at a bill's end.
 whole_end : (part : BillPart) (v : SpecVersion) (el : List ℕ) (q : ℕ) → ended (rows bill) (bill_slots part) v el q ≡ Ok (bill_slots part)
@@ -62,12 +62,12 @@ module _ (v : SpecVersion) (n : OwnedName) (a : List OwnedAttribute) (old new : 
       reads top at_top (record_plan bill) (first p) p nodes rest st (begins bill_slots (λ _. record_plan bill) (λ _. at_top) v (record_plan bill) at_top p (first p) begun (λ r. refl) (λ r. refl) here)
 
   pub bill_fails : (e : XmlReadError) → result ≡ Err e → ReadsAs bom_tree old new n a v (a_record bill) at_top (Err e)
-  bill_fails e is d ns p nodes rest st = part_fails bill bill_plain v n a ns top p nodes old new e (subst (λ r. Reads bill_slots old new (after old nodes rest) (so_far bill v top n.local_name a p nodes) r) is (fields_read p nodes rest st))
+  bill_fails e is d ns p nodes rest st = part_fails bill v n a ns top p nodes old new e (bill_is v n a ns p nodes) (subst (λ r. Reads bill_slots old new (after old nodes rest) (so_far bill v top n.local_name a p nodes) r) is (fields_read p nodes rest st))
 
   pub bill_ends : (part : BillPart) (b : Bom) → result ≡ Ok part → bom_tree b ≡ fields bill (bill_slots part) → ReadsAs bom_tree old new n a v (a_record bill) at_top (Ok b)
   bill_ends part b is tree d ns p nodes rest st =
       let read = subst (λ r. Reads bill_slots old new (after old nodes rest) (so_far bill v top n.local_name a p nodes) r) is (fields_read p nodes rest st) in
-      (record_is bill bill_plain v n a ns top p nodes ∙ ap (λ r. r >>= λ ts. finished bill v n.local_name (suc (p + places_of nodes)) ts) read.0 ∙ ap (λ r. r >>= λ us. Ok (fields bill us)) (whole_end part v n.local_name (suc (p + places_of nodes))) ∙ ap (λ t. Ok t) (sym tree), read.1)
+      (bill_is v n a ns p nodes ∙ ap (λ r. r >>= λ ts. finished bill v n.local_name (suc (p + places_of nodes)) ts) read.0 ∙ ap (λ r. r >>= λ us. Ok (fields bill us)) (whole_end part v n.local_name (suc (p + places_of nodes))) ∙ ap (λ t. Ok t) (sym tree), read.1)
 
 -- ---- the root
 

@@ -1,25 +1,22 @@
 -- A bill that is written row by row is the schema's document of it.
-use Rattle.std.proofs.Common.{◌≡◌, refl, sym, ap, ◌∙◌, ℕ, List, [], ◌∷◌, ◌++◌, reverse, append_assoc, true, Option, Some, None}
-use Rattle.std.proofs.lemmas.List.{append-nil}
+use Rattle.std.proofs.Common.{◌≡◌, refl, sym, ap, ◌∙◌, ℕ, List, [], ◌∷◌, ◌++◌, reverse, append_assoc, Option, Some, None}
 use Rattle.std.specs.Prelude.{codes}
-use Rattle.cdx_events.specs.declared.name.OwnedAttribute.{OwnedAttribute}
 use Rattle.cdx_events.specs.declared.event.XmlEvent.{XmlEvent}
-use Rattle.cdx_events.specs.declared.event.XmlEvent.TheVariants.{StartDocument, EndDocument, EndElement}
-use Rattle.cdx_events.specs.Name.{local}
-use Rattle.cdx_events.specs.Nodes.{document, events_of_all, element, IsBalanced}
+use Rattle.cdx_events.specs.declared.event.XmlEvent.TheVariants.{StartDocument, EndDocument}
+use Rattle.cdx_events.specs.Nodes.{document, events_of_all, IsBalanced}
 use Rattle.cdx_models.specs.declared.bom.SpecVersion.{SpecVersion}
 use Rattle.cdx_models.specs.declared.bom.SpecVersion.TheVariants.{V1_3, V1_4, V1_5}
 use Rattle.cdx_models.specs.declared.bom.UrnUuid.{UrnUuid}
-use Rattle.cdx_models.specs.declared.errors.XmlWriteError.{XmlWriteError}
 use Rattle.cdx_models.specs.Records.{urn_tree}
-use Rattle.cdx_models.specs.Trees.{bill, Tree, text, number, fields, Trees, ◌⧺◌, present}
+use Rattle.cdx_models.specs.Trees.{bill, number, fields, Trees, ◌⧺◌, present}
 use Rattle.cdx_models.specs.Versions.{namespace}
 use Rattle.cdx_schema.specs.Kinds.{a_bill, a_number, a_text}
 use Rattle.cdx_schema.specs.Keeping.{kept, keep, rows_kept}
 use Rattle.cdx_schema.specs.Table.{rows}
-use Rattle.cdx_schema.specs.XmlSpelling.{attributes_of, attributes_in, nodes_of, fields_nodes, root, xml_document, plain_name}
+use Rattle.cdx_schema.specs.XmlSpelling.{attributes_of, nodes_of, plain_name}
 use Rattle.cdx_json.specs.Groups.{group}
-use Rattle.cdx_write.specs.WrittenRows.{parts, attribute_put, attributes_put, rows_written}
+use Rattle.cdx_models.specs.Trees.{fields_of}
+use Rattle.cdx_write.specs.WrittenRows.{attribute_put, attributes_put, rows_written}
 use Rattle.cdx_write.specs.Writing.{end_tag}
 use Rattle.cdx_write.proofs.RowsLaws.{attributes_are, rows_are, rows_in_groups}
 use Rattle.cdx_bom.specs.declared.bom.Bom.{Bom}
@@ -53,17 +50,17 @@ root_attributes_are b w =
 -- ---- the document
 
 -- The rows of the two groups are those of the bill.
-pub both_groups : (b : Bom) (w : SpecVersion) → rows_written (inventory b) w (group 0 bill) ++ rows_written (relations b) w (group 1 bill) ≡ rows_written (parts (bom_tree b)) w (rows bill)
+pub both_groups : (b : Bom) (w : SpecVersion) → rows_written (inventory b) w (group 0 bill) ++ rows_written (relations b) w (group 1 bill) ≡ rows_written (fields_of (bom_tree b)) w (rows bill)
 unfolding rows
 both_groups b w = sym (rows_in_groups (inventory b) (relations b) w (group 0 bill) (group 1 bill) refl)
 
-pub nodes_are : (b : Bom) (w : SpecVersion) → rows_written (parts (bom_tree b)) w (rows bill) ≡ events_of_all (nodes_of (keep w (bom_tree b) a_bill) w a_bill)
+pub nodes_are : (b : Bom) (w : SpecVersion) → rows_written (fields_of (bom_tree b)) w (rows bill) ≡ events_of_all (nodes_of (keep w (bom_tree b) a_bill) w a_bill)
 unfolding nodes_of
 nodes_are b w = rows_are (inventory b ⧺ relations b) w (rows bill) ∙ ap (λ t. events_of_all (nodes_of t w a_bill)) (sym (bill_kept w (inventory b ⧺ relations b)))
 
 -- what the writer appends after the start of the document
 abbrev pub from_rows : Bom → SpecVersion → List XmlEvent
-from_rows b w = rows_written (parts (bom_tree b)) w (rows bill) ++ ((end_tag (codes "bom") ∷ []) ++ (EndDocument ∷ []))
+from_rows b w = rows_written (fields_of (bom_tree b)) w (rows bill) ++ ((end_tag (codes "bom") ∷ []) ++ (EndDocument ∷ []))
 
 pub document_is : (b : Bom) (w : SpecVersion) → (StartDocument ∷ []) ++ ((root_start (bom_tree b) w ∷ []) ++ from_rows b w) ≡ document_in w (bom_tree b)
 document_is b w =

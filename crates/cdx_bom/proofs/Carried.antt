@@ -1,12 +1,11 @@
 -- Steps of a road.
-use Rattle.std.proofs.Common.{◌≡◌, refl, sym, ap, subst, ◌∙◌, List, [], ◌∷◌, ◌++◌, map, Bool, true, false, Some, Result, Ok, Err}
+use Rattle.std.proofs.Common.{◌≡◌, refl, sym, ap, subst, ◌∙◌, List, [], ◌∷◌, ◌++◌, Bool, true, false, Some, Result, Ok, Err}
 use Rattle.std.specs.Prelude.{not, ◌&&◌, ◌||◌, if◌then◌else◌}
 use Rattle.serde_json.specs.View.{view}
 use Rattle.serde_json.specs.declared.value.Value.{Value}
 use Rattle.cdx_events.specs.declared.events.Events.{Events}
-use Rattle.cdx_events.specs.Nodes.{Node, document}
+use Rattle.cdx_events.specs.Nodes.{document}
 use Rattle.cdx_models.specs.declared.bom.SpecVersion.{SpecVersion}
-use Rattle.cdx_models.specs.declared.bom.SpecVersion.TheVariants.{V1_3, V1_4, V1_5}
 use Rattle.cdx_models.specs.declared.errors.JsonReadError.{JsonReadError}
 use Rattle.cdx_models.specs.declared.errors.JsonReadError.TheVariants as in_json
 use Rattle.cdx_models.specs.declared.errors.XmlReadError.{XmlReadError}
@@ -23,7 +22,7 @@ use Rattle.cdx_schema.specs.Trips as trips
 use Rattle.cdx_schema.specs.Roads as roads
 use Rattle.cdx_schema.specs.Roads.{Refusal, of_json, of_xml, version_missing, from_json, from_xml, denotes, fits_all, hops_from, road}
 use Rattle.cdx_leaf.specs.Reading.{ReadsDocument}
-use Rattle.cdx_json.specs.Gives.{Gives, Fails}
+use Rattle.cdx_json.specs.Gives.{Fails}
 use Rattle.cdx_leaf.specs.Fault as leaf
 use Rattle.cdx_bom.specs.declared.bom.Bom.{Bom}
 use Rattle.cdx_bom.specs.declared.doc.Doc.{Doc}
@@ -34,7 +33,7 @@ use Rattle.cdx_bom.specs.declared.doc.RoadError.TheVariants as error
 use Rattle.cdx_bom.specs.Trees.{bom_tree}
 use Rattle.cdx_bom.specs.Docs.{IsDoc, AreDocs, refusal_of, Refuses, Answers, alone, hop_of, hops_of}
 use Rattle.cdx_bom.specs.Refused.{of_json_error, of_xml_error}
-use Rattle.cdx_bom.specs.Hops.{any_first, Denotes, spelled, rewritten, AnswersDoc}
+use Rattle.cdx_bom.specs.Hops.{any_first, Denotes, spelled, rewritten}
 
 -- ---- refusals
 

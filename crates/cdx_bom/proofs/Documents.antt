@@ -1,9 +1,8 @@
 -- A document is exactly one of the schema.
-use Rattle.std.proofs.Common.{◌≡◌, refl, sym, ap, subst, ◌∙◌, List, [], ◌∷◌}
+use Rattle.std.proofs.Common.{◌≡◌, refl, sym, ap, subst, ◌∙◌, [], ◌∷◌}
 use Rattle.serde_json.specs.View.{view}
 use Rattle.serde_json.specs.declared.value.Value.{Value}
 use Rattle.cdx_events.specs.declared.events.Events.{Events}
-use Rattle.cdx_events.specs.declared.event.XmlEvent.TheVariants.{StartDocument, EndDocument, StartElement, EndElement, Characters, CData}
 use Rattle.cdx_events.specs.Nodes.{Node, characters, cdata, element, document, IsBalanced}
 use Rattle.cdx_leaf.proofs.Roots.{same_root}
 use Rattle.cdx_schema.specs.Roads as roads

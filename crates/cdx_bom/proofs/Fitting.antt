@@ -1,9 +1,9 @@
 -- Which versions bills fit.
-use Rattle.std.proofs.Common.{◌≡◌, Bool, true, false, not, ◌&&◌, ◌||◌, Option, Some, None, refl, sym, ap, ◌∙◌}
+use Rattle.std.proofs.Common.{◌≡◌, Bool, true, ◌&&◌, ◌||◌, Option, None, refl, ◌∙◌}
 use mathlib.Core.Bool.{and-true}
 use Rattle.cdx_models.specs.declared.bom.SpecVersion.{SpecVersion}
 use Rattle.cdx_models.specs.declared.bom.SpecVersion.TheVariants.{V1_3, V1_4, V1_5}
-use Rattle.cdx_models.specs.Trees.{metadata, Tree, text, present}
+use Rattle.cdx_models.specs.Trees.{metadata, Tree, present}
 use Rattle.cdx_models.specs.Records.{urn_tree, references_tree, properties_tree}
 use Rattle.cdx_relations.specs.Records.{dependencies_tree, compositions_tree}
 use Rattle.cdx_signature.specs.Records.{signature_tree}

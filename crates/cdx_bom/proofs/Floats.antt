@@ -1,7 +1,7 @@
 -- The search for a floating-point number, one part of a value after the other.
-use Rattle.std.proofs.Common.{◌≡◌, ℕ, suc, ◌+◌, ◌<◌, ◌≤◌, Bool, true, false, List, [], ◌∷◌, length, drop, get_or, Option, Some, None, Result, Ok, Err, IfOk, String, Global, string_bytes, refl, sym, ap, ◌∙◌, subst, arith}
+use Rattle.std.proofs.Common.{◌≡◌, ℕ, suc, ◌+◌, ◌<◌, ◌≤◌, Bool, true, false, List, [], ◌∷◌, length, drop, get_or, Option, Some, None, Result, Ok, Err, IfOk, string_bytes, refl, sym, ap, ◌∙◌, subst, arith}
 use Rattle.std.proofs.lemmas.List.{at_drop_more, at_drop_all}
-use Rattle.serde_json.specs.Data.{Num, unsigned, negative, float, Data, number, Items, no_items, item, Members, no_members, member}
+use Rattle.serde_json.specs.Data.{Num, unsigned, negative, float, Data, number}
 use Rattle.serde_json.specs.Find.{is_float as is_float_number}
 use Rattle.serde_json.specs.View.{view, items_view, members_view}
 use Rattle.serde_json.specs.declared.value.Value.{Value}

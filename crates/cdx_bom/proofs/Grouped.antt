@@ -1,5 +1,5 @@
 -- Bills, read, kept and written group by group.
-use Rattle.std.proofs.Common.{◌≡◌, [], ◌∷◌, ◌++◌, length, codes, Some, None, Result, Ok, Err, Global, BTreeMap, String, refl, sym, ap, ◌∙◌, subst}
+use Rattle.std.proofs.Common.{◌≡◌, [], ◌∷◌, ◌++◌, length, Some, None, Result, Global, BTreeMap, String, refl, sym, ap, ◌∙◌, subst}
 use Rattle.serde_json.specs.Data.{Data, Members, object}
 use Rattle.serde_json.specs.Data as json
 use Rattle.serde_json.specs.Find.{as_object}
@@ -18,8 +18,8 @@ use Rattle.cdx_schema.specs.Depth.{Depth}
 use Rattle.cdx_schema.specs.Faults.{here}
 use Rattle.cdx_schema.specs.Results.{◌>>=◌}
 use Rattle.cdx_schema.specs.Keeping.{kept, keep, rows_kept}
-use Rattle.cdx_schema.specs.JsonReading.{Object, jread, seen, bill_read, record_read}
-use Rattle.cdx_schema.specs.JsonSpelling.{jspell, heading, members_spelled}
+use Rattle.cdx_schema.specs.JsonReading.{Object, jread, seen, bill_read}
+use Rattle.cdx_schema.specs.JsonSpelling.{jspell, heading}
 use Rattle.cdx_json.specs.Gives.{Fails, Gives, IsFaultAt}
 use Rattle.cdx_json.specs.ByRows.{rows_made, own_made, by_rows, named}
 use Rattle.cdx_json.specs.KeptRows.{rows_held, rows_put}

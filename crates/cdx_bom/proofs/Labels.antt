@@ -1,5 +1,5 @@
 -- A bill's label, read from its text.
-use Rattle.std.proofs.Common.{◌≡◌, ℕ, List, [], Bool, true, false, if◌then◌else◌, Option, Some, None, Result, Ok, Err, refl, sym, ap, ◌∙◌}
+use Rattle.std.proofs.Common.{◌≡◌, ℕ, List, [], Bool, true, false, if◌then◌else◌, Some, None, Ok, refl, sym, ap, ◌∙◌}
 use Rattle.std.proofs.lemmas.Slice.Eq.{bytes_eq-Decides}
 use Rattle.std.specs.Str.{bytes_eq}
 use Rattle.serde_json.specs.Data.{Data}
@@ -9,11 +9,11 @@ use Rattle.cdx_models.specs.declared.bom.SpecVersion.{SpecVersion}
 use Rattle.cdx_models.specs.declared.bom.SpecVersion.TheVariants.{V1_3, V1_4, V1_5}
 use Rattle.cdx_models.specs.declared.errors.JsonReadError.{JsonReadError}
 use Rattle.cdx_models.specs.declared.errors.JsonKind.TheVariants.{WrongKind, BadSpecVersion}
-use Rattle.cdx_models.specs.Trees.{Tree, text}
+use Rattle.cdx_models.specs.Trees.{text}
 use Rattle.cdx_models.specs.Versions.{label, version_of}
 use Rattle.cdx_schema.specs.Kinds.{a_version}
 use Rattle.cdx_schema.specs.Depth.{Depth}
-use Rattle.cdx_schema.specs.Faults.{JsonFault, here}
+use Rattle.cdx_schema.specs.Faults.{here}
 use Rattle.cdx_schema.specs.JsonReading.{jread, version_read}
 use Rattle.cdx_json.specs.Gives.{Fails, IsFaultAt}
 use Rattle.cdx_json.proofs.Rows.{fails_here}

@@ -1,8 +1,8 @@
 -- Trees without records of certain names: what then holds of depths, versions and empty tool lists.
 use Rattle.std.proofs.Common.{◌≡◌, Bool, true, false, not, ◌&&◌, List, [], ◌∷◌, if◌then◌else◌, refl, ap, ◌∙◌}
 use Rattle.std.proofs.lemmas.Bool.{false≢true}
-use Rattle.cdx_models.specs.Trees.{Name, hash, property, attached_text, contact, entity, commit, action, patch, diff, issue, source, reference, dependency, composition, license, expression, spdx_id, license_name, tool, component, swid, pedigree, evidence, copyright, service, classification, service_data, tools_object, metadata, signer, signers, chain, bill, Tree, absent, text, number, boolean, items, fields, Trees, none, more, ◌⧺◌}
-use Rattle.cdx_schema.specs.Kinds.{Lists, hashes, properties, urls, contacts, commits, patches, resolved, links, external_references, dependencies, depended, compositions, assemblies, composed, vulnerabilities, licenses, components, services, copyright_texts, endpoints, authors, tool_list, signer_list, chain_list, classifications, flows, Kind, a_text, a_boolean, a_number, a_version, a_list, a_record, a_reference, a_license_choice, a_license_identifier, a_tools, a_data, an_entry, a_signature, a_bill, Need, optional, required, required_first, else_empty, Row}
+use Rattle.cdx_models.specs.Trees.{Name, tool, component, service, metadata, bill, Tree, absent, text, number, boolean, items, fields, Trees, none, more, ◌⧺◌}
+use Rattle.cdx_schema.specs.Kinds.{Lists, hashes, components, services, Kind, a_list, a_tools, Need, optional, required, required_first, else_empty, Row}
 use Rattle.cdx_schema.specs.Table.{rows, list}
 use Rattle.cdx_schema.specs.Held.{held_kind}
 use Rattle.cdx_schema.specs.Depth.{Depth, inside, name_too_deep}
@@ -63,6 +63,7 @@ abbrev pub is_nested : Name → Bool
 is_nested component = true
 is_nested service = true
 is_nested metadata = true
+is_nested bill = true
 is_nested _ = false
 
 -- Q has none but nested records.

@@ -1,8 +1,8 @@
 -- Components, services and metadata, one level at a time: how deep they nest, and which names they lack.
-use Rattle.std.proofs.Common.{◌≡◌, ℕ, ◌+◌, ◌<◌, ◌≤◌, Bool, true, false, not, ◌&&◌, List, [], ◌∷◌, map, drop, get_or, length, Option, Some, None, refl, sym, ap, ◌∙◌, subst, arith}
+use Rattle.std.proofs.Common.{◌≡◌, ℕ, ◌+◌, ◌<◌, ◌≤◌, Bool, true, false, not, ◌&&◌, List, [], ◌∷◌, drop, get_or, length, Option, refl, sym, ap, ◌∙◌, arith}
 use mathlib.Core.Bool.{and-true}
 use Rattle.std.proofs.lemmas.List.{at_drop_more, at_drop_all}
-use Rattle.cdx_models.specs.Trees.{Name, component, pedigree, service, tools_object, metadata, bill, Tree, text, number, boolean, items, fields, Trees, none, more, ◌⧺◌, trees, each, present, list_tree}
+use Rattle.cdx_models.specs.Trees.{Name, component, pedigree, service, metadata, Tree, text, boolean, Trees, none, more, ◌⧺◌, each, present, list_tree}
 use Rattle.cdx_models.specs.Records.{urn_tree, entity_tree, contact_tree, hashes_tree, references_tree, properties_tree, tool_tree}
 use Rattle.cdx_license.specs.Records.{licenses_tree}
 use Rattle.cdx_signature.specs.Records.{signature_tree}
@@ -31,8 +31,8 @@ use Rattle.cdx_models.specs.declared.tool.Tool.{Tool}
 use Rattle.cdx_nest.specs.declared.metadata.Metadata.{Metadata}
 use Rattle.cdx_nest.specs.Trees.{object_tree, tools_tree, makers, terms, metadata_tree}
 use Rattle.cdx_bom.specs.declared.bom.Bom.{Bom}
-use Rattle.cdx_bom.specs.Trees.{identity, inventory, relations, bom_tree}
-use Rattle.cdx_bom.proofs.Names.{lacks, all_lack, SparesLeaves, is_counted, counted_spare, is_level, are_level, both_hold, appended_lack}
+use Rattle.cdx_bom.specs.Trees.{inventory, relations, bom_tree}
+use Rattle.cdx_bom.proofs.Names.{lacks, all_lack, SparesLeaves, is_counted, counted_spare, is_level, are_level}
 use Rattle.cdx_bom.proofs.Leaves.{texts_lack, text_lacks, row_lacks, list_lacks, boolean_lacks, urn_lacks, mime_type_lacks, cpe_lacks, entity_lacks, contact_lacks, hashes_lack, licenses_lack, swid_lacks, references_lack, properties_lack, evidence_lacks, signature_lacks, commits_lack, patches_lack, data_lacks, tool_lacks, dependencies_lack, compositions_lack}
 
 -- ---- the groups of rows in which no component and no service stands

@@ -1,16 +1,13 @@
 -- The laws of roads, carried over to the documents that calls answer.
-use Rattle.std.proofs.Common.{◌≡◌, refl, sym, ap, subst, ◌∙◌, ℕ, List, [], ◌∷◌, ◌++◌, length, map, slice_get, ◌⊎◌, ◌↔◌, Bool, true, false, Option, Some, None, Result, Ok, Err}
+use Rattle.std.proofs.Common.{◌≡◌, refl, sym, ap, subst, ◌∙◌, ℕ, List, [], ◌∷◌, ◌++◌, length, slice_get, ◌⊎◌, ◌↔◌, false, Some, Result, Ok, Err}
 use mathlib.Core.Logic.{inl, inr}
-use Rattle.serde_json.specs.View.{view}
 use Rattle.serde_json.specs.Data.{Data}
 use Rattle.cdx_events.specs.Nodes.{Node, document}
 use Rattle.cdx_models.specs.declared.bom.SpecVersion.{SpecVersion}
 use Rattle.cdx_models.specs.declared.bom.SpecVersion.TheVariants.{V1_5}
-use Rattle.cdx_models.specs.Trees.{Tree}
 use Rattle.cdx_schema.specs.Kinds.{a_bill}
 use Rattle.cdx_schema.specs.JsonSpelling.{jspell}
 use Rattle.cdx_schema.specs.Trips as trips
-use Rattle.cdx_schema.specs.Trips.{IsSame, last_of}
 use Rattle.cdx_schema.specs.Laws as schema
 use Rattle.cdx_schema.specs.Roads as roads
 use Rattle.cdx_schema.specs.Roads.{Refusal, version_missing, road}
@@ -21,7 +18,7 @@ use Rattle.cdx_bom.specs.declared.doc.Hop.{Hop}
 use Rattle.cdx_bom.specs.declared.doc.RoadError.{RoadError}
 use Rattle.cdx_bom.specs.declared.doc.RoadError.TheVariants as error
 use Rattle.cdx_bom.specs.Docs.{IsDoc, AreDocs, hop_of, hops_of, form_of, Refuses, AnswersRoad}
-use Rattle.cdx_bom.specs.Laws.{AreAlike, with_hop, end_doc, end_version, missing, Misses, is_memory, RoadsSettle}
+use Rattle.cdx_bom.specs.Laws.{AreAlike, end_doc, end_version, missing, Misses, is_memory, RoadsSettle}
 use Rattle.cdx_bom.proofs.Documents.{same_doc}
 
 hops_append : (g h : List Hop) → hops_of (g ++ h) ≡ hops_of g ++ hops_of h
@@ -66,23 +63,23 @@ abbrev root_of : Node → roads.Doc → Node
 root_of n (roads.json x) = n
 root_of n (roads.xml m) = m
 
-alike_docs : (d e : Doc) (y z : roads.Doc) → IsDoc d y → IsDoc e z → schema.IsAlike y z → AreAlike d e
-alike_docs (doc.Json u) (doc.Json v) (roads.json y) (roads.json z) p q (inl h) = inl (p ∙ ap (data_of y) h ∙ sym q)
-alike_docs (doc.Json u) (doc.Json v) (roads.json y) (roads.json z) p q (inr h) = inr (h.0, h.1, p ∙ ap (data_of y) h.2, q ∙ ap (data_of z) h.3, h.4)
-alike_docs (doc.Json u) (doc.Json v) (roads.xml y) z p q h = absurd p
-alike_docs (doc.Json u) (doc.Json v) (roads.json y) (roads.xml z) p q h = absurd q
-alike_docs (doc.Json u) (doc.Xml f) (roads.json y) (roads.xml z) p q (inl h) = absurd cc
-alike_docs (doc.Json u) (doc.Xml f) (roads.json y) (roads.xml z) p q (inr h) = let wrong : roads.xml z ≡ roads.json (jspell h.1 V1_5 a_bill) = h.3 in absurd cc
-alike_docs (doc.Json u) (doc.Xml f) (roads.xml y) z p q h = absurd p
-alike_docs (doc.Json u) (doc.Xml f) (roads.json y) (roads.json z) p q h = absurd q
-alike_docs (doc.Xml f) (doc.Json v) (roads.xml y) (roads.json z) p q (inl h) = absurd cc
-alike_docs (doc.Xml f) (doc.Json v) (roads.xml y) (roads.json z) p q (inr h) = let wrong : roads.xml y ≡ roads.json (jspell h.0 V1_5 a_bill) = h.2 in absurd cc
-alike_docs (doc.Xml f) (doc.Json v) (roads.json y) z p q h = absurd p
-alike_docs (doc.Xml f) (doc.Json v) (roads.xml y) (roads.xml z) p q h = absurd q
-alike_docs (doc.Xml f) (doc.Xml g) (roads.xml y) (roads.xml z) p q (inl h) = p ∙ ap (λ r. document (root_of y r)) h ∙ sym q
-alike_docs (doc.Xml f) (doc.Xml g) (roads.xml y) (roads.xml z) p q (inr h) = let wrong : roads.xml y ≡ roads.json (jspell h.0 V1_5 a_bill) = h.2 in absurd cc
-alike_docs (doc.Xml f) (doc.Xml g) (roads.json y) z p q h = absurd p
-alike_docs (doc.Xml f) (doc.Xml g) (roads.xml y) (roads.json z) p q h = absurd q
+alike_docs : (w : SpecVersion) (d e : Doc) (y z : roads.Doc) → IsDoc d y → IsDoc e z → schema.IsAlike w y z → AreAlike w d e
+alike_docs w (doc.Json u) (doc.Json v) (roads.json y) (roads.json z) p q (inl h) = inl (p ∙ ap (data_of y) h ∙ sym q)
+alike_docs w (doc.Json u) (doc.Json v) (roads.json y) (roads.json z) p q (inr (five, h)) = inr (five, (h.0, h.1, p ∙ ap (data_of y) h.2, q ∙ ap (data_of z) h.3, h.4))
+alike_docs w (doc.Json u) (doc.Json v) (roads.xml y) z p q h = absurd p
+alike_docs w (doc.Json u) (doc.Json v) (roads.json y) (roads.xml z) p q h = absurd q
+alike_docs w (doc.Json u) (doc.Xml f) (roads.json y) (roads.xml z) p q (inl h) = absurd cc
+alike_docs w (doc.Json u) (doc.Xml f) (roads.json y) (roads.xml z) p q (inr (five, h)) = let wrong : roads.xml z ≡ roads.json (jspell h.1 V1_5 a_bill) = h.3 in absurd cc
+alike_docs w (doc.Json u) (doc.Xml f) (roads.xml y) z p q h = absurd p
+alike_docs w (doc.Json u) (doc.Xml f) (roads.json y) (roads.json z) p q h = absurd q
+alike_docs w (doc.Xml f) (doc.Json v) (roads.xml y) (roads.json z) p q (inl h) = absurd cc
+alike_docs w (doc.Xml f) (doc.Json v) (roads.xml y) (roads.json z) p q (inr (five, h)) = let wrong : roads.xml y ≡ roads.json (jspell h.0 V1_5 a_bill) = h.2 in absurd cc
+alike_docs w (doc.Xml f) (doc.Json v) (roads.json y) z p q h = absurd p
+alike_docs w (doc.Xml f) (doc.Json v) (roads.xml y) (roads.xml z) p q h = absurd q
+alike_docs w (doc.Xml f) (doc.Xml g) (roads.xml y) (roads.xml z) p q (inl h) = p ∙ ap (λ r. document (root_of y r)) h ∙ sym q
+alike_docs w (doc.Xml f) (doc.Xml g) (roads.xml y) (roads.xml z) p q (inr (five, h)) = let wrong : roads.xml y ≡ roads.json (jspell h.0 V1_5 a_bill) = h.2 in absurd cc
+alike_docs w (doc.Xml f) (doc.Xml g) (roads.json y) z p q h = absurd p
+alike_docs w (doc.Xml f) (doc.Xml g) (roads.xml y) (roads.json z) p q h = absurd q
 
 pub settles : RoadsSettle
 settles x y v g g' h h' a c docs others d e is first second there other form version low count =
@@ -90,7 +87,7 @@ settles x y v g g' h h' a c docs others d e is first second there other form ver
     let q = road_docs x y v h (c ∷ h') others is second in
     let forms : (hop_of a).form ≡ (hop_of c).form = ap form_of form in
     let counts = ap (schema.xml_count 2) (sym (hops_append g (a ∷ []))) ∙ count ∙ ap (schema.xml_count 2) (hops_append h (c ∷ [])) in
-    alike_docs d e (schema.doc_after (hops_of g) p.0 y) (schema.doc_after (hops_of h) q.0 y) (doc_there g docs p.0 y d p.2 there) (doc_there h others q.0 y e q.2 other)
+    alike_docs c.version d e (schema.doc_after (hops_of g) p.0 y) (schema.doc_after (hops_of h) q.0 y) (doc_there g docs p.0 y d p.2 there) (doc_there h others q.0 y e q.2 other)
     (settle y v (hops_of g) (hops_of g') (hops_of h) (hops_of h') (hop_of a) (hop_of c) p.0 q.0 p.1 q.1 forms version low counts)
 
 -- ---- roads in two parts

@@ -1,5 +1,5 @@
 -- Bills once an empty tool list counts as a tools object without parts.
-use Rattle.std.proofs.Common.{◌≡◌, ◌↔◌, ℕ, Bool, true, false, not, ◌&&◌, List, [], ◌∷◌, length, Option, Some, None, is_some, is_none, refl, sym, ap, ◌∙◌, subst, arith}
+use Rattle.std.proofs.Common.{◌≡◌, ◌↔◌, ℕ, Bool, true, false, not, ◌&&◌, List, [], ◌∷◌, length, Option, Some, None, is_some, is_none, refl, sym, ap, ◌∙◌, arith}
 use Rattle.cdx_models.specs.Trees.{component, entity, tools_object, metadata, bill, Tree, absent, text, number, boolean, items, fields, Trees, two, ◌⧺◌, trees, each, present, list_tree, is_absent}
 use Rattle.cdx_models.specs.Same.{same, same_each}
 use Rattle.cdx_models.specs.SameLaws.{same-Decides, same_laws}
@@ -10,9 +10,9 @@ use Rattle.cdx_license.specs.Records.{licenses_tree}
 use Rattle.cdx_relations.specs.Records.{dependencies_tree, compositions_tree}
 use Rattle.cdx_signature.specs.Records.{signature_tree}
 use Rattle.cdx_models.proofs.Lists.{same_each-append}
-use Rattle.cdx_schema.specs.Kinds.{Kind, tool_list, authors, licenses, components, services, external_references, dependencies, compositions, properties, a_text, a_number, a_version, a_list, a_record, a_tools, a_signature, a_bill}
+use Rattle.cdx_schema.specs.Kinds.{Kind, tool_list, authors, licenses, components, services, external_references, dependencies, compositions, properties, a_text, a_list, a_record, a_tools, a_signature, a_bill}
 use Rattle.cdx_schema.specs.Table.{rows, list}
-use Rattle.cdx_schema.specs.Trips.{settled, items_settled, settled_items, IsSame}
+use Rattle.cdx_schema.specs.Trips.{settled, settled_items, IsSame}
 use Rattle.cdx_component.specs.Trees.{component_tree, components_tree}
 use Rattle.cdx_component.specs.declared.component.Components.{Components}
 use Rattle.cdx_service.specs.Trees.{services_tree}
@@ -36,7 +36,7 @@ as_is f o k e h = settled_as_is (present f o) k e (row_lacks is_metadata f h o)
 
 -- ---- bills
 
-bill_settled : (b : Bom) → settled (bom_tree b) a_bill ≡ fields bill (settled_inventory b ⧺ relations b)
+pub bill_settled : (b : Bom) → settled (bom_tree b) a_bill ≡ fields bill (settled_inventory b ⧺ relations b)
 unfolding settled rows
 bill_settled b = rw (
   as_is urn_tree b.serial_number a_text refl (urn_lacks is_metadata),
@@ -69,7 +69,7 @@ decides a b r is =
 abbrev pub makers_settled : Metadata → Trees
 makers_settled m = trees (present text m.timestamp ∷ settled (present tools_tree m.tools) a_tools ∷ present (list_tree contact_tree) m.authors ∷ present component_tree m.component ∷ present entity_tree m.manufacture ∷ present entity_tree m.supplier ∷ present licenses_tree m.licenses ∷ present properties_tree m.properties ∷ [])
 
-metadata_is : (m : Metadata) → settled (metadata_tree m) (a_record metadata) ≡ fields metadata (makers_settled m)
+pub metadata_is : (m : Metadata) → settled (metadata_tree m) (a_record metadata) ≡ fields metadata (makers_settled m)
 unfolding settled rows
 metadata_is m = rw (
   settled_as_is (present text m.timestamp) a_text refl (texts_lack is_metadata m.timestamp),
@@ -87,11 +87,11 @@ metadata_settled a b =
 
 -- ---- tools
 
-settled_list : (xs : List Tool) → settled (list_tree tool_tree xs) a_tools ≡ settled_items a_tools (each tool_tree xs)
+pub settled_list : (xs : List Tool) → settled (list_tree tool_tree xs) a_tools ≡ settled_items a_tools (each tool_tree xs)
 unfolding settled list
 settled_list xs = ap (settled_items a_tools) (items_settled_as_is (each tool_tree xs) (list tool_list).kind refl (items_lack is_metadata tool_tree (tool_lacks is_metadata metadata_spares) xs))
 
-settled_object : (ss : Option Services) (cs : Option Components) → settled (object_tree ss cs) a_tools ≡ object_tree ss cs
+pub settled_object : (ss : Option Services) (cs : Option Components) → settled (object_tree ss cs) a_tools ≡ object_tree ss cs
 unfolding settled rows
 settled_object ss cs = rw (
   as_is services_tree ss (a_list services) refl (services_lack is_metadata metadata_spares refl),

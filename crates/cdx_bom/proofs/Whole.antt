@@ -1,5 +1,5 @@
 -- Whole components and services: which names they lack.
-use Rattle.std.proofs.Common.{◌≡◌, Bool, true, false, not, ◌&&◌, List, [], ◌∷◌, map, Option, Some, None, refl, sym, ap, ◌∙◌, subst}
+use Rattle.std.proofs.Common.{◌≡◌, Bool, true, false, not, ◌&&◌, List, [], ◌∷◌, map, Option, Some, None, refl, ap, ◌∙◌, subst}
 use Rattle.cdx_models.specs.Trees.{Name, component, pedigree, service, Tree, items, fields, ◌⧺◌, trees, present}
 use Rattle.cdx_models.specs.Records.{references_tree, properties_tree}
 use Rattle.cdx_signature.specs.Records.{signature_tree}
@@ -8,7 +8,7 @@ use Rattle.cdx_patch.specs.Records.{patches_tree}
 use Rattle.cdx_parts.specs.Records.{evidence_tree}
 use Rattle.cdx_schema.specs.Table.{rows}
 use Rattle.cdx_component.specs.declared.component.Component.{Component}
-use Rattle.cdx_component.specs.declared.component.Component.TheOpen.{Component-F, Components-F, Pedigree-F}
+use Rattle.cdx_component.specs.declared.component.Component.TheOpen.{Component-F, Pedigree-F}
 use Rattle.cdx_component.specs.declared.component.Component.TheFolds.{ind-Component, fold-roll-Components}
 use Rattle.cdx_component.specs.declared.component.Component.TheShapes.{former-Component-pedigree, former-Component-components}
 use Rattle.cdx_component.specs.declared.component.Components.{Components}
@@ -16,7 +16,7 @@ use Rattle.cdx_component.specs.declared.component.Pedigree.{Pedigree}
 use Rattle.cdx_component.specs.Trees.{origin, naming, marks, contents, component_tree, components_tree, pedigree_tree, component_step, components_step, pedigree_step, component_fields, pedigree_fields, listed}
 use Rattle.cdx_component.specs.Laws.{component_tree-roll, components_tree-out, pedigree_tree-roll}
 use Rattle.cdx_service.specs.declared.service.Service.{Service}
-use Rattle.cdx_service.specs.declared.service.Service.TheOpen.{Service-F, Services-F}
+use Rattle.cdx_service.specs.declared.service.Service.TheOpen.{Service-F}
 use Rattle.cdx_service.specs.declared.service.Service.TheFolds.{ind-Service, fold-roll-Services}
 use Rattle.cdx_service.specs.declared.service.Service.TheShapes.{former-Service-services}
 use Rattle.cdx_service.specs.declared.service.Services.{Services}

@@ -1,5 +1,5 @@
 -- The steps of a road.
-use Rattle.std.specs.Prelude.{◌≡◌, List, [], ◌∷◌, Bool, true, false, ◌||◌, Result, Ok, Err}
+use Rattle.std.specs.Prelude.{◌≡◌, List, [], ◌∷◌, Bool, false, ◌||◌, Result, Ok, Err}
 use Rattle.cdx_models.specs.declared.bom.SpecVersion.{SpecVersion}
 use Rattle.cdx_models.specs.Versions.{is_first}
 use Rattle.cdx_models.specs.Trees.{Tree}
@@ -14,7 +14,7 @@ use Rattle.cdx_bom.specs.declared.doc.Doc.{Doc}
 use Rattle.cdx_bom.specs.declared.doc.Hop.{Hop}
 use Rattle.cdx_bom.specs.declared.doc.RoadError.{RoadError}
 use Rattle.cdx_bom.specs.Trees.{bom_tree}
-use Rattle.cdx_bom.specs.Docs.{IsDoc, Refuses, hop_of}
+use Rattle.cdx_bom.specs.Docs.{IsDoc, Refuses}
 
 -- a hop is written in 1.3
 abbrev pub any_first : List trips.Hop → Bool

@@ -21,11 +21,12 @@ use Rattle.cdx_bom.specs.Docs.{IsDoc, hop_of, hops_of, AnswersRoad}
 -- ---- settling
 
 -- Equal, save that in JSON 1.5 the one may have an empty tool list where the other has a tools object without parts.
-abbrev pub AreAlike : Doc → Doc → Type 0
-AreAlike (doc.Json u) (doc.Json v) = (view u ≡ view v) ⊎ ((s : Tree) × (t : Tree) × (view u ≡ jspell s V1_5 a_bill) × (view v ≡ jspell t V1_5 a_bill) × IsSame s t)
-AreAlike (doc.Json u) (doc.Xml f) = ⊥
-AreAlike (doc.Xml e) (doc.Json v) = ⊥
-AreAlike (doc.Xml e) (doc.Xml f) = e.list ≡ f.list
+abbrev pub AreAlike : SpecVersion → Doc → Doc → Type 0
+AreAlike w (doc.Json u) (doc.Json v) = (view u ≡ view v)
+    ⊎ ((w ≡ V1_5) × ((s : Tree) × (t : Tree) × (view u ≡ jspell s V1_5 a_bill) × (view v ≡ jspell t V1_5 a_bill) × IsSame s t))
+AreAlike w (doc.Json u) (doc.Xml f) = ⊥
+AreAlike w (doc.Xml e) (doc.Json v) = ⊥
+AreAlike w (doc.Xml e) (doc.Xml f) = e.list ≡ f.list
 
 -- the hop after g in these hops
 abbrev pub with_hop : List Hop → Hop → List Hop → List Hop
@@ -37,7 +38,7 @@ RoadsSettle = (x : Doc) (y : roads.Doc) (v : SpecVersion) (g g' h h' : List Hop)
     → IsDoc x y → AnswersRoad x v (with_hop g a g') (Ok docs) → AnswersRoad x v (with_hop h c h') (Ok others)
     → slice_get docs (length g) ≡ Some d → slice_get others (length h) ≡ Some e
     → a.form ≡ c.form → a.version ≡ c.version → lowest_with (hops_of g) (hop_of a) ≡ lowest_with (hops_of h) (hop_of c) → xml_count 2 (hops_of (with_hop g a [])) ≡ xml_count 2 (hops_of (with_hop h c []))
-    → AreAlike d e
+    → AreAlike c.version d e
 
 -- ---- roads in two parts
 

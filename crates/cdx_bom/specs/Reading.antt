@@ -1,9 +1,7 @@
 -- A bill while its children are read, in two groups of rows.
-use Rattle.std.specs.Prelude.{List}
-use Rattle.cdx_models.specs.declared.bom.SpecVersion.{SpecVersion}
 use Rattle.cdx_models.specs.Trees.{bill, Trees, ◌⧺◌}
 use Rattle.cdx_schema.specs.Depth.{Depth, top}
-use Rattle.cdx_schema.specs.Kinds.{lax, Row}
+use Rattle.cdx_schema.specs.Kinds.{lax}
 use Rattle.cdx_schema.specs.XmlReading.{Plan}
 use Rattle.cdx_json.specs.Groups.{group}
 use Rattle.cdx_leaf.specs.Groups.{rows_plan}

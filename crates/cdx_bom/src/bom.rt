@@ -1,5 +1,6 @@
 //! A whole bill.
 
+ghost use Rattle.cdx_schema.specs.Kinds.{a_bill};
 ghost use Rattle.std.specs.Prelude.{◌≡◌, refl, None};
 ghost use Rattle.cdx_models.specs.Same.{same};
 ghost use Rattle.cdx_models.specs.SameLaws.{same_laws};
@@ -19,6 +20,7 @@ mod shallow;
 use cdx_models::{ExternalReferences, HasTree, Properties, SpecVersion, UrnUuid};
 use cdx_nest::{Components, Metadata, Services};
 use cdx_relations::{Compositions, Dependencies};
+use cdx_schema::Kinded;
 use cdx_signature::Signature;
 use compared::same_bom;
 use copied::copy_bom;
@@ -31,11 +33,15 @@ pub struct Bom {
     pub spec_version: SpecVersion,
     /// How often this bill was issued, from 1 on by CycloneDX.
     pub version: u32,
+    /// The number by which the bill is known.
     pub serial_number: Option<UrnUuid>,
     /// What the bill says of itself.
     pub metadata: Option<Metadata>,
+    /// What the software is made of.
     pub components: Option<Components>,
+    /// The services that it calls.
     pub services: Option<Services>,
+    /// Where more is told of the bill.
     pub external_references: Option<ExternalReferences>,
     /// Which parts need which.
     pub dependencies: Option<Dependencies>,
@@ -69,7 +75,19 @@ impl Drop for Bom {
 impl Bom {
     /// The bill of version 1 under this label, without any other field. It takes no memory.
     pub fn new(spec_version: SpecVersion) -> Bom
-        ensures { result ≡ record { spec_version = spec_version; version = 1; serial_number = None; metadata = None; components = None; services = None; external_references = None; dependencies = None; compositions = None; properties = None; signature = None } }
+        ensures { result ≡ record {
+          spec_version = spec_version;
+          version = 1;
+          serial_number = None;
+          metadata = None;
+          components = None;
+          services = None;
+          external_references = None;
+          dependencies = None;
+          compositions = None;
+          properties = None;
+          signature = None;
+        } }
     {
         Bom {
             spec_version,
@@ -99,6 +117,10 @@ impl HasTree for Bom {
     fn same(&self, other: &Bom) -> bool {
         same_bom(self, other)
     }
+}
+
+impl Kinded for Bom {
+    ghost kind = { a_bill };
 }
 
 impl PartialEq for Bom {

@@ -8,21 +8,27 @@ use std::alloc::AllocError;
 /// A bill as a document.
 #[derive(Debug, Drop)]
 pub enum Doc {
+    /// A JSON value.
     Json(Value),
+    /// The events of an XML document.
     Xml(Events),
 }
 
 /// The form of a document.
 #[derive(Clone, Copy, Debug, PartialEq, Eq)]
 pub enum Form {
+    /// JSON.
     Json,
+    /// Events of XML.
     Xml,
 }
 
 /// One writing of a bill: the form and the version of the document that is written.
 #[derive(Clone, Copy, Debug, PartialEq, Eq)]
 pub struct Hop {
+    /// The form that is written.
     pub form: Form,
+    /// The version that is written.
     pub version: SpecVersion,
 }
 

@@ -16,4 +16,4 @@ pub use bom::settled::same;
 pub use doc::{Doc, Form, Hop, RoadError};
 pub use laws::{roads_join, roads_settle};
 pub use putting::{PutError, put_text};
-pub use roads::{into_road, is_document, one_document, recode, road};
+pub use roads::{into_bill, into_road, is_document, one_document, recode, road};

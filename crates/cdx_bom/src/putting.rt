@@ -9,6 +9,7 @@ use cdx_events::{Failed, Sink, Text};
 /// The sink failed. So many of the text's first bytes went out.
 #[derive(Debug, Drop)]
 pub struct PutError {
+    /// How many bytes went out before the sink failed.
     pub written: usize,
 }
 
@@ -16,8 +17,10 @@ pub struct PutError {
 /// text went out, and all that was written is flushed. `PutError` comes only where the count rose. It takes no memory.
 pub fn put_text<K: Sink>(text: &Text, sink: &mut K) -> Result<(), PutError>
     ensures ok { OnOk result (Appends (K.written sink.old) (K.written sink.new) text.now) }
-    ensures flushed { OnOk result (IfSome (K.flushed sink.new) (λ n. IfSome (K.written sink.new) (λ bytes. n ≡ length bytes))) }
-    ensures err { IfErr result (λ e. (e.written ≤ length text.now) × Appends (K.written sink.old) (K.written sink.new) (take e.written text.now)) }
+    ensures flushed { OnOk result (IfSome (K.flushed sink.new)
+        (λ n. IfSome (K.written sink.new) (λ bytes. n ≡ length bytes))) }
+    ensures err { IfErr result (λ e. (e.written ≤ length text.now)
+        × Appends (K.written sink.old) (K.written sink.new) (take e.written text.now)) }
     ensures cause { HasCause (K.faults sink.old) (K.faults sink.new) result }
 {
     let bytes = text.as_str().as_bytes();

@@ -99,7 +99,8 @@ fn version_missing() -> RoadError
 
 // The documents of the hops, each of the document before it, the first of which is one that denotes the bill.
 fn along(alloc: Global, bill: &Bom, hops: &[Hop]) -> Result<List<Doc>, RoadError>
-    ensures { (x : roads.Doc) (v : SpecVersion) → roads.denotes x v ≡ Ok (bom_tree bill.now) → Answers (roads.hops_from x v (hops_of hops.now)) result }
+    ensures { (x : roads.Doc) (v : SpecVersion) → roads.denotes x v ≡ Ok (bom_tree bill.now)
+        → Answers (roads.hops_from x v (hops_of hops.now)) result }
 {
     let mut docs = List::new(alloc);
     let Some((first, rest)) = hops.split_first() else {
@@ -119,7 +120,8 @@ fn along(alloc: Global, bill: &Bom, hops: &[Hop]) -> Result<List<Doc>, RoadError
 
 // The documents of the hops from the bill on, unless a hop's version can't hold it.
 fn carry(alloc: Global, bill: Bom, hops: &[Hop]) -> Result<List<Doc>, RoadError>
-    ensures { (x : roads.Doc) (v : SpecVersion) → roads.denotes x v ≡ Ok (bom_tree bill) → Answers (roads.road x v (hops_of hops.now)) result }
+    ensures { (x : roads.Doc) (v : SpecVersion) → roads.denotes x v ≡ Ok (bom_tree bill)
+        → Answers (roads.road x v (hops_of hops.now)) result }
 {
     if !fits_all(&bill, hops) {
         drop(bill);
@@ -133,21 +135,27 @@ fn carry(alloc: Global, bill: Bom, hops: &[Hop]) -> Result<List<Doc>, RoadError>
 /// The documents of a road: each hop reads the document before it, in the version in which that was written, and
 /// writes what its own version keeps of the bill, in its form. No hops make no documents.
 ///
-/// `Json` or `Xml` is the first fault of `doc`, read in `v`. Else `Bom(BomSerializationError(V1_3, VersionMissing))`
+/// `Json` or `Xml` is the first fault of `doc`, read in `version`. Else `Bom(BomSerializationError(V1_3, VersionMissing))`
 /// comes exactly where a hop is in 1.3 and a component of the bill, outside of tools, has no version. Want of memory
 /// comes only as `Memory`. A refused road gives no document.
-pub fn road(alloc: Global, doc: &Doc, v: SpecVersion, hops: &[Hop]) -> Result<List<Doc>, RoadError>
-    ensures { AnswersRoad doc.now v hops.now result }
+pub fn road(
+    alloc: Global,
+    doc: &Doc,
+    version: SpecVersion,
+    hops: &[Hop],
+) -> Result<List<Doc>, RoadError>
+    ensures { AnswersRoad doc.now version hops.now result }
 {
-    let bill = bill_of(alloc, doc, v)?;
+    let bill = bill_of(alloc, doc, version)?;
     carry(alloc, bill, hops)
 }
 
-// The bill of a document that is freed with the call.
-fn take_bill(alloc: Global, doc: Doc, v: SpecVersion) -> Result<Bom, RoadError>
-    ensures { (x : roads.Doc) → IsDoc doc x → Denotes (roads.denotes x v) result }
+/// The bill of a document, read in a version, or its first fault as `Json` or `Xml`. Nothing else needs the document, and
+/// it is freed once its bill is read. Want of memory comes only as `Memory`.
+pub fn into_bill(alloc: Global, doc: Doc, version: SpecVersion) -> Result<Bom, RoadError>
+    ensures { (x : roads.Doc) → IsDoc doc x → Denotes (roads.denotes x version) result }
 {
-    bill_of(alloc, &doc, v)
+    bill_of(alloc, &doc, version)
 }
 
 /// `road` of a document that nothing else needs. It is freed once its bill is read, so that its memory serves the
@@ -155,12 +163,12 @@ fn take_bill(alloc: Global, doc: Doc, v: SpecVersion) -> Result<Bom, RoadError>
 pub fn into_road(
     alloc: Global,
     doc: Doc,
-    v: SpecVersion,
+    version: SpecVersion,
     hops: &[Hop],
 ) -> Result<List<Doc>, RoadError>
-    ensures { AnswersRoad doc v hops.now result }
+    ensures { AnswersRoad doc version hops.now result }
 {
-    let bill = take_bill(alloc, doc, v)?;
+    let bill = into_bill(alloc, doc, version)?;
     carry(alloc, bill, hops)
 }
 
@@ -168,20 +176,20 @@ pub fn into_road(
 pub fn recode(
     alloc: Global,
     doc: &Doc,
-    v: SpecVersion,
+    version: SpecVersion,
     to: Form,
-    w: SpecVersion,
+    new_version: SpecVersion,
 ) -> Result<Doc, RoadError>
-    ensures { AnswersHop doc.now v (record { form = to; version = w }) result }
+    ensures { AnswersHop doc.now version (record { form = to; version = new_version }) result }
 {
-    let read = bill_of(alloc, doc, v)?;
-    if !read.fits(w) {
+    let read = bill_of(alloc, doc, version)?;
+    if !read.fits(new_version) {
         drop(read);
         return Err(version_missing());
     }
     let hop = Hop {
         form: to,
-        version: w,
+        version: new_version,
     };
     Ok(spell_freed(alloc, read, hop)?)
 }

@@ -11,7 +11,7 @@ use Rattle.cdx_events.specs.Cursor.{Cursor}
 use Rattle.cdx_models.specs.declared.errors.XmlReadError.{XmlReadError}
 use Rattle.cdx_models.specs.declared.bom.SpecVersion.{SpecVersion}
 use Rattle.cdx_models.specs.declared.bom.SpecVersion.TheVariants.{V1_3}
-use Rattle.cdx_models.specs.Trees.{component, pedigree, fields, absent, one, Trees}
+use Rattle.cdx_models.specs.Trees.{component, pedigree, fields, absent, one, Trees, fields_of}
 use Rattle.cdx_schema.specs.Depth.{Depth}
 use Rattle.cdx_schema.specs.Kinds.{components, a_list, a_record}
 use Rattle.cdx_schema.specs.Table.{rows, rule, list}
@@ -22,14 +22,13 @@ use Rattle.cdx_leaf.specs.Fault.{Fails}
 use Rattle.cdx_leaf.specs.Listing.{items_read, listing_slots}
 use Rattle.cdx_leaf.specs.Reading.{Stands, Reads, after}
 use Rattle.cdx_leaf.specs.Rules.{as_rule}
-use Rattle.cdx_leaf.specs.Trees.{fields_of, collected}
+use Rattle.cdx_leaf.specs.Trees.{collected}
 use Rattle.cdx_leaf.specs.declared.rule.Rule.TheVariants.{Lax}
 use Rattle.cdx_leaf.specs.declared.taken.Taken.{Taken}
 use Rattle.cdx_leaf.specs.declared.taken.Taken.TheVariants as answers
 use Rattle.cdx_leaf.proofs.ChildSteps.{takes_more, takes_none}
-use Rattle.cdx_leaf.proofs.Nested.{IsNested}
 use Rattle.cdx_leaf.proofs.Parts.{list_reads, items_are, items_fail}
-use Rattle.cdx_leaf.proofs.Whole.{nested_is}
+use Rattle.cdx_leaf.proofs.Whole.{IsNested, nested_is}
 use Rattle.cdx_component.specs.declared.component.Component.{Component}
 use Rattle.cdx_component.specs.declared.component.Components.{Components}
 use Rattle.cdx_component.specs.declared.component.Pedigree.{Pedigree}

@@ -1,10 +1,10 @@
 -- The trees of components, pedigrees and lists of components, one level at a time.
-use Rattle.std.proofs.Common.{◌≡◌, false, List, Option, Some, None, refl, ap, ◌∙◌}
+use Rattle.std.proofs.Common.{◌≡◌, false, Option, Some, None, refl, ap, ◌∙◌}
 use Rattle.cdx_models.specs.Trees.{component, pedigree, Tree, fields, present, list_tree, is_absent}
 use Rattle.cdx_component.specs.declared.component.Component.{Component}
-use Rattle.cdx_component.specs.declared.component.Component.TheOpen.{Component-F, Components-F, Pedigree-F}
+use Rattle.cdx_component.specs.declared.component.Component.TheOpen.{Component-F, Pedigree-F}
 use Rattle.cdx_component.specs.declared.component.Component.TheShapes.{former-Component-pedigree, former-Component-components}
-use Rattle.cdx_component.specs.declared.component.Component.TheViews.{out-Component, out-Components, out-Pedigree, roll-Component, roll-Components, roll-Pedigree}
+use Rattle.cdx_component.specs.declared.component.Component.TheViews.{out-Component, out-Pedigree, roll-Component, roll-Pedigree}
 use Rattle.cdx_component.specs.declared.component.Component.TheFolds.{fold-roll-Component, fold-roll-Pedigree, fold_out-Component, fold_out-Components, fold_out-Pedigree}
 use Rattle.cdx_component.specs.declared.component.Components.{Components}
 use Rattle.cdx_component.specs.declared.component.Pedigree.{Pedigree}

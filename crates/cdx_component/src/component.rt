@@ -1,6 +1,8 @@
 //! Components, their pedigrees and lists of them.
 
 ghost use Rattle.std.specs.Prelude.{◌≡◌, [], ◌∷◌, ◌++◌, IfOk, OnOk, OnErr, length, slice_get, option_copied, is_some, nat_lt};
+ghost use Rattle.cdx_models.specs.Trees.{component, pedigree};
+ghost use Rattle.cdx_schema.specs.Kinds.{components, a_list, a_record};
 ghost use Rattle.cdx_models.specs.Same.{same};
 ghost use Rattle.cdx_models.specs.SameLaws.{same_laws};
 ghost use Rattle.cdx_component.specs.Trees.{component_tree, components_tree, pedigree_tree, listed};
@@ -17,6 +19,7 @@ use cdx_license::Licenses;
 use cdx_models::{ExternalReferences, HasTree, Hashes, OrganizationalEntity, Properties};
 use cdx_parts::{ComponentEvidence, Cpe, MimeType, Swid};
 use cdx_patch::Patches;
+use cdx_schema::Kinded;
 use cdx_signature::Signature;
 use compared::{same_component, same_components, same_pedigree};
 use copied::{copy_component, copy_components, copy_pedigree};
@@ -35,28 +38,43 @@ pub struct Component {
     pub bom_ref: Option<Text>,
     /// Who supplied it, often its maker.
     pub supplier: Option<OrganizationalEntity>,
+    /// Who wrote it.
     pub author: Option<Text>,
+    /// Who published it.
     pub publisher: Option<Text>,
+    /// The group of which it is a part.
     pub group: Option<Text>,
+    /// Its name.
     pub name: Text,
     /// Required in 1.3.
     pub version: Option<Text>,
+    /// What it is.
     pub description: Option<Text>,
     /// Whether it is needed, as `required`.
     pub scope: Option<Text>,
+    /// The hashes of its file.
     pub hashes: Option<Hashes>,
+    /// Its licenses.
     pub licenses: Option<Licenses>,
+    /// Its copyright notice.
     pub copyright: Option<Text>,
+    /// Its name in the Common Platform Enumeration.
     pub cpe: Option<Cpe>,
     /// A package URL, which isn't checked.
     pub purl: Option<Text>,
+    /// Its software identification tag.
     pub swid: Option<Swid>,
     /// Whether it was changed since its author published it.
     pub modified: Option<bool>,
+    /// What it was made from.
     pub pedigree: Option<Pedigree>,
+    /// Where more is told of it.
     pub external_references: Option<ExternalReferences>,
+    /// What else there is to say of it.
     pub properties: Option<Properties>,
+    /// The components that it holds.
     pub components: Option<Components>,
+    /// What was found in it.
     pub evidence: Option<ComponentEvidence>,
     /// Known from 1.4 on.
     pub signature: Option<Signature>,
@@ -106,11 +124,17 @@ pub struct Components {
 #[cycle(component)]
 #[derive(Debug)]
 pub struct Pedigree {
+    /// What it was made from.
     pub ancestors: Option<Components>,
+    /// What was made from it.
     pub descendants: Option<Components>,
+    /// What is like it, where it isn't known which was first.
     pub variants: Option<Components>,
+    /// The commits that lie between.
     pub commits: Option<Commits>,
+    /// The patches that lie between.
     pub patches: Option<Patches>,
+    /// What else there is to say.
     pub notes: Option<Text>,
 }
 
@@ -193,6 +217,10 @@ impl HasTree for Component {
     }
 }
 
+impl Kinded for Component {
+    ghost kind = { a_record component };
+}
+
 impl PartialEq for Component {
     ghost eq = { λ a b. same (component_tree a) (component_tree b) };
 
@@ -217,6 +245,10 @@ impl HasTree for Components {
     }
 }
 
+impl Kinded for Components {
+    ghost kind = { a_list components };
+}
+
 impl PartialEq for Components {
     ghost eq = { λ a b. same (components_tree a) (components_tree b) };
 
@@ -239,6 +271,10 @@ impl HasTree for Pedigree {
     fn same(&self, other: &Pedigree) -> bool {
         same_pedigree(self, other)
     }
+}
+
+impl Kinded for Pedigree {
+    ghost kind = { a_record pedigree };
 }
 
 impl PartialEq for Pedigree {

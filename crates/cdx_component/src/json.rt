@@ -1,7 +1,5 @@
 //! Components, pedigrees and lists of components in JSON.
 
-ghost use Rattle.cdx_models.specs.Trees.{component, pedigree};
-ghost use Rattle.cdx_schema.specs.Kinds.{components, a_list, a_record};
 ghost use Rattle.cdx_component.specs.Stays.{component_stays, components_stay, pedigree_stays};
 
 mod keeping;
@@ -9,17 +7,13 @@ mod reading;
 mod writing;
 
 use crate::component::{Component, Components, Pedigree};
-use cdx_json::{Depth, FromJson, Kept, Kinded, ToJson};
+use cdx_json::{Depth, FromJson, Kept, ToJson};
 use cdx_models::{JsonReadError, SpecVersion};
 use keeping::{keep_component, keep_components, keep_pedigree};
 use reading::{read_component, read_components, read_pedigree};
 use serde_json::Value;
 use std::alloc::{AllocError, Global};
 use writing::{write_component, write_components, write_pedigree};
-
-impl Kinded for Component {
-    ghost kind = { a_record component };
-}
 
 impl FromJson for Component {
     fn from_json_at(
@@ -51,10 +45,6 @@ impl ToJson for Component {
     }
 }
 
-impl Kinded for Components {
-    ghost kind = { a_list components };
-}
-
 impl FromJson for Components {
     fn from_json_at(
         alloc: Global,
@@ -83,10 +73,6 @@ impl ToJson for Components {
     fn to_value(&self, alloc: Global, version: SpecVersion) -> Result<Value, AllocError> {
         write_components(self, alloc, version)
     }
-}
-
-impl Kinded for Pedigree {
-    ghost kind = { a_record pedigree };
 }
 
 impl FromJson for Pedigree {

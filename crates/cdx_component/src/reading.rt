@@ -18,13 +18,12 @@ use std::alloc::Global;
 
 /// A component outside all components. Its parts count their depth from here on.
 impl FromXml for Component {
-    ghost use Rattle.cdx_models.specs.Trees.{component};
-    ghost use Rattle.cdx_schema.specs.Kinds.{a_record};
+    ghost use Rattle.std.specs.Prelude.{refl};
     ghost use Rattle.cdx_schema.specs.Depth.{top};
 
-    ghost kind = { a_record component };
-
     ghost depth = { λ d. top };
+
+    ghost at_top = { refl };
 
     fn read_xml_element(
         alloc: Global,
@@ -39,12 +38,12 @@ impl FromXml for Component {
 
 /// A list of components outside all components.
 impl FromXml for Components {
-    ghost use Rattle.cdx_schema.specs.Kinds.{components, a_list};
+    ghost use Rattle.std.specs.Prelude.{refl};
     ghost use Rattle.cdx_schema.specs.Depth.{top};
 
-    ghost kind = { a_list components };
-
     ghost depth = { λ d. top };
+
+    ghost at_top = { refl };
 
     fn read_xml_element(
         alloc: Global,
@@ -59,13 +58,12 @@ impl FromXml for Components {
 
 /// A pedigree outside all components.
 impl FromXml for Pedigree {
-    ghost use Rattle.cdx_models.specs.Trees.{pedigree};
-    ghost use Rattle.cdx_schema.specs.Kinds.{a_record};
+    ghost use Rattle.std.specs.Prelude.{refl};
     ghost use Rattle.cdx_schema.specs.Depth.{top};
 
-    ghost kind = { a_record pedigree };
-
     ghost depth = { λ d. top };
+
+    ghost at_top = { refl };
 
     fn read_xml_element(
         alloc: Global,

@@ -16,17 +16,13 @@ use Rattle.cdx_schema.specs.Table.{rows}
 use Rattle.cdx_schema.specs.XmlReading.{record_plan, attributes_read, in_force, ended, xread}
 use Rattle.cdx_leaf.specs.Begun.{read_on}
 use Rattle.cdx_leaf.specs.Fault.{Fails}
-use Rattle.cdx_leaf.specs.Plain.{IsPlain}
 use Rattle.cdx_leaf.specs.Reading.{Reads}
+use Rattle.cdx_leaf.specs.RowContents.{content_is}
 use Rattle.cdx_leaf.proofs.Records.{first_fails}
 use Rattle.cdx_leaf.proofs.Whole.{record_is, finished}
 use Rattle.cdx_nest.specs.Reading.{metadata_slots}
 use Rattle.cdx_nest.specs.Trees.{metadata_tree}
 use Rattle.cdx_nest.specs.declared.metadata.Metadata.{Metadata}
-
-metadata_plain : IsPlain metadata
-unfolding rows
-metadata_plain = record { no_content = refl; shallow = λ d. refl; same_depth = λ d. refl }
 
 abbrev pub nothing_yet : Trees
 nothing_yet = more absent (more absent (more absent (more absent (more absent (more absent (more absent (more absent none)))))))
@@ -45,7 +41,7 @@ module _ (v : SpecVersion) (n : OwnedName) (a : List OwnedAttribute) (ns : Names
 
   metadata_is : xread (element n a ns nodes) v (a_record metadata) p d ≡ (so_far >>= λ ts. finished metadata v n.local_name (suc (p + places_of nodes)) ts)
   metadata_is =
-      record_is metadata metadata_plain v n a ns d p nodes
+      record_is metadata (content_is metadata) refl v n a ns d p nodes
       ∙ ap (λ x. read_on x (record_plan metadata) v d n.local_name p nodes >>= λ ts. finished metadata v n.local_name (suc (p + places_of nodes)) ts) (metadata_begins a v n.local_name p)
 
   pub metadata_reads : (old new end : Cursor) (r : Result Metadata XmlReadError) → Reads metadata_slots old new end so_far r → Reads metadata_tree old new end (xread (element n a ns nodes) v (a_record metadata) p d) r

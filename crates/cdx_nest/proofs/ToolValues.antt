@@ -86,7 +86,7 @@ unfolding kept jspell
 alike ts = refl
 
 pub object_spelled : (ts : Trees) → object (rows_put ts V1_5 (rows tools_object) no_members) ≡ jspell (keep V1_5 (fields tools_object ts) a_tools) V1_5 a_tools
-object_spelled ts = record_put tools_object V1_5 (fields tools_object ts) (refl, refl) ∙ alike ts
+object_spelled ts = record_put tools_object V1_5 (fields tools_object ts) refl refl ∙ alike ts
 
 pub empty_is : (v : Vec Value Global) → v.items ≡ [] → view (Array v) ≡ array no_items
 empty_is v e = view-Array v ∙ ap (λ xs. array (items_of (map view xs))) e

@@ -1,5 +1,6 @@
 //! What a bill says of itself.
 
+ghost use Rattle.cdx_models.specs.Trees.{metadata};
 ghost use Rattle.std.specs.Prelude.{◌≡◌, refl, None};
 ghost use Rattle.cdx_models.specs.Same.{same};
 ghost use Rattle.cdx_models.specs.SameLaws.{same_laws};
@@ -17,6 +18,7 @@ use cdx_component::{Component, component_row_has_versions};
 use cdx_events::{List, Text};
 use cdx_license::Licenses;
 use cdx_models::{HasTree, OrganizationalContact, OrganizationalEntity, Properties, SpecVersion};
+use cdx_schema::Record;
 use compared::same_metadata;
 use copied::copy_metadata;
 use std::alloc::{AllocError, Global};
@@ -26,6 +28,7 @@ use std::alloc::{AllocError, Global};
 pub struct Metadata {
     /// When the bill was made: a date with time and zone by CycloneDX, which isn't checked.
     pub timestamp: Option<Text>,
+    /// What made the bill.
     pub tools: Option<Tools>,
     /// The persons who made the bill.
     pub authors: Option<List<OrganizationalContact>>,
@@ -37,6 +40,7 @@ pub struct Metadata {
     pub supplier: Option<OrganizationalEntity>,
     /// The licenses of the bill itself.
     pub licenses: Option<Licenses>,
+    /// What else there is to say of the bill.
     pub properties: Option<Properties>,
 }
 
@@ -57,7 +61,17 @@ impl Drop for Metadata {
 }
 
 impl Default for Metadata {
-    ghost is_default = { λ metadata. metadata ≡ record { timestamp = None; tools = None; authors = None; component = None; manufacture = None; supplier = None; licenses = None; properties = None } };
+    ghost is_default = { λ metadata. metadata ≡ record {
+      timestamp = None;
+      tools = None;
+      authors =
+          None;
+      component = None;
+      manufacture = None;
+      supplier = None;
+      licenses = None;
+      properties = None;
+    } };
 
     /// The metadata without any field.
     fn default() -> Metadata {
@@ -97,6 +111,14 @@ impl HasTree for Metadata {
     fn same(&self, other: &Metadata) -> bool {
         same_metadata(self, other)
     }
+}
+
+impl Record for Metadata {
+    ghost name = { metadata };
+
+    ghost is_record = { λ x. refl };
+
+    ghost plain = { refl };
 }
 
 impl PartialEq for Metadata {

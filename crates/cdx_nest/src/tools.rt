@@ -1,5 +1,6 @@
 //! The tools that made a bill.
 
+ghost use Rattle.cdx_schema.specs.Kinds.{a_tools};
 ghost use Rattle.cdx_models.specs.Same.{same};
 ghost use Rattle.cdx_models.specs.SameLaws.{same_laws};
 ghost use Rattle.cdx_nest.specs.Trees.{tools_tree, tools_there};
@@ -7,16 +8,20 @@ ghost use Rattle.cdx_nest.specs.Trees.{tools_tree, tools_there};
 use cdx_component::Components;
 use cdx_events::List;
 use cdx_models::{HasTree, Tool, copy_row, same_row};
+use cdx_schema::Kinded;
 use cdx_service::Services;
 use std::alloc::{AllocError, Global};
 
 /// The tools that made a bill: each by its name, or the services and components that they are.
 #[derive(Debug, Drop)]
 pub enum Tools {
+    /// Tools by their names, in order.
     List(List<Tool>),
     /// Known from 1.5 on.
     Object {
+        /// Services that took part.
         services: Option<Services>,
+        /// Components that took part.
         components: Option<Components>,
     },
 }
@@ -55,6 +60,10 @@ impl HasTree for Tools {
             _ => false,
         }
     }
+}
+
+impl Kinded for Tools {
+    ghost kind = { a_tools };
 }
 
 impl PartialEq for Tools {

@@ -26,13 +26,13 @@ use Rattle.cdx_leaf.specs.Fault.{Fails}
 use Rattle.cdx_leaf.specs.Groups.{rows_plan}
 use Rattle.cdx_leaf.specs.Listing.{listing_slots, items_read}
 use Rattle.cdx_leaf.specs.Reading.{Stands, Reads, after}
-use Rattle.cdx_leaf.specs.Trees.{fields_of}
+use Rattle.cdx_models.specs.Trees.{fields_of}
 use Rattle.cdx_leaf.proofs.Attributes.{row_ok, maybe_row}
 use Rattle.cdx_leaf.proofs.Groups.{takes_front, takes_back, ended_of_two}
-use Rattle.cdx_leaf.proofs.Nested.{IsNested, at_depth}
+use Rattle.cdx_leaf.proofs.Nested.{at_depth}
 use Rattle.cdx_leaf.proofs.Parts.{list_reads, items_are, items_fail}
 use Rattle.cdx_leaf.proofs.Records.{first_fails}
-use Rattle.cdx_leaf.proofs.Whole.{nested_is}
+use Rattle.cdx_leaf.proofs.Whole.{IsNested, nested_is}
 use Rattle.cdx_service.specs.declared.service.Service.{Service}
 use Rattle.cdx_service.specs.declared.service.Services.{Services}
 use Rattle.cdx_service.specs.declared.service.parts.ServiceNaming.{ServiceNaming}

@@ -1,10 +1,10 @@
 -- The trees of services and lists of services, one level at a time.
-use Rattle.std.proofs.Common.{◌≡◌, false, List, Option, Some, None, refl, ap, ◌∙◌}
+use Rattle.std.proofs.Common.{◌≡◌, false, Option, Some, None, refl, ap, ◌∙◌}
 use Rattle.cdx_models.specs.Trees.{service, Tree, fields, present, list_tree, is_absent}
 use Rattle.cdx_service.specs.declared.service.Service.{Service}
-use Rattle.cdx_service.specs.declared.service.Service.TheOpen.{Service-F, Services-F}
+use Rattle.cdx_service.specs.declared.service.Service.TheOpen.{Service-F}
 use Rattle.cdx_service.specs.declared.service.Service.TheShapes.{former-Service-services}
-use Rattle.cdx_service.specs.declared.service.Service.TheViews.{out-Service, out-Services, roll-Service, roll-Services}
+use Rattle.cdx_service.specs.declared.service.Service.TheViews.{out-Service, roll-Service}
 use Rattle.cdx_service.specs.declared.service.Service.TheFolds.{fold-roll-Service, fold_out-Service, fold_out-Services}
 use Rattle.cdx_service.specs.declared.service.Services.{Services}
 use Rattle.cdx_models.specs.Trees.{as_is}

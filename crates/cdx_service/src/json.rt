@@ -1,7 +1,5 @@
 //! Services and lists of services in JSON.
 
-ghost use Rattle.cdx_models.specs.Trees.{service};
-ghost use Rattle.cdx_schema.specs.Kinds.{services, a_list, a_record};
 ghost use Rattle.cdx_service.specs.Stays.{service_stays, services_stay};
 
 mod keeping;
@@ -9,17 +7,13 @@ mod reading;
 mod writing;
 
 use crate::service::{Service, Services};
-use cdx_json::{Depth, FromJson, Kept, Kinded, ToJson};
+use cdx_json::{Depth, FromJson, Kept, ToJson};
 use cdx_models::{JsonReadError, SpecVersion};
 use keeping::{keep_service, keep_services};
 use reading::{read_service, read_services};
 use serde_json::Value;
 use std::alloc::{AllocError, Global};
 use writing::{write_service, write_services};
-
-impl Kinded for Service {
-    ghost kind = { a_record service };
-}
 
 impl FromJson for Service {
     fn from_json_at(
@@ -49,10 +43,6 @@ impl ToJson for Service {
     fn to_value(&self, alloc: Global, version: SpecVersion) -> Result<Value, AllocError> {
         write_service(self, alloc, version)
     }
-}
-
-impl Kinded for Services {
-    ghost kind = { a_list services };
 }
 
 impl FromJson for Services {

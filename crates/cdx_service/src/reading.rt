@@ -15,13 +15,12 @@ use std::alloc::Global;
 /// The rows in the schema's order; elements that no row has are skipped, and texts are unexpected. The services that stand
 /// in it are counted from itself on.
 impl FromXml for Service {
-    ghost use Rattle.cdx_models.specs.Trees.{service};
+    ghost use Rattle.std.specs.Prelude.{refl};
     ghost use Rattle.cdx_schema.specs.Depth.{top};
-    ghost use Rattle.cdx_schema.specs.Kinds.{a_record};
-
-    ghost kind = { a_record service };
 
     ghost depth = { λ d. top };
+
+    ghost at_top = { refl };
 
     fn read_xml_element(
         alloc: Global,
@@ -36,12 +35,12 @@ impl FromXml for Service {
 
 /// The services that stand in it are counted from itself on.
 impl FromXml for Services {
+    ghost use Rattle.std.specs.Prelude.{refl};
     ghost use Rattle.cdx_schema.specs.Depth.{top};
-    ghost use Rattle.cdx_schema.specs.Kinds.{a_list, services};
-
-    ghost kind = { a_list services };
 
     ghost depth = { λ d. top };
+
+    ghost at_top = { refl };
 
     fn read_xml_element(
         alloc: Global,

@@ -1,6 +1,8 @@
 //! Services and lists of them.
 
 ghost use Rattle.std.specs.Prelude.{◌≡◌, [], ◌∷◌, ◌++◌, IfOk, OnOk, OnErr, length, slice_get, option_copied, is_some, nat_lt};
+ghost use Rattle.cdx_models.specs.Trees.{service};
+ghost use Rattle.cdx_schema.specs.Kinds.{services, a_list, a_record};
 ghost use Rattle.cdx_models.specs.Same.{same};
 ghost use Rattle.cdx_models.specs.SameLaws.{same_laws};
 ghost use Rattle.cdx_service.specs.Trees.{service_tree, services_tree, services_listed};
@@ -14,6 +16,7 @@ use cdx_data::Data;
 use cdx_events::{List, Text};
 use cdx_license::Licenses;
 use cdx_models::{ExternalReferences, HasTree, OrganizationalEntity, Properties};
+use cdx_schema::Kinded;
 use cdx_signature::Signature;
 use compared::{same_service, same_services};
 use copied::{copy_service, copy_services};
@@ -27,9 +30,13 @@ pub struct Service {
     pub bom_ref: Option<Text>,
     /// Who runs it.
     pub provider: Option<OrganizationalEntity>,
+    /// The group of which it is a part.
     pub group: Option<Text>,
+    /// Its name.
     pub name: Text,
+    /// Its own version.
     pub version: Option<Text>,
+    /// What it does.
     pub description: Option<Text>,
     /// The addresses under which it is reached.
     pub endpoints: Option<List<Text>>,
@@ -39,9 +46,13 @@ pub struct Service {
     pub x_trust_boundary: Option<bool>,
     /// What it takes and gives.
     pub data_items: Option<Data>,
+    /// Its licenses.
     pub licenses: Option<Licenses>,
+    /// Where more is told of it.
     pub external_references: Option<ExternalReferences>,
+    /// What else there is to say of it.
     pub properties: Option<Properties>,
+    /// The services that it holds.
     pub services: Option<Services>,
     /// Known from 1.4 on.
     pub signature: Option<Signature>,
@@ -100,7 +111,8 @@ impl Services {
 
     /// Appends a service. Where there is no memory, the list is as before and the service is dropped.
     pub fn push(&mut self, item: Service) -> Result<(), AllocError>
-        ensures ok { OnOk result (services_listed self.new ≡ services_listed self.old ++ item ∷ []) }
+        ensures ok { OnOk result
+            (services_listed self.new ≡ services_listed self.old ++ item ∷ []) }
         ensures err { OnErr result (services_listed self.new ≡ services_listed self.old) }
     {
         self.items.push(item)?;
@@ -144,6 +156,10 @@ impl HasTree for Service {
     }
 }
 
+impl Kinded for Service {
+    ghost kind = { a_record service };
+}
+
 impl PartialEq for Service {
     ghost eq = { λ a b. same (service_tree a) (service_tree b) };
 
@@ -166,6 +182,10 @@ impl HasTree for Services {
     fn same(&self, other: &Services) -> bool {
         same_services(self, other)
     }
+}
+
+impl Kinded for Services {
+    ghost kind = { a_list services };
 }
 
 impl PartialEq for Services {

@@ -22,7 +22,7 @@ mod writing;
 use crate::bom::Bom;
 use crate::bom::parts::assemble;
 use cdx_events::Text;
-use cdx_json::{Depth, FromJson, Kept, Kinded, ToJson, at_member, here, required_row};
+use cdx_json::{Depth, FromJson, Kept, ToJson, at_member, here, required_row};
 use cdx_models::{JsonKind, JsonReadError, SpecVersion};
 pub(crate) use floats::refuse_floats;
 use keeping::{keep_inventory, keep_relations};
@@ -30,10 +30,6 @@ use reading::{read_inventory, read_relations};
 use serde_json::{Map, Value};
 use std::alloc::{AllocError, Global};
 use writing::{put_inventory, put_relations};
-
-impl Kinded for Bom {
-    ghost kind = { a_bill };
-}
 
 impl FromJson for Bom {
     fn from_json_at(
@@ -104,7 +100,8 @@ fn read_format(
     version: SpecVersion,
     depth: Depth,
 ) -> Result<(), JsonReadError>
-    ensures { Gives format_text result (format_of (seen (members_view map.now.entries)) version (depth_of depth)) }
+    ensures { Gives format_text result
+        (format_of (seen (members_view map.now.entries)) version (depth_of depth)) }
 {
     let format: Text = required_row(alloc, map, "bomFormat", version, depth)?;
     if format.is(FORMAT) {

@@ -19,7 +19,8 @@ impl Bom {
     /// VersionMissing)` exactly where the version is 1.3 and the bill doesn't fit it, since a component lacks a
     /// version, which 1.3 requires. `Memory` only where memory runs out.
     pub fn output_json(&self, alloc: Global, version: SpecVersion) -> Result<Value, JsonWriteError>
-        ensures { Outputs result version (bom_tree self.now) (λ v. view v ≡ spelled version (bom_tree self.now)) }
+        ensures { Outputs result version (bom_tree self.now)
+            (λ v. view v ≡ spelled version (bom_tree self.now)) }
     {
         if !self.fits(version) {
             return Err(JsonWriteError::BomError(lacks_version()));
@@ -29,7 +30,8 @@ impl Bom {
 
     /// What 1.3 keeps of the bill, as a JSON value, with the refusals of `output_json`.
     pub fn output_as_json_v1_3(&self, alloc: Global) -> Result<Value, JsonWriteError>
-        ensures { Outputs result SpecVersion.V1_3 (bom_tree self.now) (λ v. view v ≡ spelled SpecVersion.V1_3 (bom_tree self.now)) }
+        ensures { Outputs result SpecVersion.V1_3 (bom_tree self.now)
+            (λ v. view v ≡ spelled SpecVersion.V1_3 (bom_tree self.now)) }
     {
         self.output_json(alloc, SpecVersion::V1_3)
     }

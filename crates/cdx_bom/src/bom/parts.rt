@@ -33,7 +33,8 @@ pub(crate) struct Relations {
 
 /// The bill of these rows.
 pub(crate) fn assemble(inventory: Inventory, relations: Relations) -> Bom
-    ensures { bom_tree result ≡ fields bill (inventory_trees inventory ⧺ relations_trees relations) }
+    ensures { bom_tree result
+        ≡ fields bill (inventory_trees inventory ⧺ relations_trees relations) }
 {
     Bom {
         spec_version: inventory.spec_version,

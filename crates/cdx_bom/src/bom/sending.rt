@@ -25,10 +25,13 @@ impl Bom {
         sink: &mut K,
     ) -> Result<(), JsonWriteError>
         ensures fits { OnOk result (Fits version (bom_tree self.now)) }
-        ensures ok { OnOk result (Appends (K.written sink.old) (K.written sink.new) (text_of version (bom_tree self.now))) }
-        ensures flushed { OnOk result (IfSome (K.flushed sink.new) (λ n. IfSome (K.written sink.new) (λ bytes. n ≡ length bytes))) }
+        ensures ok { OnOk result (Appends (K.written sink.old) (K.written sink.new)
+            (text_of version (bom_tree self.now))) }
+        ensures flushed { OnOk result (IfSome (K.flushed sink.new)
+            (λ n. IfSome (K.written sink.new) (λ bytes. n ≡ length bytes))) }
         ensures steady { OnOk result (K.faults sink.new ≡ K.faults sink.old) }
-        ensures err { IfErr result (λ e. IsRefused version (bom_tree self.now) K.written K.faults sink.old sink.new e) }
+        ensures err { IfErr result
+            (λ e. IsRefused version (bom_tree self.now) K.written K.faults sink.old sink.new e) }
     {
         let text = self.json_text(alloc, version)?;
         match put_text(&text, sink) {
@@ -41,7 +44,8 @@ impl Bom {
 
     // The compact text of the value that `output_json` answers.
     fn json_text(&self, alloc: Global, version: SpecVersion) -> Result<Text, JsonWriteError>
-        ensures { Outputs result version (bom_tree self.now) (λ t. t ≡ text_of version (bom_tree self.now)) }
+        ensures { Outputs result version (bom_tree self.now)
+            (λ t. t ≡ text_of version (bom_tree self.now)) }
     {
         let value = self.output_json(alloc, version)?;
         match value.to_string(alloc) {

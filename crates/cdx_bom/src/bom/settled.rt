@@ -26,7 +26,8 @@ pub fn same(one: &Bom, other: &Bom) -> bool
 
 #[tactic(auto, using(crate::proofs::Settled::bills_compared))]
 fn same_settled(one: &Bom, other: &Bom) -> bool
-    ensures { result ≡ same_trees (settled (bom_tree one.now) a_bill) (settled (bom_tree other.now) a_bill) }
+    ensures { result
+        ≡ same_trees (settled (bom_tree one.now) a_bill) (settled (bom_tree other.now) a_bill) }
 {
     same_settled_inventory(one, other) && same_relations(one, other)
 }
@@ -41,7 +42,8 @@ fn same_settled_inventory(one: &Bom, other: &Bom) -> bool
 }
 
 fn same_tools(one: &Tools, other: &Tools) -> bool
-    ensures { result ≡ same_trees (settled (tools_tree one.now) a_tools) (settled (tools_tree other.now) a_tools) }
+    ensures { result ≡ same_trees (settled (tools_tree one.now) a_tools)
+        (settled (tools_tree other.now) a_tools) }
 {
     match (one, other) {
         (Tools::List(one), Tools::List(other)) => one.same(other),
@@ -78,8 +80,10 @@ fn is_nothing(
     services: &Option<Services>,
     components: &Option<Components>,
 ) -> bool
-    ensures list { result ≡ same_trees (settled (list_tree tool_tree tools.now) a_tools) (settled (object_tree services.now components.now) a_tools) }
-    ensures object { result ≡ same_trees (settled (object_tree services.now components.now) a_tools) (settled (list_tree tool_tree tools.now) a_tools) }
+    ensures list { result ≡ same_trees (settled (list_tree tool_tree tools.now) a_tools)
+        (settled (object_tree services.now components.now) a_tools) }
+    ensures object { result ≡ same_trees (settled (object_tree services.now components.now) a_tools)
+        (settled (list_tree tool_tree tools.now) a_tools) }
 {
     if tools.len() != 0 {
         return false;
@@ -88,7 +92,8 @@ fn is_nothing(
 }
 
 fn same_tools_row(one: &Option<Tools>, other: &Option<Tools>) -> bool
-    ensures { result ≡ same_trees (settled (present tools_tree one.now) a_tools) (settled (present tools_tree other.now) a_tools) }
+    ensures { result ≡ same_trees (settled (present tools_tree one.now) a_tools)
+        (settled (present tools_tree other.now) a_tools) }
 {
     match (one, other) {
         (None, None) => true,
@@ -100,7 +105,8 @@ fn same_tools_row(one: &Option<Tools>, other: &Option<Tools>) -> bool
 
 #[tactic(auto, using(crate::proofs::Settled::metadata_settled))]
 fn same_metadata(one: &Metadata, other: &Metadata) -> bool
-    ensures { result ≡ same_trees (settled (metadata_tree one.now) (a_record metadata)) (settled (metadata_tree other.now) (a_record metadata)) }
+    ensures { result ≡ same_trees (settled (metadata_tree one.now) (a_record metadata))
+        (settled (metadata_tree other.now) (a_record metadata)) }
 {
     same_row(&one.timestamp, &other.timestamp)
         && same_tools_row(&one.tools, &other.tools)
@@ -113,7 +119,8 @@ fn same_metadata(one: &Metadata, other: &Metadata) -> bool
 }
 
 fn same_metadata_row(one: &Option<Metadata>, other: &Option<Metadata>) -> bool
-    ensures { result ≡ same_trees (settled (present metadata_tree one.now) (a_record metadata)) (settled (present metadata_tree other.now) (a_record metadata)) }
+    ensures { result ≡ same_trees (settled (present metadata_tree one.now) (a_record metadata))
+        (settled (present metadata_tree other.now) (a_record metadata)) }
 {
     match (one, other) {
         (None, None) => true,

@@ -63,24 +63,25 @@ impl Bom {
         read_document(alloc, events, SpecVersion::V1_5)
     }
 
-    /// Gathers the events of a source, at most `budget` of them, and reads the bill that they denote in `v`.
+    /// Gathers the events of a source, at most `budget` of them, and reads the bill that they denote in `version`.
     ///
     /// `ElementReadError` comes where they can't be gathered: of kind `Fault`, only where the count of the source rose,
     /// and of kind `Budget`, exactly where `budget` events were taken and none of them is a document end, each with the
     /// number of events taken; of kind `Unbalanced`, exactly where neither of these comes and what was taken isn't
-    /// balanced, with the place where it breaks. Then come the faults of `parse_from_xml_v1_3`, for `v`.
+    /// balanced, with the place where it breaks. Then come the faults of `parse_from_xml_v1_3`, for `version`.
     pub fn parse_from_xml_source<E: EventSource>(
         alloc: Global,
         source: &mut E,
-        v: SpecVersion,
+        version: SpecVersion,
         budget: usize,
     ) -> Result<Bom, XmlReadError>
-        ensures source { ReadsSource budget (E.left source.old) (E.left source.new) (E.faults source.old) (E.faults source.new) v result }
+        ensures source { ReadsSource budget (E.left source.old) (E.left source.new)
+            (E.faults source.old) (E.faults source.new) version result }
         ensures shallow { IfOk result (λ b. IsShallow (bom_tree b)) }
         ensures sound { OnOk result (E.faults source.new ≡ E.faults source.old) }
     {
         match gather(alloc, source, budget) {
-            Ok(events) => read_document(alloc, &events, v),
+            Ok(events) => read_document(alloc, &events, version),
             Err(error) => Err(gathering_error(error)),
         }
     }

@@ -21,7 +21,8 @@ fn read_inventory_child(
     attributes: &List<OwnedAttribute>,
 ) -> Result<Taken, XmlReadError>
     requires { IsIn reader.old element.now }
-    ensures { TakesChild (inventory_trees held.old) (inventory_trees held.new) reader.old reader.new v inventory_plan at_top element.now attributes.now result }
+    ensures { TakesChild (inventory_trees held.old) (inventory_trees held.new) reader.old reader.new
+        v inventory_plan at_top element.now attributes.now result }
 {
     match element.local_name.as_str() {
         "metadata" => take_one(alloc, reader, v, element, attributes, &mut held.metadata),
@@ -40,7 +41,8 @@ fn read_relations_child(
     attributes: &List<OwnedAttribute>,
 ) -> Result<Taken, XmlReadError>
     requires { IsIn reader.old element.now }
-    ensures { TakesChild (relations_trees held.old) (relations_trees held.new) reader.old reader.new v relations_plan at_top element.now attributes.now result }
+    ensures { TakesChild (relations_trees held.old) (relations_trees held.new) reader.old reader.new
+        v relations_plan at_top element.now attributes.now result }
 {
     match element.local_name.as_str() {
         "externalReferences" => take_one(

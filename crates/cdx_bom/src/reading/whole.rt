@@ -34,7 +34,8 @@ fn read_bill(
     attributes: &List<OwnedAttribute>,
 ) -> Result<Bom, XmlReadError>
     requires { IsIn reader.old element.now }
-    ensures { ReadsAs bom_tree reader.old reader.new element.now attributes.now v (a_record bill) at_top result }
+    ensures { ReadsAs bom_tree reader.old reader.new element.now attributes.now v (a_record bill)
+        at_top result }
 {
     let begun = begin_bill(alloc, reader.place() - 1, v, element, attributes);
     let part: BillPart = read_record(alloc, reader, v, element, begun)?;
@@ -63,10 +64,6 @@ pub(crate) fn read_document(
 }
 
 impl FromXmlDocument for Bom {
-    ghost use Rattle.cdx_schema.specs.Kinds.{a_bill};
-
-    ghost kind = { a_bill };
-
     /// The root's name is asked first, then its default namespace, then its attributes; its children are read in the
     /// order of the events, and the last child of a name counts.
     fn read_xml_document(

@@ -15,13 +15,13 @@ impl Bom {
     /// The events of the document of what the version keeps of the bill.
     /// `BomError(BomSerializationError(V1_3, VersionMissing))` comes exactly where the version is 1.3 and a component
     /// has no version, those in the metadata's tools excepted. Otherwise only want of memory is refused.
-    pub fn output_xml(&self, alloc: Global, w: SpecVersion) -> Result<Events, XmlWriteError>
-        ensures { WritesBill (bom_tree self.now) w result }
+    pub fn output_xml(&self, alloc: Global, version: SpecVersion) -> Result<Events, XmlWriteError>
+        ensures { WritesBill (bom_tree self.now) version result }
     {
-        if !self.fits(w) {
+        if !self.fits(version) {
             return Err(XmlWriteError::BomError(lacks_version()));
         }
-        Ok(events_of(self, alloc, w)?)
+        Ok(events_of(self, alloc, version)?)
     }
 
     /// The events of the bill in CycloneDX 1.3, with the refusals of `output_xml`.
@@ -53,12 +53,13 @@ impl Bom {
     pub fn write_xml_events<K: EventSink>(
         &self,
         alloc: Global,
-        w: SpecVersion,
+        version: SpecVersion,
         sink: &mut K,
     ) -> Result<(), XmlWriteError>
-        ensures { PutsBill (bom_tree self.now) w (K.written sink.old) (K.written sink.new) (K.faults sink.old) (K.faults sink.new) result }
+        ensures { PutsBill (bom_tree self.now) version (K.written sink.old) (K.written sink.new)
+            (K.faults sink.old) (K.faults sink.new) result }
     {
-        let events = self.output_xml(alloc, w)?;
+        let events = self.output_xml(alloc, version)?;
         match send(events, sink) {
             Ok(()) => Ok(()),
             Err(SendError { put }) => Err(XmlWriteError::XmlElementWriteError { put }),

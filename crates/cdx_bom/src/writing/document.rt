@@ -1,13 +1,14 @@
 //! Whole documents of bills.
 
-ghost use Rattle.std.specs.Prelude.{◌≡◌, [], ◌∷◌, true, IfOk};
+ghost use Rattle.std.specs.Prelude.{◌≡◌, [], ◌∷◌, IfOk};
 ghost use Rattle.cdx_models.specs.Trees.{bill};
 ghost use Rattle.cdx_schema.specs.Kinds.{a_bill};
 ghost use Rattle.cdx_schema.specs.Keeping.{keep};
 ghost use Rattle.cdx_schema.specs.Table.{rows};
 ghost use Rattle.cdx_schema.specs.XmlSpelling.{xml_document};
 ghost use Rattle.cdx_write.specs.Spelling.{whole};
-ghost use Rattle.cdx_write.specs.WrittenRows.{parts, rows_written};
+ghost use Rattle.cdx_models.specs.Trees.{fields_of};
+ghost use Rattle.cdx_write.specs.WrittenRows.{rows_written};
 ghost use Rattle.cdx_write.specs.Writing.{Appends};
 ghost use Rattle.cdx_bom.specs.Trees.{bom_tree};
 ghost use Rattle.cdx_bom.specs.BillWriting.{root_start};
@@ -17,7 +18,7 @@ use crate::writing::rows::{root_attributes, write_inventory_rows, write_relation
 use cdx_events::{EventWriter, Events, EventsError, Namespace, OwnedName, Text, XmlEvent};
 use cdx_leaf::namespace_of;
 use cdx_models::{SpecVersion, XmlWriteError};
-use cdx_write::{ToXml, write_close_tag};
+use cdx_write::{HasContent, ToXml, write_close_tag};
 use std::alloc::{AllocError, Global};
 
 fn write_start(writer: &mut EventWriter) -> Result<(), XmlWriteError>
@@ -63,7 +64,8 @@ fn write_rows(
     writer: &mut EventWriter,
     w: SpecVersion,
 ) -> Result<(), XmlWriteError>
-    ensures { Appends writer.old writer.new (rows_written (parts (bom_tree held.now)) w (rows bill)) result }
+    ensures { Appends writer.old writer.new
+        (rows_written (fields_of (bom_tree held.now)) w (rows bill)) result }
 {
     write_inventory_rows(held, alloc, writer, w)?;
     write_relations_rows(held, alloc, writer, w)
@@ -76,7 +78,8 @@ fn write_document(
     writer: &mut EventWriter,
     w: SpecVersion,
 ) -> Result<(), XmlWriteError>
-    ensures { Appends writer.old writer.new (xml_document (keep w (bom_tree held.now) a_bill) w) result }
+    ensures { Appends writer.old writer.new (xml_document (keep w (bom_tree held.now) a_bill) w)
+        result }
 {
     write_start(writer)?;
     write_root_start(held, alloc, writer, w)?;
@@ -85,14 +88,14 @@ fn write_document(
     write_end(writer)
 }
 
+impl HasContent for Bom {
+    fn has_content(&self) -> bool {
+        true
+    }
+}
+
 impl ToXml for Bom {
-    ghost shown = { bom_tree };
-
-    ghost kind = { a_bill };
-
     ghost tag = { whole };
-
-    ghost counts = { λ _. true };
 
     /// The whole document: its start, the root with the version's namespace, and its end.
     fn write_xml_element(
@@ -105,7 +108,7 @@ impl ToXml for Bom {
     }
 
     fn will_write(&self) -> bool {
-        true
+        self.has_content()
     }
 }
 

@@ -42,7 +42,8 @@ pub(crate) fn write_inventory_rows(
     writer: &mut EventWriter,
     w: SpecVersion,
 ) -> Result<(), XmlWriteError>
-    ensures { Appends writer.old writer.new (rows_written (inventory held.now) w (group 0 bill)) result }
+    ensures { Appends writer.old writer.new (rows_written (inventory held.now) w (group 0 bill))
+        result }
 {
     put_child(alloc, writer, w, "metadata", &held.metadata)?;
     put_child(alloc, writer, w, "components", &held.components)?;
@@ -56,7 +57,8 @@ pub(crate) fn write_relations_rows(
     writer: &mut EventWriter,
     w: SpecVersion,
 ) -> Result<(), XmlWriteError>
-    ensures { Appends writer.old writer.new (rows_written (relations held.now) w (group 1 bill)) result }
+    ensures { Appends writer.old writer.new (rows_written (relations held.now) w (group 1 bill))
+        result }
 {
     put_child(
         alloc,

@@ -10,7 +10,8 @@ use crate::component::{Component, Components, Pedigree};
 use cdx_models::{HasTree, same_row};
 
 fn same_origin(one: &Component, other: &Component) -> bool
-    ensures { result ≡ same_each (origin (out-Component one.now)) (origin (out-Component other.now)) }
+    ensures { result
+        ≡ same_each (origin (out-Component one.now)) (origin (out-Component other.now)) }
 {
     one.component_type.same(&other.component_type)
         && same_row(&one.mime_type, &other.mime_type)
@@ -21,7 +22,8 @@ fn same_origin(one: &Component, other: &Component) -> bool
 }
 
 fn same_naming(one: &Component, other: &Component) -> bool
-    ensures { result ≡ same_each (naming (out-Component one.now)) (naming (out-Component other.now)) }
+    ensures { result
+        ≡ same_each (naming (out-Component one.now)) (naming (out-Component other.now)) }
 {
     same_row(&one.group, &other.group)
         && one.name.same(&other.name)
@@ -44,7 +46,8 @@ fn same_marks(one: &Component, other: &Component) -> bool
 
 #[cycle(component_same)]
 fn same_contents(one: &Component, other: &Component) -> bool
-    ensures { result ≡ same_each (contents components_tree pedigree_tree (out-Component one.now)) (contents components_tree pedigree_tree (out-Component other.now)) }
+    ensures { result ≡ same_each (contents components_tree pedigree_tree (out-Component one.now))
+        (contents components_tree pedigree_tree (out-Component other.now)) }
 {
     same_pedigree_row(&one.pedigree, &other.pedigree)
         && same_row(&one.external_references, &other.external_references)

@@ -70,7 +70,8 @@ fn copy_marks(component: &Component, alloc: Global) -> Result<Marks, AllocError>
 
 #[cycle(component_copy)]
 fn copy_contents(component: &Component, alloc: Global) -> Result<Contents, AllocError>
-    ensures { IfOk result (λ r. contents_trees r ≡ contents components_tree pedigree_tree (out-Component component.now)) }
+    ensures { IfOk result (λ r. contents_trees r
+        ≡ contents components_tree pedigree_tree (out-Component component.now)) }
 {
     let external_references = copy_row(alloc, &component.external_references)?;
     let properties = copy_row(alloc, &component.properties)?;

@@ -60,7 +60,8 @@ pub(crate) fn assemble(
     marks: Marks,
     contents: Contents,
 ) -> Component
-    ensures { component_tree result ≡ fields component (origin_trees origin ⧺ (naming_trees naming ⧺ (marks_trees marks ⧺ contents_trees contents))) }
+    ensures { component_tree result ≡ fields component (origin_trees origin ⧺
+        (naming_trees naming ⧺ (marks_trees marks ⧺ contents_trees contents))) }
 {
     Component {
         component_type: origin.component_type,

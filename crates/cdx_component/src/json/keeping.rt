@@ -24,7 +24,8 @@ pub(crate) fn keep_component(
     version: SpecVersion,
     label: SpecVersion,
 ) -> Result<Component, AllocError>
-    ensures { IfOk result (λ r. component_tree r ≡ kept version label (component_tree held.now) (a_record component)) }
+    ensures { IfOk result (λ r. component_tree r
+        ≡ kept version label (component_tree held.now) (a_record component)) }
 {
     let origin = keep_origin(held, alloc, version, label)?;
     let naming = match keep_naming(held, alloc, version, label) {
@@ -62,7 +63,8 @@ pub(crate) fn keep_components(
     version: SpecVersion,
     label: SpecVersion,
 ) -> Result<Components, AllocError>
-    ensures { IfOk result (λ r. components_tree r ≡ kept version label (components_tree held.now) (a_list components)) }
+    ensures { IfOk result (λ r. components_tree r
+        ≡ kept version label (components_tree held.now) (a_list components)) }
 {
     let mut copies = Components::with_capacity(alloc, held.len())?;
     for item in &held.items {
@@ -79,7 +81,8 @@ pub(crate) fn keep_pedigree(
     version: SpecVersion,
     label: SpecVersion,
 ) -> Result<Pedigree, AllocError>
-    ensures { IfOk result (λ r. pedigree_tree r ≡ kept version label (pedigree_tree held.now) (a_record pedigree)) }
+    ensures { IfOk result
+        (λ r. pedigree_tree r ≡ kept version label (pedigree_tree held.now) (a_record pedigree)) }
 {
     let ancestors = keep_components_row(&held.ancestors, alloc, version, label)?;
     let descendants = keep_components_row(&held.descendants, alloc, version, label)?;
@@ -97,14 +100,15 @@ pub(crate) fn keep_pedigree(
     })
 }
 
-#[tactic(auto, unfolding(cdx_json::specs::KeptRows::rows_held, cdx_schema::specs::Table::rows, cdx_schema::specs::Table::list))]
+#[tactic(auto, unfolding(cdx_json::proofs::OnRows::on_rows))]
 fn keep_origin(
     held: &Component,
     alloc: Global,
     version: SpecVersion,
     label: SpecVersion,
 ) -> Result<Origin, AllocError>
-    ensures { IfOk result (λ r. origin_trees r ≡ rows_held version label (origin (out-Component held.now)) (group 0 component)) }
+    ensures { IfOk result (λ r. origin_trees r
+        ≡ rows_held version label (origin (out-Component held.now)) (group 0 component)) }
 {
     let component_type = held.component_type.kept_as(alloc, version, label)?;
     let mime_type = keep_row(alloc, &held.mime_type, version, label)?;
@@ -122,14 +126,15 @@ fn keep_origin(
     })
 }
 
-#[tactic(auto, unfolding(cdx_json::specs::KeptRows::rows_held, cdx_schema::specs::Table::rows, cdx_schema::specs::Table::list))]
+#[tactic(auto, unfolding(cdx_json::proofs::OnRows::on_rows))]
 fn keep_naming(
     held: &Component,
     alloc: Global,
     version: SpecVersion,
     label: SpecVersion,
 ) -> Result<Naming, AllocError>
-    ensures { IfOk result (λ r. naming_trees r ≡ rows_held version label (naming (out-Component held.now)) (group 1 component)) }
+    ensures { IfOk result (λ r. naming_trees r
+        ≡ rows_held version label (naming (out-Component held.now)) (group 1 component)) }
 {
     let group = keep_row(alloc, &held.group, version, label)?;
     let name = held.name.kept_as(alloc, version, label)?;
@@ -147,14 +152,15 @@ fn keep_naming(
     })
 }
 
-#[tactic(auto, unfolding(cdx_json::specs::KeptRows::rows_held, cdx_schema::specs::Table::rows, cdx_schema::specs::Table::list))]
+#[tactic(auto, unfolding(cdx_json::proofs::OnRows::on_rows))]
 fn keep_marks(
     held: &Component,
     alloc: Global,
     version: SpecVersion,
     label: SpecVersion,
 ) -> Result<Marks, AllocError>
-    ensures { IfOk result (λ r. marks_trees r ≡ rows_held version label (marks (out-Component held.now)) (group 2 component)) }
+    ensures { IfOk result (λ r. marks_trees r
+        ≡ rows_held version label (marks (out-Component held.now)) (group 2 component)) }
 {
     let licenses = keep_row(alloc, &held.licenses, version, label)?;
     let copyright = keep_row(alloc, &held.copyright, version, label)?;
@@ -173,14 +179,16 @@ fn keep_marks(
 }
 
 #[cycle(component_keep)]
-#[tactic(auto, unfolding(cdx_json::specs::KeptRows::rows_held, cdx_schema::specs::Table::rows, cdx_schema::specs::Table::list))]
+#[tactic(auto, unfolding(cdx_json::proofs::OnRows::on_rows))]
 fn keep_contents(
     held: &Component,
     alloc: Global,
     version: SpecVersion,
     label: SpecVersion,
 ) -> Result<Contents, AllocError>
-    ensures { IfOk result (λ r. contents_trees r ≡ rows_held version label (contents components_tree pedigree_tree (out-Component held.now)) (group 3 component)) }
+    ensures { IfOk result (λ r. contents_trees r ≡ rows_held version label
+        (contents components_tree pedigree_tree (out-Component held.now))
+        (group 3 component)) }
 {
     let external_references = keep_row(alloc, &held.external_references, version, label)?;
     let properties = keep_row(alloc, &held.properties, version, label)?;
@@ -206,7 +214,8 @@ fn keep_pedigree_row(
     version: SpecVersion,
     label: SpecVersion,
 ) -> Result<Option<Pedigree>, AllocError>
-    ensures { IfOk result (λ r. present pedigree_tree r ≡ kept version label (present pedigree_tree held.now) (a_record pedigree)) }
+    ensures { IfOk result (λ r. present pedigree_tree r
+        ≡ kept version label (present pedigree_tree held.now) (a_record pedigree)) }
 {
     match held {
         None => Ok(None),
@@ -222,7 +231,8 @@ fn keep_components_row(
     version: SpecVersion,
     label: SpecVersion,
 ) -> Result<Option<Components>, AllocError>
-    ensures { IfOk result (λ r. present components_tree r ≡ kept version label (present components_tree held.now) (a_list components)) }
+    ensures { IfOk result (λ r. present components_tree r
+        ≡ kept version label (present components_tree held.now) (a_list components)) }
 {
     match held {
         None => Ok(None),

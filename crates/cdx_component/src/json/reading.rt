@@ -30,7 +30,8 @@ pub(crate) fn read_component(
     version: SpecVersion,
     depth: Depth,
 ) -> Result<Component, JsonReadError>
-    ensures { Gives component_tree result (jread (view value.now) version (a_record component) (depth_of depth)) }
+    ensures { Gives component_tree result
+        (jread (view value.now) version (a_record component) (depth_of depth)) }
 {
     if depth.components >= 32 {
         return Err(here(alloc, JsonKind::TooDeep));
@@ -54,7 +55,8 @@ fn component_from_members(
     version: SpecVersion,
     depth: Depth,
 ) -> Result<Component, JsonReadError>
-    ensures { Gives component_tree result (component_by_groups (seen (members_view map.now.entries)) version (depth_of depth)) }
+    ensures { Gives component_tree result
+        (component_by_groups (seen (members_view map.now.entries)) version (depth_of depth)) }
 {
     let origin = read_origin(alloc, map, version, depth)?;
     let naming = match read_naming(alloc, map, version, depth) {
@@ -92,7 +94,8 @@ pub(crate) fn read_components(
     version: SpecVersion,
     depth: Depth,
 ) -> Result<Components, JsonReadError>
-    ensures { Gives components_tree result (jread (view value.now) version (a_list components) (depth_of depth)) }
+    ensures { Gives components_tree result
+        (jread (view value.now) version (a_list components) (depth_of depth)) }
 {
     match value.as_array() {
         None => Err(here(alloc, JsonKind::WrongKind)),
@@ -128,7 +131,8 @@ pub(crate) fn read_pedigree(
     version: SpecVersion,
     depth: Depth,
 ) -> Result<Pedigree, JsonReadError>
-    ensures { Gives pedigree_tree result (jread (view value.now) version (a_record pedigree) (depth_of depth)) }
+    ensures { Gives pedigree_tree result
+        (jread (view value.now) version (a_record pedigree) (depth_of depth)) }
 {
     match value.as_object() {
         None => Err(here(alloc, JsonKind::WrongKind)),
@@ -143,7 +147,8 @@ fn pedigree_from_members(
     version: SpecVersion,
     depth: Depth,
 ) -> Result<Pedigree, JsonReadError>
-    ensures { Gives pedigree_tree result (by_rows pedigree (seen (members_view map.now.entries)) version (depth_of depth)) }
+    ensures { Gives pedigree_tree result
+        (by_rows pedigree (seen (members_view map.now.entries)) version (depth_of depth)) }
 {
     let ancestors = read_components_row(alloc, map, "ancestors", version, depth)?;
     let descendants = read_components_row(alloc, map, "descendants", version, depth)?;
@@ -167,7 +172,8 @@ fn read_origin(
     version: SpecVersion,
     depth: Depth,
 ) -> Result<Origin, JsonReadError>
-    ensures { Gives origin_trees result (group_read 0 component (seen (members_view map.now.entries)) version (depth_of depth)) }
+    ensures { Gives origin_trees result
+        (group_read 0 component (seen (members_view map.now.entries)) version (depth_of depth)) }
 {
     let component_type = required_row(alloc, map, "type", version, depth)?;
     let mime_type = optional_row(alloc, map, "mime-type", version, depth)?;
@@ -191,7 +197,8 @@ fn read_naming(
     version: SpecVersion,
     depth: Depth,
 ) -> Result<Naming, JsonReadError>
-    ensures { Gives naming_trees result (group_read 1 component (seen (members_view map.now.entries)) version (depth_of depth)) }
+    ensures { Gives naming_trees result
+        (group_read 1 component (seen (members_view map.now.entries)) version (depth_of depth)) }
 {
     let group = optional_row(alloc, map, "group", version, depth)?;
     let name = required_row(alloc, map, "name", version, depth)?;
@@ -215,7 +222,8 @@ fn read_marks(
     version: SpecVersion,
     depth: Depth,
 ) -> Result<Marks, JsonReadError>
-    ensures { Gives marks_trees result (group_read 2 component (seen (members_view map.now.entries)) version (depth_of depth)) }
+    ensures { Gives marks_trees result
+        (group_read 2 component (seen (members_view map.now.entries)) version (depth_of depth)) }
 {
     let licenses = optional_row(alloc, map, "licenses", version, depth)?;
     let copyright = optional_row(alloc, map, "copyright", version, depth)?;
@@ -240,7 +248,8 @@ fn read_contents(
     version: SpecVersion,
     depth: Depth,
 ) -> Result<Contents, JsonReadError>
-    ensures { Gives contents_trees result (group_read 3 component (seen (members_view map.now.entries)) version (depth_of depth)) }
+    ensures { Gives contents_trees result
+        (group_read 3 component (seen (members_view map.now.entries)) version (depth_of depth)) }
 {
     let pedigree = read_pedigree_row(alloc, map, "pedigree", version, depth)?;
     let external_references = optional_row(alloc, map, "externalReferences", version, depth)?;
@@ -266,8 +275,8 @@ fn read_pedigree_row(
     version: SpecVersion,
     depth: Depth,
 ) -> Result<Option<Pedigree>, JsonReadError>
-    ensures { Gives (present pedigree_tree) result
-        (member_of (seen (members_view map.now.entries)) name.now optional (a_record pedigree) version (depth_of depth)) }
+    ensures { Gives (present pedigree_tree) result (member_of (seen (members_view map.now.entries))
+        name.now optional (a_record pedigree) version (depth_of depth)) }
 {
     match member_not_null(map, name) {
         None => Ok(None),
@@ -286,8 +295,9 @@ fn read_components_row(
     version: SpecVersion,
     depth: Depth,
 ) -> Result<Option<Components>, JsonReadError>
-    ensures { Gives (present components_tree) result
-        (member_of (seen (members_view map.now.entries)) name.now optional (a_list components) version (depth_of depth)) }
+    ensures { Gives (present components_tree) result (member_of
+        (seen (members_view map.now.entries)) name.now optional (a_list components) version
+        (depth_of depth)) }
 {
     match member_not_null(map, name) {
         None => Ok(None),

@@ -26,7 +26,9 @@ pub(crate) fn write_component(
     alloc: Global,
     version: SpecVersion,
 ) -> Result<Value, AllocError>
-    ensures { IfOk result (λ v. view v ≡ jspell (keep version (component_tree held.now) (a_record component)) version (a_record component)) }
+    ensures { IfOk result (λ v. view v ≡ jspell
+        (keep version (component_tree held.now) (a_record component)) version
+        (a_record component)) }
 {
     let mut map = Map::new(alloc);
     put_origin(held, alloc, &mut map, version)?;
@@ -43,7 +45,9 @@ pub(crate) fn write_components(
     alloc: Global,
     version: SpecVersion,
 ) -> Result<Value, AllocError>
-    ensures { IfOk result (λ v. view v ≡ jspell (keep version (components_tree held.now) (a_list components)) version (a_list components)) }
+    ensures { IfOk result (λ v. view v ≡ jspell
+        (keep version (components_tree held.now) (a_list components)) version
+        (a_list components)) }
 {
     let mut values = Vec::with_capacity(alloc, held.len())?;
     for item in &held.items {
@@ -59,7 +63,9 @@ pub(crate) fn write_pedigree(
     alloc: Global,
     version: SpecVersion,
 ) -> Result<Value, AllocError>
-    ensures { IfOk result (λ v. view v ≡ jspell (keep version (pedigree_tree held.now) (a_record pedigree)) version (a_record pedigree)) }
+    ensures { IfOk result (λ v. view v ≡ jspell
+        (keep version (pedigree_tree held.now) (a_record pedigree)) version
+        (a_record pedigree)) }
 {
     let mut map = Map::new(alloc);
     put_pedigree_members(held, alloc, &mut map, version)?;
@@ -73,8 +79,9 @@ fn put_pedigree_members(
     map: &mut Map<String, Value>,
     version: SpecVersion,
 ) -> Result<(), AllocError>
-    ensures { OnOk result (members_view map.new.entries
-        ≡ rows_put (pedigree_fields components_tree (out-Pedigree held.now)) version (rows pedigree) (members_view map.old.entries)) }
+    ensures { OnOk result (members_view map.new.entries ≡ rows_put
+        (pedigree_fields components_tree (out-Pedigree held.now)) version (rows pedigree)
+        (members_view map.old.entries)) }
 {
     put_components_row(&held.ancestors, alloc, map, "ancestors", version)?;
     put_components_row(&held.descendants, alloc, map, "descendants", version)?;
@@ -91,8 +98,8 @@ fn put_origin(
     map: &mut Map<String, Value>,
     version: SpecVersion,
 ) -> Result<(), AllocError>
-    ensures { OnOk result (members_view map.new.entries
-        ≡ rows_put (origin (out-Component held.now)) version (group 0 component) (members_view map.old.entries)) }
+    ensures { OnOk result (members_view map.new.entries ≡ rows_put (origin (out-Component held.now))
+        version (group 0 component) (members_view map.old.entries)) }
 {
     put_required(alloc, map, "type", &held.component_type, version)?;
     put_row(alloc, map, "mime-type", &held.mime_type, version)?;
@@ -109,8 +116,8 @@ fn put_naming(
     map: &mut Map<String, Value>,
     version: SpecVersion,
 ) -> Result<(), AllocError>
-    ensures { OnOk result (members_view map.new.entries
-        ≡ rows_put (naming (out-Component held.now)) version (group 1 component) (members_view map.old.entries)) }
+    ensures { OnOk result (members_view map.new.entries ≡ rows_put (naming (out-Component held.now))
+        version (group 1 component) (members_view map.old.entries)) }
 {
     put_row(alloc, map, "group", &held.group, version)?;
     put_required(alloc, map, "name", &held.name, version)?;
@@ -127,8 +134,8 @@ fn put_marks(
     map: &mut Map<String, Value>,
     version: SpecVersion,
 ) -> Result<(), AllocError>
-    ensures { OnOk result (members_view map.new.entries
-        ≡ rows_put (marks (out-Component held.now)) version (group 2 component) (members_view map.old.entries)) }
+    ensures { OnOk result (members_view map.new.entries ≡ rows_put (marks (out-Component held.now))
+        version (group 2 component) (members_view map.old.entries)) }
 {
     put_row(alloc, map, "licenses", &held.licenses, version)?;
     put_row(alloc, map, "copyright", &held.copyright, version)?;
@@ -146,8 +153,9 @@ fn put_contents(
     map: &mut Map<String, Value>,
     version: SpecVersion,
 ) -> Result<(), AllocError>
-    ensures { OnOk result (members_view map.new.entries
-        ≡ rows_put (contents components_tree pedigree_tree (out-Component held.now)) version (group 3 component) (members_view map.old.entries)) }
+    ensures { OnOk result (members_view map.new.entries ≡ rows_put
+        (contents components_tree pedigree_tree (out-Component held.now)) version
+        (group 3 component) (members_view map.old.entries)) }
 {
     put_pedigree_row(&held.pedigree, alloc, map, "pedigree", version)?;
     put_row(
@@ -179,8 +187,8 @@ fn put_pedigree_row(
     name: &str,
     version: SpecVersion,
 ) -> Result<(), AllocError>
-    ensures { OnOk result (members_view map.new.entries
-        ≡ put_kept name.now (a_record pedigree) (present pedigree_tree held.now) version (members_view map.old.entries)) }
+    ensures { OnOk result (members_view map.new.entries ≡ put_kept name.now (a_record pedigree)
+        (present pedigree_tree held.now) version (members_view map.old.entries)) }
 {
     match held {
         None => Ok(()),
@@ -199,8 +207,8 @@ fn put_components_row(
     name: &str,
     version: SpecVersion,
 ) -> Result<(), AllocError>
-    ensures { OnOk result (members_view map.new.entries
-        ≡ put_kept name.now (a_list components) (present components_tree held.now) version (members_view map.old.entries)) }
+    ensures { OnOk result (members_view map.new.entries ≡ put_kept name.now (a_list components)
+        (present components_tree held.now) version (members_view map.old.entries)) }
 {
     match held {
         None => Ok(()),

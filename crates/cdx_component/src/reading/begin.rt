@@ -36,7 +36,9 @@ fn begin_origin(
     element: &OwnedName,
     attributes: &List<OwnedAttribute>,
 ) -> Result<Origin, XmlReadError>
-    ensures { (v : SpecVersion) → Gives origin_trees (place + 1) (attributes_read (group 0 component) attributes.now v element.now.local_name place) result }
+    ensures { (v : SpecVersion) → Gives origin_trees (place + 1)
+        (attributes_read (group 0 component) attributes.now v element.now.local_name place)
+        result }
 {
     let component_type = attribute_or_error(alloc, place, element, attributes, "type")?;
     let mime_type = attribute_or_none(alloc, attributes, "mime-type")?;
@@ -58,7 +60,9 @@ pub(crate) fn begin_component(
     element: &OwnedName,
     attributes: &List<OwnedAttribute>,
 ) -> Result<ComponentPart, XmlReadError>
-    ensures { (v : SpecVersion) → Gives component_part (place + 1) (attributes_read (rows component) attributes.now v element.now.local_name place) result }
+    ensures { (v : SpecVersion) → Gives component_part (place + 1)
+        (attributes_read (rows component) attributes.now v element.now.local_name place)
+        result }
 {
     let origin = begin_origin(alloc, place, element, attributes)?;
     Ok(ComponentPart {

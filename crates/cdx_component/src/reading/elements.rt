@@ -40,7 +40,8 @@ pub(crate) fn read_component_element(
     depth: Depth,
 ) -> Result<Component, XmlReadError>
     requires { IsIn reader.old element.now }
-    ensures { ReadsAs component_tree reader.old reader.new element.now attributes.now v (a_record component) (λ _. depth_of depth) result }
+    ensures { ReadsAs component_tree reader.old reader.new element.now attributes.now v
+        (a_record component) (λ _. depth_of depth) result }
 {
     let place = reader.place() - 1;
     if depth.components >= 32 {
@@ -72,7 +73,10 @@ fn read_component_rows(
 ) -> Result<(), XmlReadError>
     requires { IsAt reader.old element.now }
     ensures { (nodes : Nodes) (rest : List XmlEvent) → At reader.old element.now nodes rest
-        → Reads (λ _. component_part part.new) reader.old reader.new (after reader.old nodes rest) (each (plan_step (record_plan component) v (depth_of depth) element.now.local_name) nodes reader.old.place (component_part part.old)) result }
+        → Reads (λ _. component_part part.new) reader.old reader.new (after reader.old nodes rest)
+        (each (plan_step (record_plan component) v (depth_of depth) element.now.local_name)
+        nodes reader.old.place (component_part part.old))
+        result }
 {
     'nodes: while let Some(child) = next_child(alloc, reader, element, Rule::Lax)? {
         let taken = read_component_child(
@@ -101,7 +105,8 @@ fn read_component_child(
     part: &mut ComponentPart,
 ) -> Result<Taken, XmlReadError>
     requires { IsIn reader.old element.now }
-    ensures { TakesChild (component_part part.old) (component_part part.new) reader.old reader.new v (record_plan component) (λ _. depth_of depth) element.now attributes.now result }
+    ensures { TakesChild (component_part part.old) (component_part part.new) reader.old reader.new v
+        (record_plan component) (λ _. depth_of depth) element.now attributes.now result }
 {
     let origin = read_origin_child(alloc, reader, v, element, attributes, &mut part.origin)?;
     if !origin.is_unknown() {
@@ -138,7 +143,9 @@ fn read_contents_child(
     part: &mut Contents,
 ) -> Result<Taken, XmlReadError>
     requires { IsIn reader.old element.now }
-    ensures { TakesChild (contents_trees part.old) (contents_trees part.new) reader.old reader.new v (rows_plan lax (group 3 component)) (λ _. depth_of depth) element.now attributes.now result }
+    ensures { TakesChild (contents_trees part.old) (contents_trees part.new) reader.old reader.new v
+        (rows_plan lax (group 3 component)) (λ _. depth_of depth) element.now attributes.now
+        result }
 {
     match element.local_name.as_str() {
         "pedigree" => {
@@ -197,7 +204,8 @@ fn take_pedigree(
     field: &mut Option<Pedigree>,
 ) -> Result<Taken, XmlReadError>
     requires { IsIn reader.old element.now }
-    ensures { TakesOne (present pedigree_tree field.new) reader.old reader.new v (a_record pedigree) (λ _. depth_of depth) element.now attributes.now result }
+    ensures { TakesOne (present pedigree_tree field.new) reader.old reader.new v (a_record pedigree)
+        (λ _. depth_of depth) element.now attributes.now result }
 {
     *field = Some(read_pedigree_element(alloc, reader, v, element, attributes, depth)?);
     Ok(Taken::Read)
@@ -215,7 +223,8 @@ fn take_components(
     field: &mut Option<Components>,
 ) -> Result<Taken, XmlReadError>
     requires { IsIn reader.old element.now }
-    ensures { TakesOne (present components_tree field.new) reader.old reader.new v (a_list components) (λ _. depth_of depth) element.now attributes.now result }
+    ensures { TakesOne (present components_tree field.new) reader.old reader.new v
+        (a_list components) (λ _. depth_of depth) element.now attributes.now result }
 {
     *field = Some(read_components_element(alloc, reader, v, element, attributes, depth)?);
     Ok(Taken::Read)
@@ -232,7 +241,8 @@ pub(crate) fn read_pedigree_element(
     depth: Depth,
 ) -> Result<Pedigree, XmlReadError>
     requires { IsIn reader.old element.now }
-    ensures { ReadsAs pedigree_tree reader.old reader.new element.now _attributes.now v (a_record pedigree) (λ _. depth_of depth) result }
+    ensures { ReadsAs pedigree_tree reader.old reader.new element.now _attributes.now v
+        (a_record pedigree) (λ _. depth_of depth) result }
 {
     let mut part = PedigreePart {
         ancestors: None,
@@ -258,7 +268,10 @@ fn read_pedigree_rows(
 ) -> Result<(), XmlReadError>
     requires { IsAt reader.old element.now }
     ensures { (nodes : Nodes) (rest : List XmlEvent) → At reader.old element.now nodes rest
-        → Reads (λ _. pedigree_part part.new) reader.old reader.new (after reader.old nodes rest) (each (plan_step (record_plan pedigree) v (depth_of depth) element.now.local_name) nodes reader.old.place (pedigree_part part.old)) result }
+        → Reads (λ _. pedigree_part part.new) reader.old reader.new (after reader.old nodes rest)
+        (each (plan_step (record_plan pedigree) v (depth_of depth) element.now.local_name) nodes
+        reader.old.place (pedigree_part part.old))
+        result }
 {
     'nodes: while let Some(child) = next_child(alloc, reader, element, Rule::Lax)? {
         let taken = read_pedigree_child(
@@ -287,7 +300,8 @@ fn read_pedigree_child(
     part: &mut PedigreePart,
 ) -> Result<Taken, XmlReadError>
     requires { IsIn reader.old element.now }
-    ensures { TakesChild (pedigree_part part.old) (pedigree_part part.new) reader.old reader.new v (record_plan pedigree) (λ _. depth_of depth) element.now attributes.now result }
+    ensures { TakesChild (pedigree_part part.old) (pedigree_part part.new) reader.old reader.new v
+        (record_plan pedigree) (λ _. depth_of depth) element.now attributes.now result }
 {
     match element.local_name.as_str() {
         "ancestors" => {
@@ -341,7 +355,8 @@ pub(crate) fn read_components_element(
     depth: Depth,
 ) -> Result<Components, XmlReadError>
     requires { IsIn reader.old element.now }
-    ensures { ReadsAs components_tree reader.old reader.new element.now _attributes.now v (a_list components) (λ _. depth_of depth) result }
+    ensures { ReadsAs components_tree reader.old reader.new element.now _attributes.now v
+        (a_list components) (λ _. depth_of depth) result }
 {
     let mut list = Components::new(alloc);
     read_components_items(alloc, reader, v, element, depth, &mut list)?;
@@ -360,7 +375,11 @@ fn read_components_items(
 ) -> Result<(), XmlReadError>
     requires { IsAt reader.old element.now }
     ensures { (nodes : Nodes) (rest : List XmlEvent) → At reader.old element.now nodes rest
-        → Reads (λ _. listing_slots component_tree (listed list.new)) reader.old reader.new (after reader.old nodes rest) (each (plan_step (list_plan components) v (depth_of depth) element.now.local_name) nodes reader.old.place (listing_slots component_tree (listed list.old))) result }
+        → Reads (λ _. listing_slots component_tree (listed list.new)) reader.old reader.new
+        (after reader.old nodes rest) (each
+        (plan_step (list_plan components) v (depth_of depth) element.now.local_name) nodes
+        reader.old.place (listing_slots component_tree (listed list.old)))
+        result }
 {
     'nodes: while let Some(child) = next_child(alloc, reader, element, Rule::Lax)? {
         let taken = read_components_child(
@@ -389,7 +408,9 @@ fn read_components_child(
     list: &mut Components,
 ) -> Result<Taken, XmlReadError>
     requires { IsIn reader.old element.now }
-    ensures { TakesChild (listing_slots component_tree (listed list.old)) (listing_slots component_tree (listed list.new)) reader.old reader.new v (list_plan components) (λ _. depth_of depth) element.now attributes.now result }
+    ensures { TakesChild (listing_slots component_tree (listed list.old))
+        (listing_slots component_tree (listed list.new)) reader.old reader.new v
+        (list_plan components) (λ _. depth_of depth) element.now attributes.now result }
 {
     if !element.local_name.is("component") {
         return Ok(Taken::Unknown);

@@ -7,7 +7,7 @@ ghost use Rattle.cdx_schema.specs.Table.{rows};
 ghost use Rattle.cdx_schema.specs.XmlReading.{ended};
 ghost use Rattle.cdx_json.specs.Groups.{group};
 ghost use Rattle.cdx_leaf.specs.Attribute.{Gives};
-ghost use Rattle.cdx_leaf.specs.Trees.{fields_of};
+ghost use Rattle.cdx_models.specs.Trees.{fields_of};
 ghost use Rattle.cdx_component.specs.Trees.{component_tree, pedigree_tree};
 ghost use Rattle.cdx_component.specs.PartTrees.{naming_trees};
 ghost use Rattle.cdx_component.specs.ReadingParts.{naming_part, component_part, pedigree_part, in_first};
@@ -29,7 +29,8 @@ fn first_child_or_error(
     child: Option<Text>,
     expected: &str,
 ) -> Result<Option<Text>, XmlReadError>
-    ensures { Gives (λ o. o) (place + 1) (in_first v child (lacking place element.now.local_name expected.now)) result }
+    ensures { Gives (λ o. o) (place + 1)
+        (in_first v child (lacking place element.now.local_name expected.now)) result }
 {
     match v {
         SpecVersion::V1_3 => Ok(Some(child_or_error(alloc, place, element, child, expected)?)),
@@ -47,7 +48,8 @@ fn finish_naming(
     element: &OwnedName,
     part: NamingPart,
 ) -> Result<Naming, XmlReadError>
-    ensures { Gives naming_trees (place + 1) (ended (group 1 component) (naming_part part) v element.now.local_name place) result }
+    ensures { Gives naming_trees (place + 1)
+        (ended (group 1 component) (naming_part part) v element.now.local_name place) result }
 {
     let name = child_or_error(alloc, place, element, part.name, "name")?;
     let version = first_child_or_error(alloc, place, v, element, part.version, "version")?;
@@ -70,7 +72,8 @@ pub(crate) fn finish_component(
     element: &OwnedName,
     part: ComponentPart,
 ) -> Result<Component, XmlReadError>
-    ensures { Gives (λ x. fields_of (component_tree x)) (place + 1) (ended (rows component) (component_part part) v element.now.local_name place) result }
+    ensures { Gives (λ x. fields_of (component_tree x)) (place + 1)
+        (ended (rows component) (component_part part) v element.now.local_name place) result }
 {
     let ComponentPart {
         origin,

@@ -26,7 +26,8 @@ pub(crate) fn read_origin_child(
     part: &mut Origin,
 ) -> Result<Taken, XmlReadError>
     requires { IsIn reader.old element.now }
-    ensures { TakesChild (origin_trees part.old) (origin_trees part.new) reader.old reader.new v (rows_plan lax (group 0 component)) (λ d. d) element.now attributes.now result }
+    ensures { TakesChild (origin_trees part.old) (origin_trees part.new) reader.old reader.new v
+        (rows_plan lax (group 0 component)) (λ d. d) element.now attributes.now result }
 {
     match element.local_name.as_str() {
         "supplier" => take_one(alloc, reader, v, element, attributes, &mut part.supplier),
@@ -46,7 +47,8 @@ pub(crate) fn read_naming_child(
     part: &mut NamingPart,
 ) -> Result<Taken, XmlReadError>
     requires { IsIn reader.old element.now }
-    ensures { TakesChild (naming_part part.old) (naming_part part.new) reader.old reader.new v (rows_plan lax (group 1 component)) (λ d. d) element.now attributes.now result }
+    ensures { TakesChild (naming_part part.old) (naming_part part.new) reader.old reader.new v
+        (rows_plan lax (group 1 component)) (λ d. d) element.now attributes.now result }
 {
     match element.local_name.as_str() {
         "group" => take_one(alloc, reader, v, element, attributes, &mut part.group),
@@ -69,7 +71,8 @@ pub(crate) fn read_marks_child(
     part: &mut Marks,
 ) -> Result<Taken, XmlReadError>
     requires { IsIn reader.old element.now }
-    ensures { TakesChild (marks_trees part.old) (marks_trees part.new) reader.old reader.new v (rows_plan lax (group 2 component)) (λ d. d) element.now attributes.now result }
+    ensures { TakesChild (marks_trees part.old) (marks_trees part.new) reader.old reader.new v
+        (rows_plan lax (group 2 component)) (λ d. d) element.now attributes.now result }
 {
     match element.local_name.as_str() {
         "licenses" => take_one(alloc, reader, v, element, attributes, &mut part.licenses),

@@ -32,7 +32,8 @@ pub(crate) fn write_component(
     w: SpecVersion,
     tag: &str,
 ) -> Result<(), XmlWriteError>
-    ensures { Appends writer.old writer.new (written (component_tree held.now) w tag.now (a_record component)) result }
+    ensures { Appends writer.old writer.new
+        (written (component_tree held.now) w tag.now (a_record component)) result }
 {
     let attributes = component_attributes(held, alloc, w)?;
     write_opening(alloc, writer, tag, attributes)?;
@@ -49,7 +50,8 @@ pub(crate) fn write_components(
     w: SpecVersion,
     tag: &str,
 ) -> Result<(), XmlWriteError>
-    ensures { Appends writer.old writer.new (written (components_tree held.now) w tag.now (a_list components)) result }
+    ensures { Appends writer.old writer.new
+        (written (components_tree held.now) w tag.now (a_list components)) result }
 {
     write_start_tag(alloc, writer, tag)?;
     write_items(held, alloc, writer, w)?;
@@ -65,7 +67,8 @@ pub(crate) fn write_pedigree(
     w: SpecVersion,
     tag: &str,
 ) -> Result<(), XmlWriteError>
-    ensures { Appends writer.old writer.new (written (pedigree_tree held.now) w tag.now (a_record pedigree)) result }
+    ensures { Appends writer.old writer.new
+        (written (pedigree_tree held.now) w tag.now (a_record pedigree)) result }
 {
     write_start_tag(alloc, writer, tag)?;
     write_pedigree_rows(held, alloc, writer, w)?;
@@ -80,7 +83,8 @@ fn write_items(
     writer: &mut EventWriter,
     w: SpecVersion,
 ) -> Result<(), XmlWriteError>
-    ensures { Appends writer.old writer.new (inner (components_tree held.now) w (a_list components)) result }
+    ensures { Appends writer.old writer.new (inner (components_tree held.now) w (a_list components))
+        result }
 {
     for item in &held.items {
         write_component(item, alloc, writer, w, "component")?;
@@ -96,7 +100,10 @@ fn write_rows(
     writer: &mut EventWriter,
     w: SpecVersion,
 ) -> Result<(), XmlWriteError>
-    ensures { Appends writer.old writer.new (rows_written (component_fields components_tree pedigree_tree (out-Component held.now)) w (rows component)) result }
+    ensures { Appends writer.old writer.new (rows_written
+        (component_fields components_tree pedigree_tree (out-Component held.now)) w
+        (rows component))
+        result }
 {
     write_origin_rows(held, alloc, writer, w)?;
     write_naming_rows(held, alloc, writer, w)?;
@@ -111,7 +118,9 @@ fn write_contents_rows(
     writer: &mut EventWriter,
     w: SpecVersion,
 ) -> Result<(), XmlWriteError>
-    ensures { Appends writer.old writer.new (rows_written (contents components_tree pedigree_tree (out-Component held.now)) w (group 3 component)) result }
+    ensures { Appends writer.old writer.new (rows_written
+        (contents components_tree pedigree_tree (out-Component held.now)) w (group 3 component))
+        result }
 {
     put_pedigree(&held.pedigree, alloc, writer, w, "pedigree")?;
     put_child(
@@ -142,7 +151,9 @@ fn write_pedigree_rows(
     writer: &mut EventWriter,
     w: SpecVersion,
 ) -> Result<(), XmlWriteError>
-    ensures { Appends writer.old writer.new (rows_written (pedigree_fields components_tree (out-Pedigree held.now)) w (rows pedigree)) result }
+    ensures { Appends writer.old writer.new
+        (rows_written (pedigree_fields components_tree (out-Pedigree held.now)) w (rows pedigree))
+        result }
 {
     put_components(&held.ancestors, alloc, writer, w, "ancestors")?;
     put_components(&held.descendants, alloc, writer, w, "descendants")?;
@@ -160,7 +171,8 @@ fn put_pedigree(
     w: SpecVersion,
     name: &str,
 ) -> Result<(), XmlWriteError>
-    ensures { Appends writer.old writer.new (child_put name.now (a_record pedigree) (present pedigree_tree held.now) w) result }
+    ensures { Appends writer.old writer.new
+        (child_put name.now (a_record pedigree) (present pedigree_tree held.now) w) result }
 {
     match held {
         None => Ok(()),
@@ -176,7 +188,8 @@ fn put_components(
     w: SpecVersion,
     name: &str,
 ) -> Result<(), XmlWriteError>
-    ensures { Appends writer.old writer.new (child_put name.now (a_list components) (present components_tree held.now) w) result }
+    ensures { Appends writer.old writer.new
+        (child_put name.now (a_list components) (present components_tree held.now) w) result }
 {
     match held {
         None => Ok(()),

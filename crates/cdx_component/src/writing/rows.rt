@@ -18,13 +18,14 @@ use cdx_write::{
 use std::alloc::{AllocError, Global};
 
 /// The attributes, all of which stand among the first rows.
-#[tactic(auto, unfolding(cdx_write::specs::WrittenRows::attributes_put, cdx_schema::specs::Table::rows))]
+#[tactic(auto, unfolding(cdx_write::proofs::OnRows::on_rows))]
 pub(crate) fn component_attributes(
     held: &Component,
     alloc: Global,
     w: SpecVersion,
 ) -> Result<List<OwnedAttribute>, AllocError>
-    ensures { IfOk result (λ r. r ≡ attributes_put (origin (out-Component held.now)) w (group 0 component)) }
+    ensures { IfOk result
+        (λ r. r ≡ attributes_put (origin (out-Component held.now)) w (group 0 component)) }
 {
     let mut attributes = List::new(alloc);
     put_required_attribute(alloc, &mut attributes, w, "type", &held.component_type)?;
@@ -39,7 +40,8 @@ pub(crate) fn write_origin_rows(
     writer: &mut EventWriter,
     w: SpecVersion,
 ) -> Result<(), XmlWriteError>
-    ensures { Appends writer.old writer.new (rows_written (origin (out-Component held.now)) w (group 0 component)) result }
+    ensures { Appends writer.old writer.new
+        (rows_written (origin (out-Component held.now)) w (group 0 component)) result }
 {
     put_filled_child(alloc, writer, w, "supplier", &held.supplier)?;
     put_child(alloc, writer, w, "author", &held.author)?;
@@ -52,7 +54,8 @@ pub(crate) fn write_naming_rows(
     writer: &mut EventWriter,
     w: SpecVersion,
 ) -> Result<(), XmlWriteError>
-    ensures { Appends writer.old writer.new (rows_written (naming (out-Component held.now)) w (group 1 component)) result }
+    ensures { Appends writer.old writer.new
+        (rows_written (naming (out-Component held.now)) w (group 1 component)) result }
 {
     put_child(alloc, writer, w, "group", &held.group)?;
     put_required_child(alloc, writer, w, "name", &held.name)?;
@@ -68,7 +71,8 @@ pub(crate) fn write_marks_rows(
     writer: &mut EventWriter,
     w: SpecVersion,
 ) -> Result<(), XmlWriteError>
-    ensures { Appends writer.old writer.new (rows_written (marks (out-Component held.now)) w (group 2 component)) result }
+    ensures { Appends writer.old writer.new
+        (rows_written (marks (out-Component held.now)) w (group 2 component)) result }
 {
     put_child(alloc, writer, w, "licenses", &held.licenses)?;
     put_child(alloc, writer, w, "copyright", &held.copyright)?;

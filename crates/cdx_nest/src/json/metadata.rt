@@ -1,14 +1,12 @@
 //! Metadata in JSON.
 
-ghost use Rattle.std.specs.Prelude.{◌≡◌, refl, IfOk, OnOk};
+ghost use Rattle.std.specs.Prelude.{◌≡◌, IfOk, OnOk};
 ghost use Rattle.serde_json.specs.View.{members_view};
 ghost use Rattle.cdx_models.specs.Trees.{metadata};
-ghost use Rattle.cdx_schema.specs.Kinds.{a_record};
 ghost use Rattle.cdx_schema.specs.JsonReading.{seen};
 ghost use Rattle.cdx_json.specs.Depths.{depth_of};
 ghost use Rattle.cdx_json.specs.Gives.{Gives};
 ghost use Rattle.cdx_json.specs.KeptRows.{rows_held, rows_put};
-ghost use Rattle.cdx_json.specs.Stays.{record_stays};
 ghost use Rattle.cdx_nest.specs.Trees.{metadata_tree, makers, terms};
 ghost use Rattle.cdx_nest.specs.PartTrees.{makers_trees, terms_trees};
 ghost use Rattle.cdx_json.specs.Groups.{group, group_read};
@@ -17,54 +15,14 @@ ghost use Rattle.cdx_nest.specs.Groups.{metadata_by_groups};
 use crate::metadata::Metadata;
 use crate::metadata::parts::{Makers, Terms, assemble};
 use cdx_json::{
-    Depth, FromJson, Kept, Kinded, Record, ToJson, keep_optional_list, keep_record, keep_row,
-    optional_list_row, optional_row, put_optional_list, put_row, read_record, write_record,
+    Depth, JsonRecord, keep_optional_list, keep_row, optional_list_row, optional_row,
+    put_optional_list, put_row,
 };
 use cdx_models::{JsonReadError, SpecVersion};
 use serde_json::{Map, Value};
 use std::alloc::{AllocError, Global};
 
-impl Kinded for Metadata {
-    ghost kind = { a_record metadata };
-}
-
-impl FromJson for Metadata {
-    fn from_json_at(
-        alloc: Global,
-        value: &Value,
-        version: SpecVersion,
-        depth: Depth,
-    ) -> Result<Metadata, JsonReadError> {
-        read_record(alloc, value, version, depth)
-    }
-}
-
-impl Kept for Metadata {
-    ghost stays = { λ w l x. record_stays w l metadata _ };
-
-    fn kept_as(
-        &self,
-        alloc: Global,
-        version: SpecVersion,
-        label: SpecVersion,
-    ) -> Result<Metadata, AllocError> {
-        keep_record(self, alloc, version, label)
-    }
-}
-
-impl ToJson for Metadata {
-    fn to_value(&self, alloc: Global, version: SpecVersion) -> Result<Value, AllocError> {
-        write_record(self, alloc, version)
-    }
-}
-
-impl Record for Metadata {
-    ghost name = { metadata };
-
-    ghost is_plain = { λ x. (refl, refl) };
-
-    ghost flat = { λ d. (refl, refl) };
-
+impl JsonRecord for Metadata {
     fn from_members(
         alloc: Global,
         map: &Map<String, Value>,
@@ -122,7 +80,8 @@ fn read_makers(
     version: SpecVersion,
     depth: Depth,
 ) -> Result<Makers, JsonReadError>
-    ensures { Gives makers_trees result (group_read 0 metadata (seen (members_view map.now.entries)) version (depth_of depth)) }
+    ensures { Gives makers_trees result
+        (group_read 0 metadata (seen (members_view map.now.entries)) version (depth_of depth)) }
 {
     let timestamp = optional_row(alloc, map, "timestamp", version, depth)?;
     let tools = optional_row(alloc, map, "tools", version, depth)?;
@@ -158,7 +117,8 @@ fn read_terms(
     version: SpecVersion,
     depth: Depth,
 ) -> Result<Terms, JsonReadError>
-    ensures { Gives terms_trees result (group_read 1 metadata (seen (members_view map.now.entries)) version (depth_of depth)) }
+    ensures { Gives terms_trees result
+        (group_read 1 metadata (seen (members_view map.now.entries)) version (depth_of depth)) }
 {
     let licenses = optional_row(alloc, map, "licenses", version, depth)?;
     let properties = optional_row(alloc, map, "properties", version, depth)?;
@@ -168,14 +128,15 @@ fn read_terms(
     })
 }
 
-#[tactic(auto, unfolding(cdx_json::specs::KeptRows::rows_held, cdx_schema::specs::Table::rows, cdx_schema::specs::Table::list))]
+#[tactic(auto, unfolding(cdx_json::proofs::OnRows::on_rows))]
 fn keep_makers(
     held: &Metadata,
     alloc: Global,
     version: SpecVersion,
     label: SpecVersion,
 ) -> Result<Makers, AllocError>
-    ensures { IfOk result (λ r. makers_trees r ≡ rows_held version label (makers held.now) (group 0 metadata)) }
+    ensures { IfOk result
+        (λ r. makers_trees r ≡ rows_held version label (makers held.now) (group 0 metadata)) }
 {
     let timestamp = keep_row(alloc, &held.timestamp, version, label)?;
     let tools = keep_row(alloc, &held.tools, version, label)?;
@@ -193,14 +154,15 @@ fn keep_makers(
     })
 }
 
-#[tactic(auto, unfolding(cdx_json::specs::KeptRows::rows_held, cdx_schema::specs::Table::rows, cdx_schema::specs::Table::list))]
+#[tactic(auto, unfolding(cdx_json::proofs::OnRows::on_rows))]
 fn keep_terms(
     held: &Metadata,
     alloc: Global,
     version: SpecVersion,
     label: SpecVersion,
 ) -> Result<Terms, AllocError>
-    ensures { IfOk result (λ r. terms_trees r ≡ rows_held version label (terms held.now) (group 1 metadata)) }
+    ensures { IfOk result
+        (λ r. terms_trees r ≡ rows_held version label (terms held.now) (group 1 metadata)) }
 {
     let licenses = keep_row(alloc, &held.licenses, version, label)?;
     let properties = keep_row(alloc, &held.properties, version, label)?;

@@ -12,7 +12,8 @@ ghost use Rattle.cdx_schema.specs.JsonSpelling.{jspell};
 ghost use Rattle.cdx_json.specs.ByRows.{by_rows};
 ghost use Rattle.cdx_json.specs.Depths.{depth_of};
 ghost use Rattle.cdx_json.specs.Gives.{Gives};
-ghost use Rattle.cdx_json.specs.KeptRows.{parts, rows_put};
+ghost use Rattle.cdx_models.specs.Trees.{fields_of};
+ghost use Rattle.cdx_json.specs.KeptRows.{rows_put};
 ghost use Rattle.cdx_nest.specs.Trees.{tools_tree, object_tree};
 ghost use Rattle.cdx_nest.specs.Stays.{tools_stay};
 
@@ -20,17 +21,13 @@ use crate::tools::Tools;
 use cdx_component::Components;
 use cdx_events::List;
 use cdx_json::{
-    Depth, FromJson, Kept, Kinded, ToJson, here, keep_list, keep_row, list_from_items,
-    list_to_value, optional_row, put_row,
+    Depth, FromJson, Kept, ToJson, here, keep_list, keep_row, list_from_items, list_to_value,
+    optional_row, put_row,
 };
 use cdx_models::{JsonKind, JsonReadError, SpecVersion};
 use cdx_service::Services;
 use serde_json::{Map, Value};
 use std::alloc::{AllocError, Global};
-
-impl Kinded for Tools {
-    ghost kind = { a_tools };
-}
 
 impl FromJson for Tools {
     /// An array is a list of tools, and in 1.5 an object is the services and components.
@@ -66,7 +63,7 @@ fn tools_from_object(
     }
 }
 
-#[tactic(auto, unfolding(cdx_json::specs::ByRows::rows_made, cdx_schema::specs::Table::rows, cdx_schema::specs::Table::list))]
+#[tactic(auto, unfolding(cdx_json::proofs::OnRows::on_rows))]
 fn tools_from_members(
     alloc: Global,
     map: &Map<String, Value>,
@@ -165,15 +162,16 @@ fn empty_array(alloc: Global) -> Value
     Value::Array(Vec::new(alloc))
 }
 
-#[tactic(auto, unfolding(cdx_json::specs::KeptRows::rows_put, cdx_schema::specs::Table::rows, cdx_schema::specs::Table::list))]
+#[tactic(auto, unfolding(cdx_json::proofs::OnRows::on_rows))]
 fn members_to_value(
     alloc: Global,
     services: &Option<Services>,
     components: &Option<Components>,
     version: SpecVersion,
 ) -> Result<Value, AllocError>
-    ensures { IfOk result (λ v. view v
-        ≡ object (rows_put (parts (object_tree services.now components.now)) version (rows tools_object) no_members)) }
+    ensures { IfOk result (λ v. view v ≡ object (rows_put
+        (fields_of (object_tree services.now components.now)) version
+        (rows tools_object) no_members)) }
 {
     let mut map = Map::new(alloc);
     put_row(alloc, &mut map, "services", services, version)?;

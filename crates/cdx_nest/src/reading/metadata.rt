@@ -55,13 +55,12 @@ impl Children for Metadata {
 /// Each child that CycloneDX names, in any order; a repeated one is read each time, and the last counts. Other elements
 /// are skipped whole, and a text is unexpected at its place.
 impl FromXml for Metadata {
-    ghost use Rattle.cdx_models.specs.Trees.{metadata};
+    ghost use Rattle.std.specs.Prelude.{refl};
     ghost use Rattle.cdx_schema.specs.Depth.{top};
-    ghost use Rattle.cdx_schema.specs.Kinds.{a_record};
-
-    ghost kind = { a_record metadata };
 
     ghost depth = { λ d. top };
+
+    ghost at_top = { refl };
 
     fn read_xml_element(
         alloc: Global,

@@ -82,7 +82,8 @@ fn object_in(
 
 /// Whether services or components stand there.
 fn has_object(part: &ToolsPart) -> bool
-    ensures { result ≡ (not (is_absent (present services_tree part.now.services)) || not (is_absent (present components_tree part.now.components))) }
+    ensures { result ≡ (not (is_absent (present services_tree part.now.services))
+        || not (is_absent (present components_tree part.now.components))) }
 {
     is_there(&part.services) || is_there(&part.components)
 }
@@ -96,7 +97,8 @@ fn finish_tools(
     element: &OwnedName,
     part: ToolsPart,
 ) -> Result<Tools, XmlReadError>
-    ensures { Gives tools_tree (place + 1) (tools_ended v element.now.local_name place (tools_part part)) result }
+    ensures { Gives tools_tree (place + 1)
+        (tools_ended v element.now.local_name place (tools_part part)) result }
 {
     if part.tools.len() == 0 {
         return Ok(object_in(alloc, v, part.services, part.components));
@@ -113,12 +115,12 @@ fn finish_tools(
 /// are too. Where services or components stand beside a tool, `tool array or services & components` is missing at the
 /// element's end.
 impl FromXml for Tools {
+    ghost use Rattle.std.specs.Prelude.{refl};
     ghost use Rattle.cdx_schema.specs.Depth.{top};
-    ghost use Rattle.cdx_schema.specs.Kinds.{a_tools};
-
-    ghost kind = { a_tools };
 
     ghost depth = { λ d. top };
+
+    ghost at_top = { refl };
 
     fn read_xml_element(
         alloc: Global,

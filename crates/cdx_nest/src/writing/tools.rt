@@ -2,8 +2,7 @@
 
 ghost use Rattle.std.specs.Prelude.{refl, codes};
 ghost use Rattle.cdx_schema.specs.Kinds.{a_tools};
-ghost use Rattle.cdx_write.specs.Spelling.{tagged, inner};
-ghost use Rattle.cdx_write.specs.WillWrite.{will_write};
+ghost use Rattle.cdx_write.specs.Spelling.{inner};
 ghost use Rattle.cdx_write.specs.Writing.{Appends};
 ghost use Rattle.cdx_nest.specs.Trees.{tools_tree, object_tree};
 
@@ -12,7 +11,9 @@ use cdx_component::Components;
 use cdx_events::EventWriter;
 use cdx_models::{SpecVersion, XmlWriteError};
 use cdx_service::Services;
-use cdx_write::{Element, Kinded, ToXml, put_child, write_close_tag, write_items, write_start_tag};
+use cdx_write::{
+    Element, HasContent, Tagged, put_child, write_close_tag, write_items, write_start_tag,
+};
 use std::alloc::Global;
 
 /// Appends the services and then the components, and before 1.5 nothing.
@@ -23,7 +24,8 @@ fn write_parts(
     services: &Option<Services>,
     components: &Option<Components>,
 ) -> Result<(), XmlWriteError>
-    ensures { Appends writer.old writer.new (inner (object_tree services.now components.now) w a_tools) result }
+    ensures { Appends writer.old writer.new
+        (inner (object_tree services.now components.now) w a_tools) result }
 {
     if !SpecVersion::V1_5.is_known_to(w) {
         return Ok(());
@@ -50,10 +52,6 @@ fn write_content(
     }
 }
 
-impl Kinded for Tools {
-    ghost kind = { a_tools };
-}
-
 impl Element for Tools {
     ghost keeps = { refl };
 
@@ -70,26 +68,16 @@ impl Element for Tools {
     }
 }
 
-impl ToXml for Tools {
-    ghost shown = { tools_tree };
-
-    ghost kind = { a_tools };
-
-    ghost tag = { tagged (codes "tools") };
-
-    ghost counts = { λ x. will_write (tools_tree x) };
-
-    /// Each tool, or the services and then the components; before 1.5 an object is written as the empty list.
-    fn write_xml_element(
-        &self,
-        alloc: Global,
-        writer: &mut EventWriter,
-        w: SpecVersion,
-    ) -> Result<(), XmlWriteError> {
-        self.write_as(alloc, writer, w, "tools")
-    }
-
-    fn will_write(&self) -> bool {
+impl HasContent for Tools {
+    fn has_content(&self) -> bool {
         true
+    }
+}
+
+impl Tagged for Tools {
+    ghost own_name = { codes "tools" };
+
+    fn own_name() -> &'static str {
+        "tools"
     }
 }

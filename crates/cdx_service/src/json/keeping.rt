@@ -24,7 +24,8 @@ pub(crate) fn keep_service(
     version: SpecVersion,
     label: SpecVersion,
 ) -> Result<Service, AllocError>
-    ensures { IfOk result (λ r. service_tree r ≡ kept version label (service_tree held.now) (a_record service)) }
+    ensures { IfOk result
+        (λ r. service_tree r ≡ kept version label (service_tree held.now) (a_record service)) }
 {
     let service_naming = keep_service_naming(held, alloc, version, label)?;
     let service_access = match keep_service_access(held, alloc, version, label) {
@@ -53,7 +54,8 @@ pub(crate) fn keep_services(
     version: SpecVersion,
     label: SpecVersion,
 ) -> Result<Services, AllocError>
-    ensures { IfOk result (λ r. services_tree r ≡ kept version label (services_tree held.now) (a_list services)) }
+    ensures { IfOk result
+        (λ r. services_tree r ≡ kept version label (services_tree held.now) (a_list services)) }
 {
     let mut copies = Services::with_capacity(alloc, held.len())?;
     for item in &held.items {
@@ -62,14 +64,15 @@ pub(crate) fn keep_services(
     Ok(copies)
 }
 
-#[tactic(auto, unfolding(cdx_json::specs::KeptRows::rows_held, cdx_schema::specs::Table::rows, cdx_schema::specs::Table::list))]
+#[tactic(auto, unfolding(cdx_json::proofs::OnRows::on_rows))]
 fn keep_service_naming(
     held: &Service,
     alloc: Global,
     version: SpecVersion,
     label: SpecVersion,
 ) -> Result<ServiceNaming, AllocError>
-    ensures { IfOk result (λ r. service_naming_trees r ≡ rows_held version label (service_naming (out-Service held.now)) (group 0 service)) }
+    ensures { IfOk result (λ r. service_naming_trees r
+        ≡ rows_held version label (service_naming (out-Service held.now)) (group 0 service)) }
 {
     let bom_ref = keep_row(alloc, &held.bom_ref, version, label)?;
     let group = keep_row(alloc, &held.group, version, label)?;
@@ -87,14 +90,15 @@ fn keep_service_naming(
     })
 }
 
-#[tactic(auto, unfolding(cdx_json::specs::KeptRows::rows_held, cdx_schema::specs::Table::rows, cdx_schema::specs::Table::list))]
+#[tactic(auto, unfolding(cdx_json::proofs::OnRows::on_rows))]
 fn keep_service_access(
     held: &Service,
     alloc: Global,
     version: SpecVersion,
     label: SpecVersion,
 ) -> Result<ServiceAccess, AllocError>
-    ensures { IfOk result (λ r. service_access_trees r ≡ rows_held version label (service_access (out-Service held.now)) (group 1 service)) }
+    ensures { IfOk result (λ r. service_access_trees r
+        ≡ rows_held version label (service_access (out-Service held.now)) (group 1 service)) }
 {
     let endpoints = keep_optional_list(alloc, &held.endpoints, version, label)?;
     let authenticated = keep_row(alloc, &held.authenticated, version, label)?;
@@ -113,14 +117,15 @@ fn keep_service_access(
 }
 
 #[cycle(service_keep)]
-#[tactic(auto, unfolding(cdx_json::specs::KeptRows::rows_held, cdx_schema::specs::Table::rows, cdx_schema::specs::Table::list))]
+#[tactic(auto, unfolding(cdx_json::proofs::OnRows::on_rows))]
 fn keep_service_contents(
     held: &Service,
     alloc: Global,
     version: SpecVersion,
     label: SpecVersion,
 ) -> Result<ServiceContents, AllocError>
-    ensures { IfOk result (λ r. service_contents_trees r ≡ rows_held version label (service_contents services_tree (out-Service held.now)) (group 2 service)) }
+    ensures { IfOk result (λ r. service_contents_trees r ≡ rows_held version label
+        (service_contents services_tree (out-Service held.now)) (group 2 service)) }
 {
     let properties = keep_row(alloc, &held.properties, version, label)?;
     let services = keep_services_row(&held.services, alloc, version, label)?;
@@ -142,7 +147,8 @@ fn keep_services_row(
     version: SpecVersion,
     label: SpecVersion,
 ) -> Result<Option<Services>, AllocError>
-    ensures { IfOk result (λ r. present services_tree r ≡ kept version label (present services_tree held.now) (a_list services)) }
+    ensures { IfOk result (λ r. present services_tree r
+        ≡ kept version label (present services_tree held.now) (a_list services)) }
 {
     match held {
         None => Ok(None),

@@ -30,7 +30,8 @@ pub(crate) fn read_service(
     version: SpecVersion,
     depth: Depth,
 ) -> Result<Service, JsonReadError>
-    ensures { Gives service_tree result (jread (view value.now) version (a_record service) (depth_of depth)) }
+    ensures { Gives service_tree result
+        (jread (view value.now) version (a_record service) (depth_of depth)) }
 {
     if depth.services >= 32 {
         return Err(here(alloc, JsonKind::TooDeep));
@@ -54,7 +55,8 @@ fn service_from_members(
     version: SpecVersion,
     depth: Depth,
 ) -> Result<Service, JsonReadError>
-    ensures { Gives service_tree result (service_by_groups (seen (members_view map.now.entries)) version (depth_of depth)) }
+    ensures { Gives service_tree result
+        (service_by_groups (seen (members_view map.now.entries)) version (depth_of depth)) }
 {
     let service_naming = read_service_naming(alloc, map, version, depth)?;
     let service_access = match read_service_access(alloc, map, version, depth) {
@@ -83,7 +85,8 @@ pub(crate) fn read_services(
     version: SpecVersion,
     depth: Depth,
 ) -> Result<Services, JsonReadError>
-    ensures { Gives services_tree result (jread (view value.now) version (a_list services) (depth_of depth)) }
+    ensures { Gives services_tree result
+        (jread (view value.now) version (a_list services) (depth_of depth)) }
 {
     match value.as_array() {
         None => Err(here(alloc, JsonKind::WrongKind)),
@@ -117,7 +120,8 @@ fn read_service_naming(
     version: SpecVersion,
     depth: Depth,
 ) -> Result<ServiceNaming, JsonReadError>
-    ensures { Gives service_naming_trees result (group_read 0 service (seen (members_view map.now.entries)) version (depth_of depth)) }
+    ensures { Gives service_naming_trees result
+        (group_read 0 service (seen (members_view map.now.entries)) version (depth_of depth)) }
 {
     let bom_ref = optional_row(alloc, map, "bom-ref", version, depth)?;
     let provider = optional_row(alloc, map, "provider", version, depth)?;
@@ -141,7 +145,8 @@ fn read_service_access(
     version: SpecVersion,
     depth: Depth,
 ) -> Result<ServiceAccess, JsonReadError>
-    ensures { Gives service_access_trees result (group_read 1 service (seen (members_view map.now.entries)) version (depth_of depth)) }
+    ensures { Gives service_access_trees result
+        (group_read 1 service (seen (members_view map.now.entries)) version (depth_of depth)) }
 {
     let endpoints = optional_list_row(alloc, map, "endpoints", version, depth)?;
     let authenticated = optional_row(alloc, map, "authenticated", version, depth)?;
@@ -166,7 +171,8 @@ fn read_service_contents(
     version: SpecVersion,
     depth: Depth,
 ) -> Result<ServiceContents, JsonReadError>
-    ensures { Gives service_contents_trees result (group_read 2 service (seen (members_view map.now.entries)) version (depth_of depth)) }
+    ensures { Gives service_contents_trees result
+        (group_read 2 service (seen (members_view map.now.entries)) version (depth_of depth)) }
 {
     let properties = optional_row(alloc, map, "properties", version, depth)?;
     let services = read_services_row(alloc, map, "services", version, depth)?;
@@ -195,8 +201,8 @@ fn read_services_row(
     version: SpecVersion,
     depth: Depth,
 ) -> Result<Option<Services>, JsonReadError>
-    ensures { Gives (present services_tree) result
-        (member_of (seen (members_view map.now.entries)) name.now optional (a_list services) version (depth_of depth)) }
+    ensures { Gives (present services_tree) result (member_of (seen (members_view map.now.entries))
+        name.now optional (a_list services) version (depth_of depth)) }
 {
     match member_not_null(map, name) {
         None => Ok(None),

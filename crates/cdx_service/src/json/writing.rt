@@ -24,7 +24,9 @@ pub(crate) fn write_service(
     alloc: Global,
     version: SpecVersion,
 ) -> Result<Value, AllocError>
-    ensures { IfOk result (λ v. view v ≡ jspell (keep version (service_tree held.now) (a_record service)) version (a_record service)) }
+    ensures { IfOk result (λ v. view v ≡ jspell
+        (keep version (service_tree held.now) (a_record service)) version
+        (a_record service)) }
 {
     let mut map = Map::new(alloc);
     put_service_naming(held, alloc, &mut map, version)?;
@@ -40,7 +42,9 @@ pub(crate) fn write_services(
     alloc: Global,
     version: SpecVersion,
 ) -> Result<Value, AllocError>
-    ensures { IfOk result (λ v. view v ≡ jspell (keep version (services_tree held.now) (a_list services)) version (a_list services)) }
+    ensures { IfOk result (λ v. view v ≡ jspell
+        (keep version (services_tree held.now) (a_list services)) version
+        (a_list services)) }
 {
     let mut values = Vec::with_capacity(alloc, held.len())?;
     for item in &held.items {
@@ -55,8 +59,9 @@ fn put_service_naming(
     map: &mut Map<String, Value>,
     version: SpecVersion,
 ) -> Result<(), AllocError>
-    ensures { OnOk result (members_view map.new.entries
-        ≡ rows_put (service_naming (out-Service held.now)) version (group 0 service) (members_view map.old.entries)) }
+    ensures { OnOk result (members_view map.new.entries ≡ rows_put
+        (service_naming (out-Service held.now)) version (group 0 service)
+        (members_view map.old.entries)) }
 {
     put_row(alloc, map, "bom-ref", &held.bom_ref, version)?;
     put_row(alloc, map, "provider", &held.provider, version)?;
@@ -73,8 +78,9 @@ fn put_service_access(
     map: &mut Map<String, Value>,
     version: SpecVersion,
 ) -> Result<(), AllocError>
-    ensures { OnOk result (members_view map.new.entries
-        ≡ rows_put (service_access (out-Service held.now)) version (group 1 service) (members_view map.old.entries)) }
+    ensures { OnOk result (members_view map.new.entries ≡ rows_put
+        (service_access (out-Service held.now)) version (group 1 service)
+        (members_view map.old.entries)) }
 {
     put_optional_list(alloc, map, "endpoints", &held.endpoints, version)?;
     put_row(alloc, map, "authenticated", &held.authenticated, version)?;
@@ -104,8 +110,9 @@ fn put_service_contents(
     map: &mut Map<String, Value>,
     version: SpecVersion,
 ) -> Result<(), AllocError>
-    ensures { OnOk result (members_view map.new.entries
-        ≡ rows_put (service_contents services_tree (out-Service held.now)) version (group 2 service) (members_view map.old.entries)) }
+    ensures { OnOk result (members_view map.new.entries ≡ rows_put
+        (service_contents services_tree (out-Service held.now)) version (group 2 service)
+        (members_view map.old.entries)) }
 {
     put_row(alloc, map, "properties", &held.properties, version)?;
     put_services_row(&held.services, alloc, map, "services", version)?;
@@ -136,8 +143,8 @@ fn put_services_row(
     name: &str,
     version: SpecVersion,
 ) -> Result<(), AllocError>
-    ensures { OnOk result (members_view map.new.entries
-        ≡ put_kept name.now (a_list services) (present services_tree held.now) version (members_view map.old.entries)) }
+    ensures { OnOk result (members_view map.new.entries ≡ put_kept name.now (a_list services)
+        (present services_tree held.now) version (members_view map.old.entries)) }
 {
     match held {
         None => Ok(()),

@@ -16,7 +16,7 @@ ghost use Rattle.cdx_leaf.specs.Each.{each, plan_step};
 ghost use Rattle.cdx_leaf.specs.Groups.{rows_plan};
 ghost use Rattle.cdx_leaf.specs.Listing.{listing_slots};
 ghost use Rattle.cdx_leaf.specs.Reading.{IsAt, IsIn, At, after, Reads, ReadsAs};
-ghost use Rattle.cdx_leaf.specs.Trees.{fields_of};
+ghost use Rattle.cdx_models.specs.Trees.{fields_of};
 ghost use Rattle.cdx_service.specs.Trees.{service_tree, services_tree, services_listed};
 ghost use Rattle.cdx_service.specs.PartTrees.{service_naming_trees, service_contents_trees};
 ghost use Rattle.cdx_service.specs.ReadingParts.{naming_part, service_part};
@@ -36,7 +36,8 @@ fn begin_service(
     alloc: Global,
     attributes: &List<OwnedAttribute>,
 ) -> Result<ServicePart, AllocError>
-    ensures { IfOk result (λ part. (v : SpecVersion) (el : List ℕ) (p : ℕ) → attributes_read (rows service) attributes.now v el p ≡ Ok (service_part part)) }
+    ensures { IfOk result (λ part. (v : SpecVersion) (el : List ℕ) (p : ℕ)
+        → attributes_read (rows service) attributes.now v el p ≡ Ok (service_part part)) }
 {
     let naming = NamingPart {
         bom_ref: attribute_or_none(alloc, attributes, "bom-ref")?,
@@ -74,7 +75,8 @@ fn finish_naming(
     element: &OwnedName,
     part: NamingPart,
 ) -> Result<ServiceNaming, XmlReadError>
-    ensures { (v : SpecVersion) → Gives service_naming_trees (place + 1) (ended (group 0 service) (naming_part part) v element.now.local_name place) result }
+    ensures { (v : SpecVersion) → Gives service_naming_trees (place + 1)
+        (ended (group 0 service) (naming_part part) v element.now.local_name place) result }
 {
     let name = child_or_error(alloc, place, element, part.name, "name")?;
     Ok(ServiceNaming {
@@ -94,7 +96,8 @@ fn finish_service(
     element: &OwnedName,
     part: ServicePart,
 ) -> Result<Service, XmlReadError>
-    ensures { (v : SpecVersion) → Gives (λ x. fields_of (service_tree x)) (place + 1) (ended (rows service) (service_part part) v element.now.local_name place) result }
+    ensures { (v : SpecVersion) → Gives (λ x. fields_of (service_tree x)) (place + 1)
+        (ended (rows service) (service_part part) v element.now.local_name place) result }
 {
     let ServicePart {
         naming: read,
@@ -122,7 +125,8 @@ pub(crate) fn read_service_element(
     depth: Depth,
 ) -> Result<Service, XmlReadError>
     requires { IsIn reader.old element.now }
-    ensures { ReadsAs service_tree reader.old reader.new element.now attributes.now v (a_record service) (λ _. depth_of depth) result }
+    ensures { ReadsAs service_tree reader.old reader.new element.now attributes.now v
+        (a_record service) (λ _. depth_of depth) result }
 {
     if depth.services >= 32 {
         return Err(XmlReadError::TooDeep {
@@ -155,7 +159,10 @@ fn read_service_children(
 ) -> Result<(), XmlReadError>
     requires { IsAt reader.old element.now }
     ensures { (nodes : Nodes) (rest : List XmlEvent) → At reader.old element.now nodes rest
-        → Reads (λ _. service_part part.new) reader.old reader.new (after reader.old nodes rest) (each (plan_step (record_plan service) v (depth_of depth) element.now.local_name) nodes reader.old.place (service_part part.old)) result }
+        → Reads (λ _. service_part part.new) reader.old reader.new (after reader.old nodes rest)
+        (each (plan_step (record_plan service) v (depth_of depth) element.now.local_name) nodes
+        reader.old.place (service_part part.old))
+        result }
 {
     'nodes: while let Some(child) = next_child(alloc, reader, element, Rule::Lax)? {
         let taken = read_service_child(
@@ -184,7 +191,8 @@ fn read_service_child(
     part: &mut ServicePart,
 ) -> Result<Taken, XmlReadError>
     requires { IsIn reader.old element.now }
-    ensures { TakesChild (service_part part.old) (service_part part.new) reader.old reader.new v (record_plan service) (λ _. depth_of depth) element.now attributes.now result }
+    ensures { TakesChild (service_part part.old) (service_part part.new) reader.old reader.new v
+        (record_plan service) (λ _. depth_of depth) element.now attributes.now result }
 {
     let named = read_naming_child(alloc, reader, v, element, attributes, &mut part.naming)?;
     if !named.is_unknown() {
@@ -217,7 +225,9 @@ fn read_contents_child(
     part: &mut ServiceContents,
 ) -> Result<Taken, XmlReadError>
     requires { IsIn reader.old element.now }
-    ensures { TakesChild (service_contents_trees part.old) (service_contents_trees part.new) reader.old reader.new v (rows_plan lax (group 2 service)) (λ _. depth_of depth) element.now attributes.now result }
+    ensures { TakesChild (service_contents_trees part.old) (service_contents_trees part.new)
+        reader.old reader.new v (rows_plan lax (group 2 service)) (λ _. depth_of depth) element.now
+        attributes.now result }
 {
     match element.local_name.as_str() {
         "properties" => take_one(alloc, reader, v, element, attributes, &mut part.properties),
@@ -253,7 +263,8 @@ pub(crate) fn read_services_element(
     depth: Depth,
 ) -> Result<Services, XmlReadError>
     requires { IsIn reader.old element.now }
-    ensures { ReadsAs services_tree reader.old reader.new element.now _attributes.now v (a_list services) (λ _. depth_of depth) result }
+    ensures { ReadsAs services_tree reader.old reader.new element.now _attributes.now v
+        (a_list services) (λ _. depth_of depth) result }
 {
     let mut list = Services::new(alloc);
     read_items(alloc, reader, v, element, depth, &mut list)?;
@@ -272,7 +283,11 @@ fn read_items(
 ) -> Result<(), XmlReadError>
     requires { IsAt reader.old element.now }
     ensures { (nodes : Nodes) (rest : List XmlEvent) → At reader.old element.now nodes rest
-        → Reads (λ _. listing_slots service_tree (services_listed list.new)) reader.old reader.new (after reader.old nodes rest) (each (plan_step (list_plan services) v (depth_of depth) element.now.local_name) nodes reader.old.place (listing_slots service_tree (services_listed list.old))) result }
+        → Reads (λ _. listing_slots service_tree (services_listed list.new)) reader.old reader.new
+        (after reader.old nodes rest) (each
+        (plan_step (list_plan services) v (depth_of depth) element.now.local_name) nodes
+        reader.old.place (listing_slots service_tree (services_listed list.old)))
+        result }
 {
     'nodes: while let Some(child) = next_child(alloc, reader, element, Rule::Lax)? {
         let taken = read_item(alloc, reader, v, child.name, child.attributes, depth, list)?;
@@ -293,7 +308,9 @@ fn read_item(
     list: &mut Services,
 ) -> Result<Taken, XmlReadError>
     requires { IsIn reader.old element.now }
-    ensures { TakesChild (listing_slots service_tree (services_listed list.old)) (listing_slots service_tree (services_listed list.new)) reader.old reader.new v (list_plan services) (λ _. depth_of depth) element.now attributes.now result }
+    ensures { TakesChild (listing_slots service_tree (services_listed list.old))
+        (listing_slots service_tree (services_listed list.new)) reader.old reader.new v
+        (list_plan services) (λ _. depth_of depth) element.now attributes.now result }
 {
     if !element.local_name.is("service") {
         return Ok(Taken::Unknown);

@@ -26,7 +26,8 @@ pub(crate) fn read_naming_child(
     part: &mut NamingPart,
 ) -> Result<Taken, XmlReadError>
     requires { IsIn reader.old element.now }
-    ensures { TakesChild (naming_part part.old) (naming_part part.new) reader.old reader.new v (rows_plan lax (group 0 service)) (λ d. d) element.now attributes.now result }
+    ensures { TakesChild (naming_part part.old) (naming_part part.new) reader.old reader.new v
+        (rows_plan lax (group 0 service)) (λ d. d) element.now attributes.now result }
 {
     match element.local_name.as_str() {
         "provider" => take_one(alloc, reader, v, element, attributes, &mut part.provider),
@@ -48,7 +49,8 @@ pub(crate) fn read_access_child(
     part: &mut ServiceAccess,
 ) -> Result<Taken, XmlReadError>
     requires { IsIn reader.old element.now }
-    ensures { TakesChild (service_access_trees part.old) (service_access_trees part.new) reader.old reader.new v (rows_plan lax (group 1 service)) (λ d. d) element.now attributes.now result }
+    ensures { TakesChild (service_access_trees part.old) (service_access_trees part.new) reader.old
+        reader.new v (rows_plan lax (group 1 service)) (λ d. d) element.now attributes.now result }
 {
     match element.local_name.as_str() {
         "endpoints" => take_list(

@@ -10,7 +10,8 @@ use crate::service::{Service, Services};
 use cdx_models::{HasTree, same_row};
 
 fn same_service_naming(one: &Service, other: &Service) -> bool
-    ensures { result ≡ same_each (service_naming (out-Service one.now)) (service_naming (out-Service other.now)) }
+    ensures { result ≡ same_each (service_naming (out-Service one.now))
+        (service_naming (out-Service other.now)) }
 {
     same_row(&one.bom_ref, &other.bom_ref)
         && same_row(&one.provider, &other.provider)
@@ -21,7 +22,8 @@ fn same_service_naming(one: &Service, other: &Service) -> bool
 }
 
 fn same_service_access(one: &Service, other: &Service) -> bool
-    ensures { result ≡ same_each (service_access (out-Service one.now)) (service_access (out-Service other.now)) }
+    ensures { result ≡ same_each (service_access (out-Service one.now))
+        (service_access (out-Service other.now)) }
 {
     same_row(&one.endpoints, &other.endpoints)
         && same_row(&one.authenticated, &other.authenticated)
@@ -33,7 +35,8 @@ fn same_service_access(one: &Service, other: &Service) -> bool
 
 #[cycle(service_same)]
 fn same_service_contents(one: &Service, other: &Service) -> bool
-    ensures { result ≡ same_each (service_contents services_tree (out-Service one.now)) (service_contents services_tree (out-Service other.now)) }
+    ensures { result ≡ same_each (service_contents services_tree (out-Service one.now))
+        (service_contents services_tree (out-Service other.now)) }
 {
     same_row(&one.properties, &other.properties)
         && same_services_row(&one.services, &other.services)

@@ -51,7 +51,8 @@ fn copy_service_access(service: &Service, alloc: Global) -> Result<ServiceAccess
 
 #[cycle(service_copy)]
 fn copy_service_contents(service: &Service, alloc: Global) -> Result<ServiceContents, AllocError>
-    ensures { IfOk result (λ r. service_contents_trees r ≡ service_contents services_tree (out-Service service.now)) }
+    ensures { IfOk result
+        (λ r. service_contents_trees r ≡ service_contents services_tree (out-Service service.now)) }
 {
     let properties = copy_row(alloc, &service.properties)?;
     let services = copy_services_row(&service.services, alloc)?;

@@ -47,7 +47,8 @@ pub(crate) fn assemble(
     service_access: ServiceAccess,
     service_contents: ServiceContents,
 ) -> Service
-    ensures { service_tree result ≡ fields service (service_naming_trees service_naming ⧺ (service_access_trees service_access ⧺ service_contents_trees service_contents)) }
+    ensures { service_tree result ≡ fields service (service_naming_trees service_naming ⧺
+        (service_access_trees service_access ⧺ service_contents_trees service_contents)) }
 {
     Service {
         bom_ref: service_naming.bom_ref,

@@ -27,7 +27,8 @@ pub(crate) fn write_service(
     w: SpecVersion,
     tag: &str,
 ) -> Result<(), XmlWriteError>
-    ensures { Appends writer.old writer.new (written (service_tree held.now) w tag.now (a_record service)) result }
+    ensures { Appends writer.old writer.new
+        (written (service_tree held.now) w tag.now (a_record service)) result }
 {
     let attributes = service_attributes(held, alloc, w)?;
     write_opening(alloc, writer, tag, attributes)?;
@@ -44,7 +45,8 @@ pub(crate) fn write_services(
     w: SpecVersion,
     tag: &str,
 ) -> Result<(), XmlWriteError>
-    ensures { Appends writer.old writer.new (written (services_tree held.now) w tag.now (a_list services)) result }
+    ensures { Appends writer.old writer.new
+        (written (services_tree held.now) w tag.now (a_list services)) result }
 {
     write_start_tag(alloc, writer, tag)?;
     write_items(held, alloc, writer, w)?;
@@ -59,7 +61,8 @@ fn write_items(
     writer: &mut EventWriter,
     w: SpecVersion,
 ) -> Result<(), XmlWriteError>
-    ensures { Appends writer.old writer.new (inner (services_tree held.now) w (a_list services)) result }
+    ensures { Appends writer.old writer.new (inner (services_tree held.now) w (a_list services))
+        result }
 {
     for item in &held.items {
         write_service(item, alloc, writer, w, "service")?;
@@ -75,7 +78,9 @@ fn write_rows(
     writer: &mut EventWriter,
     w: SpecVersion,
 ) -> Result<(), XmlWriteError>
-    ensures { Appends writer.old writer.new (rows_written (service_fields services_tree (out-Service held.now)) w (rows service)) result }
+    ensures { Appends writer.old writer.new
+        (rows_written (service_fields services_tree (out-Service held.now)) w (rows service))
+        result }
 {
     write_naming_rows(held, alloc, writer, w)?;
     write_access_rows(held, alloc, writer, w)?;
@@ -89,7 +94,9 @@ fn write_contents_rows(
     writer: &mut EventWriter,
     w: SpecVersion,
 ) -> Result<(), XmlWriteError>
-    ensures { Appends writer.old writer.new (rows_written (service_contents services_tree (out-Service held.now)) w (group 2 service)) result }
+    ensures { Appends writer.old writer.new
+        (rows_written (service_contents services_tree (out-Service held.now)) w (group 2 service))
+        result }
 {
     put_child(alloc, writer, w, "properties", &held.properties)?;
     put_services(&held.services, alloc, writer, w, "services")?;
@@ -119,7 +126,8 @@ fn put_services(
     w: SpecVersion,
     name: &str,
 ) -> Result<(), XmlWriteError>
-    ensures { Appends writer.old writer.new (child_put name.now (a_list services) (present services_tree held.now) w) result }
+    ensures { Appends writer.old writer.new
+        (child_put name.now (a_list services) (present services_tree held.now) w) result }
 {
     match held {
         None => Ok(()),

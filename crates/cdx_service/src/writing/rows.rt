@@ -16,13 +16,14 @@ use cdx_write::{put_attribute, put_child, put_list, put_required_child};
 use std::alloc::{AllocError, Global};
 
 /// The attributes, all of which stand among the first rows.
-#[tactic(auto, unfolding(cdx_write::specs::WrittenRows::attributes_put, cdx_schema::specs::Table::rows))]
+#[tactic(auto, unfolding(cdx_write::proofs::OnRows::on_rows))]
 pub(crate) fn service_attributes(
     held: &Service,
     alloc: Global,
     w: SpecVersion,
 ) -> Result<List<OwnedAttribute>, AllocError>
-    ensures { IfOk result (λ r. r ≡ attributes_put (service_naming (out-Service held.now)) w (group 0 service)) }
+    ensures { IfOk result
+        (λ r. r ≡ attributes_put (service_naming (out-Service held.now)) w (group 0 service)) }
 {
     let mut attributes = List::new(alloc);
     put_attribute(alloc, &mut attributes, w, "bom-ref", &held.bom_ref)?;
@@ -35,7 +36,8 @@ pub(crate) fn write_naming_rows(
     writer: &mut EventWriter,
     w: SpecVersion,
 ) -> Result<(), XmlWriteError>
-    ensures { Appends writer.old writer.new (rows_written (service_naming (out-Service held.now)) w (group 0 service)) result }
+    ensures { Appends writer.old writer.new
+        (rows_written (service_naming (out-Service held.now)) w (group 0 service)) result }
 {
     put_child(alloc, writer, w, "provider", &held.provider)?;
     put_child(alloc, writer, w, "group", &held.group)?;
@@ -50,7 +52,8 @@ pub(crate) fn write_access_rows(
     writer: &mut EventWriter,
     w: SpecVersion,
 ) -> Result<(), XmlWriteError>
-    ensures { Appends writer.old writer.new (rows_written (service_access (out-Service held.now)) w (group 1 service)) result }
+    ensures { Appends writer.old writer.new
+        (rows_written (service_access (out-Service held.now)) w (group 1 service)) result }
 {
     put_list(alloc, writer, w, "endpoints", "endpoint", &held.endpoints)?;
     put_child(alloc, writer, w, "authenticated", &held.authenticated)?;

@@ -1,10 +1,9 @@
-use Rattle.std.proofs.Common.{rules, arith, ◌≡◌, sym, subst, ap, ◌∙◌, drop, List, [], ◌∷◌, ◌++◌, ℕ, length, ◌+◌, slice_index_or}
+use Rattle.std.proofs.Common.{rules, arith, ◌≡◌, sym, subst, ◌∙◌, drop, List, [], ◌∷◌, ◌++◌, ℕ, ◌+◌, slice_index_or}
 use Rattle.std.proofs.lemmas.List.{drop_more, drop_all}
 use Rattle.cdx_models.specs.declared.bom.SpecVersion.TheVariants.{V1_3}
 use Rattle.cdx_bom.specs.declared.doc.Form.TheVariants.{Json}
 use Rattle.cdx_bom.specs.declared.doc.Hop.{Hop}
-use Rattle.cdx_bom.specs.declared.doc.Doc.{Doc}
-use Rattle.cdx_bom.proofs.Carried.{IsAlong, begins, goes_on, stops, ends}
+use Rattle.cdx_bom.proofs.Carried.{IsAlong, begins, goes_on, ends}
 use Rattle.cdx_bom.proofs.roads.along.Goals as goal
 
 pub loop-hop-init : goal.loop-hop-init

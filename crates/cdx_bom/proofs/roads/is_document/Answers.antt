@@ -1,8 +1,4 @@
-use Rattle.std.proofs.Common.{refl, subst, sym}
-use Rattle.serde_json.specs.View.{view}
-use Rattle.cdx_events.specs.Nodes.{element}
 use Rattle.cdx_schema.specs.Roads as roads
-use Rattle.cdx_bom.specs.Docs.{IsDoc}
 use Rattle.cdx_bom.proofs.Documents.{is_json, is_xml}
 use Rattle.cdx_bom.proofs.roads.is_document.Goals as goal
 

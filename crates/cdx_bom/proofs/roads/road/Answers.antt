@@ -1,4 +1,4 @@
 use Rattle.cdx_bom.proofs.roads.road.Goals as goal
 
 pub returns : goal.returns
-returns c = λ x is. c.carry.ensures x c.args.v (c.in_ok-bill.ensures x is)
+returns c = λ x is. c.carry.ensures x c.args.version (c.in_ok-bill.ensures x is)

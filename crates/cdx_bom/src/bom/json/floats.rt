@@ -47,7 +47,8 @@ fn refuse_item_floats(alloc: Global, items: &Vec<Value>) -> Result<(), JsonReadE
 
 #[cycle(floats)]
 fn refuse_member_floats(alloc: Global, map: &Map<String, Value>) -> Result<(), JsonReadError>
-    ensures { Gives nothing result (unless_float (float_of_members (members_view map.now.entries))) }
+    ensures { Gives nothing result
+        (unless_float (float_of_members (members_view map.now.entries))) }
 {
     for (name, item) in map.iter() {
         match refuse_floats(alloc, item) {

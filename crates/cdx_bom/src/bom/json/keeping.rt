@@ -14,14 +14,15 @@ use cdx_json::{Kept, keep_row, keep_row_since};
 use cdx_models::SpecVersion;
 use std::alloc::{AllocError, Global};
 
-#[tactic(auto, unfolding(cdx_json::specs::KeptRows::rows_held, cdx_schema::specs::Table::rows, cdx_schema::specs::Table::list))]
+#[tactic(auto, unfolding(cdx_json::proofs::OnRows::on_rows))]
 pub(crate) fn keep_inventory(
     held: &Bom,
     alloc: Global,
     version: SpecVersion,
     label: SpecVersion,
 ) -> Result<Inventory, AllocError>
-    ensures { IfOk result (λ r. inventory_trees r ≡ rows_held version label (inventory held.now) (group 0 bill)) }
+    ensures { IfOk result
+        (λ r. inventory_trees r ≡ rows_held version label (inventory held.now) (group 0 bill)) }
 {
     let old_label = Label {
         version: held.spec_version,
@@ -42,14 +43,15 @@ pub(crate) fn keep_inventory(
     })
 }
 
-#[tactic(auto, unfolding(cdx_json::specs::KeptRows::rows_held, cdx_schema::specs::Table::rows, cdx_schema::specs::Table::list))]
+#[tactic(auto, unfolding(cdx_json::proofs::OnRows::on_rows))]
 pub(crate) fn keep_relations(
     held: &Bom,
     alloc: Global,
     version: SpecVersion,
     label: SpecVersion,
 ) -> Result<Relations, AllocError>
-    ensures { IfOk result (λ r. relations_trees r ≡ rows_held version label (relations held.now) (group 1 bill)) }
+    ensures { IfOk result
+        (λ r. relations_trees r ≡ rows_held version label (relations held.now) (group 1 bill)) }
 {
     let external_references = keep_row(alloc, &held.external_references, version, label)?;
     let dependencies = keep_row(alloc, &held.dependencies, version, label)?;

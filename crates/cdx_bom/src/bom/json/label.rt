@@ -1,13 +1,15 @@
 //! A bill's label in JSON: the version that it names.
 
+ghost use Rattle.cdx_schema.specs.Kinds.{a_version};
 ghost use Rattle.std.specs.Prelude.{◌≡◌, refl};
 ghost use Rattle.cdx_schema.specs.Kinds.{a_version};
 ghost use Rattle.cdx_bom.specs.Labels.{named_tree};
 ghost use Rattle.cdx_bom.specs.Stays.{label_stays};
 
 use crate::bom::compared::same_label;
-use cdx_json::{Depth, FromJson, Kept, Kinded, ToJson, here};
+use cdx_json::{Depth, FromJson, Kept, ToJson, here};
 use cdx_models::{HasTree, JsonKind, JsonReadError, SpecVersion};
+use cdx_schema::Kinded;
 use serde_json::Value;
 use std::alloc::{AllocError, Global};
 

@@ -21,7 +21,8 @@ pub(crate) fn read_inventory(
     version: SpecVersion,
     depth: Depth,
 ) -> Result<Inventory, JsonReadError>
-    ensures { Gives inventory_trees result (group_read 0 bill (seen (members_view map.now.entries)) version (depth_of depth)) }
+    ensures { Gives inventory_trees result
+        (group_read 0 bill (seen (members_view map.now.entries)) version (depth_of depth)) }
 {
     let label: Label = required_row(alloc, map, "specVersion", version, depth)?;
     let bill_version = required_row(alloc, map, "version", version, depth)?;
@@ -57,7 +58,8 @@ pub(crate) fn read_relations(
     version: SpecVersion,
     depth: Depth,
 ) -> Result<Relations, JsonReadError>
-    ensures { Gives relations_trees result (group_read 1 bill (seen (members_view map.now.entries)) version (depth_of depth)) }
+    ensures { Gives relations_trees result
+        (group_read 1 bill (seen (members_view map.now.entries)) version (depth_of depth)) }
 {
     let external_references = optional_row(alloc, map, "externalReferences", version, depth)?;
     let dependencies = optional_row(alloc, map, "dependencies", version, depth)?;

@@ -1,6 +1,6 @@
 use Rattle.std.proofs.Common.{sym}
 use Rattle.cdx_models.specs.Trees.{metadata}
-use Rattle.cdx_schema.specs.Kinds.{components, a_list, a_record}
+use Rattle.cdx_schema.specs.Kinds.{a_record}
 use Rattle.cdx_nest.specs.Trees.{metadata_tree}
 use Rattle.cdx_bom.proofs.Fitting.{nothing_fits}
 use Rattle.cdx_bom.proofs.bom.fitting.metadata_row_fits.Goals as goal

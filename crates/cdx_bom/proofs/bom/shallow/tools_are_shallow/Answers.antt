@@ -1,6 +1,4 @@
-use Rattle.std.proofs.Common.{sym, ap}
-use Rattle.cdx_models.specs.Trees.{list_tree}
-use Rattle.cdx_models.specs.Records.{tool_tree}
+use Rattle.std.proofs.Common.{sym}
 use Rattle.cdx_schema.specs.Keeping.{is_shallow}
 use Rattle.cdx_json.specs.Depths.{depth_of}
 use Rattle.cdx_nest.specs.Trees.{object_tree}

@@ -1,14 +1,10 @@
 use Rattle.std.proofs.Common.{refl, sym, ◌∙◌}
 use Rattle.std.specs.Prelude.{codes}
-use Rattle.cdx_models.specs.declared.bom.SpecVersion.TheVariants.{V1_4, V1_5}
-use Rattle.cdx_models.specs.Trees.{bill}
 use Rattle.cdx_schema.specs.Kinds as kinds
 use Rattle.cdx_schema.specs.Table.{rows, list}
-use Rattle.cdx_schema.specs.XmlReading.{last}
 use Rattle.cdx_leaf.proofs.ChildSteps.{takes_one, takes_none, differs}
 use Rattle.cdx_bom.specs.PartTrees.{inventory_trees}
 use Rattle.cdx_bom.specs.Reading.{inventory_plan, at_top}
-use Rattle.cdx_bom.proofs.BillRows.{taken_at_top}
 use Rattle.cdx_bom.proofs.reading.rows.read_inventory_child.Goals as goal
 
 pub returns-in-metadata : goal.returns-in-metadata

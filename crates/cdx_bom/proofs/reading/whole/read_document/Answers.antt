@@ -1,6 +1,5 @@
-use Rattle.std.proofs.Common.{Ok, Err}
+use Rattle.std.proofs.Common.{Err}
 use Rattle.std.proofs.lemmas.Result.{err_from_is_err_and}
-use Rattle.cdx_bom.specs.BillReading.{ReadsBill}
 use Rattle.cdx_bom.proofs.BillWhole.{name_fails, namespace_fails, holds, shallow, refused}
 use Rattle.cdx_bom.proofs.reading.whole.read_document.Goals as goal
 

@@ -4,7 +4,8 @@ use Rattle.std.proofs.lemmas.Result.{err_from_is_err_and}
 use Rattle.cdx_events.specs.declared.event.XmlEvent.TheVariants.{StartDocument, EndDocument}
 use Rattle.cdx_models.specs.Trees.{bill}
 use Rattle.cdx_schema.specs.Table.{rows}
-use Rattle.cdx_write.specs.WrittenRows.{parts, rows_written}
+use Rattle.cdx_models.specs.Trees.{fields_of}
+use Rattle.cdx_write.specs.WrittenRows.{rows_written}
 use Rattle.cdx_write.specs.Writing.{end_tag}
 use Rattle.cdx_write.proofs.Appended.{first_fails, then_all}
 use Rattle.cdx_write.proofs.RowWords.{appends_same}
@@ -18,7 +19,7 @@ returns-in_err-write_start c =
     let p = err_from_is_err_and c.from_residual.result c.from_residual.ensures.1 in
     let b = c.args.held.now in
     let w = c.args.w in
-    let rows' = rows_written (parts (bom_tree b)) w (rows bill) in
+    let rows' = rows_written (fields_of (bom_tree b)) w (rows bill) in
     rw (p.1, p.2) (appends_same c.args.writer.now c.write_start.new.writer ((StartDocument ∷ []) ++ ((root_start (bom_tree b) w ∷ []) ++ (rows' ++ ((end_tag (codes "bom") ∷ []) ++ (EndDocument ∷ []))))) (document_in w (bom_tree b)) (Err _) (document_is b w)
     (first_fails c.args.writer.now c.write_start.new.writer (StartDocument ∷ []) ((root_start (bom_tree b) w ∷ []) ++ (rows' ++ ((end_tag (codes "bom") ∷ []) ++ (EndDocument ∷ [])))) _ c.in_err-write_start.ensures))
 
@@ -27,7 +28,7 @@ returns-in_err-write_root_start c =
     let p = err_from_is_err_and c.from_residual-in_err-write_root_start.result c.from_residual-in_err-write_root_start.ensures.1 in
     let b = c.args.held.now in
     let w = c.args.w in
-    let rows' = rows_written (parts (bom_tree b)) w (rows bill) in
+    let rows' = rows_written (fields_of (bom_tree b)) w (rows bill) in
     rw (p.1, p.2) (appends_same c.args.writer.now c.write_root_start.new.writer ((StartDocument ∷ []) ++ ((root_start (bom_tree b) w ∷ []) ++ (rows' ++ ((end_tag (codes "bom") ∷ []) ++ (EndDocument ∷ []))))) (document_in w (bom_tree b)) (Err _) (document_is b w)
     (then_all c.args.writer.now c.write_start.new.writer c.write_root_start.new.writer (StartDocument ∷ []) ((root_start (bom_tree b) w ∷ []) ++ (rows' ++ ((end_tag (codes "bom") ∷ []) ++ (EndDocument ∷ [])))) (Err _) c.in_ok-write_start.ensures
     (first_fails c.write_start.new.writer c.write_root_start.new.writer (root_start (bom_tree b) w ∷ []) (rows' ++ ((end_tag (codes "bom") ∷ []) ++ (EndDocument ∷ []))) _ c.in_err-write_root_start.ensures)))
@@ -37,7 +38,7 @@ returns-in_err-write_rows c =
     let p = err_from_is_err_and c.from_residual-in_err-write_rows.result c.from_residual-in_err-write_rows.ensures.1 in
     let b = c.args.held.now in
     let w = c.args.w in
-    let rows' = rows_written (parts (bom_tree b)) w (rows bill) in
+    let rows' = rows_written (fields_of (bom_tree b)) w (rows bill) in
     rw (p.1, p.2) (appends_same c.args.writer.now c.write_rows.new.writer ((StartDocument ∷ []) ++ ((root_start (bom_tree b) w ∷ []) ++ (rows' ++ ((end_tag (codes "bom") ∷ []) ++ (EndDocument ∷ []))))) (document_in w (bom_tree b)) (Err _) (document_is b w)
     (then_all c.args.writer.now c.write_start.new.writer c.write_rows.new.writer (StartDocument ∷ []) ((root_start (bom_tree b) w ∷ []) ++ (rows' ++ ((end_tag (codes "bom") ∷ []) ++ (EndDocument ∷ [])))) (Err _) c.in_ok-write_start.ensures
     (then_all c.write_start.new.writer c.write_root_start.new.writer c.write_rows.new.writer (root_start (bom_tree b) w ∷ []) (rows' ++ ((end_tag (codes "bom") ∷ []) ++ (EndDocument ∷ []))) (Err _) c.in_ok-write_root_start.ensures
@@ -48,7 +49,7 @@ returns-in_err-write_close_tag c =
     let p = err_from_is_err_and c.from_residual-in_err-write_close_tag.result c.from_residual-in_err-write_close_tag.ensures.1 in
     let b = c.args.held.now in
     let w = c.args.w in
-    let rows' = rows_written (parts (bom_tree b)) w (rows bill) in
+    let rows' = rows_written (fields_of (bom_tree b)) w (rows bill) in
     rw (p.1, p.2) (appends_same c.args.writer.now c.write_close_tag.new.writer ((StartDocument ∷ []) ++ ((root_start (bom_tree b) w ∷ []) ++ (rows' ++ ((end_tag (codes "bom") ∷ []) ++ (EndDocument ∷ []))))) (document_in w (bom_tree b)) (Err _) (document_is b w)
     (then_all c.args.writer.now c.write_start.new.writer c.write_close_tag.new.writer (StartDocument ∷ []) ((root_start (bom_tree b) w ∷ []) ++ (rows' ++ ((end_tag (codes "bom") ∷ []) ++ (EndDocument ∷ [])))) (Err _) c.in_ok-write_start.ensures
     (then_all c.write_start.new.writer c.write_root_start.new.writer c.write_close_tag.new.writer (root_start (bom_tree b) w ∷ []) (rows' ++ ((end_tag (codes "bom") ∷ []) ++ (EndDocument ∷ []))) (Err _) c.in_ok-write_root_start.ensures
@@ -59,7 +60,7 @@ pub returns : goal.returns
 returns c =
     let b = c.args.held.now in
     let w = c.args.w in
-    let rows' = rows_written (parts (bom_tree b)) w (rows bill) in
+    let rows' = rows_written (fields_of (bom_tree b)) w (rows bill) in
     appends_same c.args.writer.now c.write_end.new.writer ((StartDocument ∷ []) ++ ((root_start (bom_tree b) w ∷ []) ++ (rows' ++ ((end_tag (codes "bom") ∷ []) ++ (EndDocument ∷ []))))) (document_in w (bom_tree b)) c.write_end.result (document_is b w)
     (then_all c.args.writer.now c.write_start.new.writer c.write_end.new.writer (StartDocument ∷ []) ((root_start (bom_tree b) w ∷ []) ++ (rows' ++ ((end_tag (codes "bom") ∷ []) ++ (EndDocument ∷ [])))) c.write_end.result c.in_ok-write_start.ensures
     (then_all c.write_start.new.writer c.write_root_start.new.writer c.write_end.new.writer (root_start (bom_tree b) w ∷ []) (rows' ++ ((end_tag (codes "bom") ∷ []) ++ (EndDocument ∷ []))) c.write_end.result c.in_ok-write_root_start.ensures

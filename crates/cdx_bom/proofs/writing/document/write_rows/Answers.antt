@@ -3,7 +3,8 @@ use Rattle.std.proofs.lemmas.Result.{err_from_is_err_and}
 use Rattle.cdx_models.specs.Trees.{bill}
 use Rattle.cdx_schema.specs.Table.{rows}
 use Rattle.cdx_json.specs.Groups.{group}
-use Rattle.cdx_write.specs.WrittenRows.{parts, rows_written}
+use Rattle.cdx_models.specs.Trees.{fields_of}
+use Rattle.cdx_write.specs.WrittenRows.{rows_written}
 use Rattle.cdx_write.proofs.Appended.{first_fails, then_all}
 use Rattle.cdx_write.proofs.RowWords.{appends_same}
 use Rattle.cdx_bom.specs.Trees.{bom_tree, inventory, relations}
@@ -17,7 +18,7 @@ returns-in_err-write_inventory_rows c =
     let w = c.args.w in
     let front = rows_written (inventory b) w (group 0 bill) in
     let back = rows_written (relations b) w (group 1 bill) in
-    rw (p.1, p.2) (appends_same c.args.writer.now c.write_inventory_rows.new.writer (front ++ back) (rows_written (parts (bom_tree b)) w (rows bill)) (Err _) (both_groups b w)
+    rw (p.1, p.2) (appends_same c.args.writer.now c.write_inventory_rows.new.writer (front ++ back) (rows_written (fields_of (bom_tree b)) w (rows bill)) (Err _) (both_groups b w)
     (first_fails c.args.writer.now c.write_inventory_rows.new.writer front back _ c.in_err-write_inventory_rows.ensures))
 
 pub returns : goal.returns
@@ -26,5 +27,5 @@ returns c =
     let w = c.args.w in
     let front = rows_written (inventory b) w (group 0 bill) in
     let back = rows_written (relations b) w (group 1 bill) in
-    appends_same c.args.writer.now c.write_relations_rows.new.writer (front ++ back) (rows_written (parts (bom_tree b)) w (rows bill)) c.write_relations_rows.result (both_groups b w)
+    appends_same c.args.writer.now c.write_relations_rows.new.writer (front ++ back) (rows_written (fields_of (bom_tree b)) w (rows bill)) c.write_relations_rows.result (both_groups b w)
     (then_all c.args.writer.now c.write_inventory_rows.new.writer c.write_relations_rows.new.writer front back c.write_relations_rows.result c.in_ok-write_inventory_rows.ensures c.write_relations_rows.ensures)

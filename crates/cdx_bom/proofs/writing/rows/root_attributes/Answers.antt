@@ -1,4 +1,4 @@
-use Rattle.std.proofs.Common.{ap, ◌∙◌}
+use Rattle.std.proofs.Common.{◌∙◌}
 use Rattle.cdx_bom.proofs.BillWritten.{root_attributes_are}
 use Rattle.cdx_bom.proofs.writing.rows.root_attributes.Goals as goal
 

@@ -4,7 +4,7 @@ use Rattle.std.proofs.lemmas.Result.{err_from_is_err_and}
 use Rattle.cdx_json.specs.Depths.{depth_of}
 use Rattle.cdx_json.specs.Groups.{group}
 use Rattle.cdx_models.specs.declared.bom.SpecVersion.TheVariants.{V1_4}
-use Rattle.cdx_models.specs.Trees.{component, pedigree, ◌⧺◌}
+use Rattle.cdx_models.specs.Trees.{component, pedigree, ◌⧺◌, fields_of}
 use Rattle.cdx_schema.specs.Kinds as kinds
 use Rattle.cdx_schema.specs.Table.{rows, list}
 use Rattle.cdx_schema.specs.Depth.{top}
@@ -16,7 +16,7 @@ use Rattle.cdx_leaf.specs.Listing.{listing_slots}
 use Rattle.cdx_leaf.specs.declared.rule.Rule.TheVariants.{Lax}
 use Rattle.cdx_leaf.specs.declared.taken.Taken.TheVariants as answers
 use Rattle.cdx_models.specs.declared.errors.XmlReadError.TheVariants.{Memory}
-use Rattle.cdx_leaf.specs.Trees.{fields_of, collected}
+use Rattle.cdx_leaf.specs.Trees.{collected}
 use Rattle.cdx_leaf.proofs.Nested.{at_depth, deep_reads, begin_fails, rows_fail, rows_finish}
 use Rattle.cdx_leaf.proofs.Whole.{past_start}
 use Rattle.cdx_leaf.proofs.NextChild.{child_begins, no_child_left, next_fails, is_in, child_fails, still_open, leaving_fails, goes_on, nearer}

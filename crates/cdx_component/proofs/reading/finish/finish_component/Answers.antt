@@ -1,7 +1,7 @@
 use Rattle.std.proofs.Common.{◌+◌, Ok, sym, ap, ◌∙◌}
 use Rattle.cdx_models.specs.Trees.{Trees, ◌⧺◌}
 use Rattle.cdx_schema.specs.Results.{◌>>=◌}
-use Rattle.cdx_leaf.specs.Trees.{fields_of}
+use Rattle.cdx_models.specs.Trees.{fields_of}
 use Rattle.cdx_component.specs.PartTrees.{origin_trees, marks_trees, contents_trees}
 use Rattle.cdx_component.proofs.Begun.{component_ends, component_lacks}
 use Rattle.cdx_component.proofs.reading.finish.finish_component.Goals as goal

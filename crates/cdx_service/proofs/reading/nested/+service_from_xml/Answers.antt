@@ -3,7 +3,7 @@ use Rattle.std.specs.Prelude.{codes}
 use Rattle.std.proofs.lemmas.Result.{err_from_is_err_and}
 use Rattle.std.proofs.lemmas.Slice.Eq.{bytes_eq-Decides}
 use Rattle.cdx_models.specs.declared.bom.SpecVersion.TheVariants.{V1_3, V1_4, V1_5}
-use Rattle.cdx_models.specs.Trees.{service, present}
+use Rattle.cdx_models.specs.Trees.{service, present, fields_of}
 use Rattle.cdx_schema.specs.Depth.{top}
 use Rattle.cdx_schema.specs.Kinds.{lax, services, a_list, a_record, a_signature, a_text}
 use Rattle.cdx_schema.specs.Table.{rows, rule, list}
@@ -15,7 +15,7 @@ use Rattle.cdx_leaf.specs.declared.taken.Taken.TheVariants as answers
 use Rattle.cdx_leaf.specs.declared.rule.Rule.TheVariants.{Lax}
 use Rattle.cdx_leaf.specs.Groups.{rows_plan}
 use Rattle.cdx_leaf.specs.Listing.{listing_slots}
-use Rattle.cdx_leaf.specs.Trees.{collected, fields_of}
+use Rattle.cdx_leaf.specs.Trees.{collected}
 use Rattle.cdx_leaf.proofs.ChildSteps.{takes_one, takes_more, takes_none, differs, reads_one, reads_more, more_fails, no_memory}
 use Rattle.cdx_leaf.proofs.Groups.{is_known, fault_is_known, was_passed, still_in}
 use Rattle.cdx_leaf.proofs.Nested.{at_depth, deep_reads, rows_fail, rows_finish}

@@ -1,10 +1,10 @@
-use Rattle.std.proofs.Common.{◌≡◌, ◌∷◌, List, string_bytes, sym, ap, ◌∙◌, subst, arith, rules}
+use Rattle.std.proofs.Common.{◌≡◌, ◌∷◌, string_bytes, sym, ap, ◌∙◌, subst, arith, rules}
 use Rattle.serde_json.specs.Data.{null, boolean, number, string}
-use Rattle.serde_json.specs.View.{view, number_view, items_view, members_view}
+use Rattle.serde_json.specs.View.{view, number_view, members_view}
 use Rattle.serde_json.specs.declared.value.Value.{the_lemmas}
 use Rattle.serde_json.proofs.Views.{Entry, view-Array, view-Object}
 use Rattle.cdx_models.specs.declared.errors.Step.TheVariants.{Member}
-use Rattle.cdx_schema.specs.JsonReading.{first_float, float_of_items, float_of_members}
+use Rattle.cdx_schema.specs.JsonReading.{first_float, float_of_members}
 use Rattle.cdx_json.specs.Gives.{Fails, Gives, IsWithin}
 use Rattle.cdx_bom.specs.Floats.{nothing, unless_float}
 use Rattle.cdx_bom.proofs.Floats.{number_free, number_float, items_go, items_stop, items_end, members_go, members_stop, members_end}

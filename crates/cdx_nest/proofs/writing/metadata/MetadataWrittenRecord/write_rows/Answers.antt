@@ -4,7 +4,7 @@ use Rattle.cdx_schema.specs.Kinds.{authors}
 use Rattle.cdx_schema.specs.Table.{rows, list}
 use Rattle.cdx_write.specs.WrittenRows.{rows_written}
 use Rattle.cdx_write.proofs.Appended.{first_fails, then_all, last_row}
-use Rattle.cdx_nest.proofs.writing.metadata.MetadataRecord.write_rows.Goals as goal
+use Rattle.cdx_nest.proofs.writing.metadata.MetadataWrittenRecord.write_rows.Goals as goal
 
 pub returns-in_err-put_child : goal.returns-in_err-put_child
 unfolding rows_written rows list

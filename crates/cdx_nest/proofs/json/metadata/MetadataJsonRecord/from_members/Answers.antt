@@ -5,7 +5,7 @@ use Rattle.cdx_json.specs.Depths.{depth_of}
 use Rattle.cdx_json.specs.Gives.{Gives}
 use Rattle.cdx_nest.specs.Trees.{metadata_tree}
 use Rattle.cdx_nest.proofs.Grouped.{metadata_in_groups}
-use Rattle.cdx_nest.proofs.json.metadata.MetadataRecord.from_members.Goals as goal
+use Rattle.cdx_nest.proofs.json.metadata.MetadataJsonRecord.from_members.Goals as goal
 
 pub returns : goal.returns
 returns c = subst (Gives metadata_tree c.metadata_from_members.result) (sym (metadata_in_groups (seen (members_view c.args.map.now.entries)) c.args.version (depth_of c.args.depth))) c.metadata_from_members.ensures
