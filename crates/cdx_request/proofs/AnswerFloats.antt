@@ -40,7 +40,7 @@ second_clear : (a b : Bool) → (a || b) ≡ false → b ≡ false
 second_clear true b h = cc
 second_clear false b h = h
 
-put_clear : (k : List ℕ) (d : Data) (ms : Members) → has_float d ≡ false → members_have_float ms ≡ false → members_have_float (put k d ms) ≡ false
+pub put_clear : (k : List ℕ) (d : Data) (ms : Members) → has_float d ≡ false → members_have_float ms ≡ false → members_have_float (put k d ms) ≡ false
 put_clear k d no_members p q = neither (has_float d) false p refl
 put_clear k d (member l e ms) p q =
     let e_clear = first_clear (has_float e) (members_have_float ms) q in

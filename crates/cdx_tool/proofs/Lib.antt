@@ -3,6 +3,8 @@ pub mod Reading
 pub mod Answering
 pub mod Counting
 pub mod Runs
+pub mod Settling
 pub mod MadeRoads
 pub mod MadeBills
 pub mod Printing
+pub mod Ordered

@@ -17,7 +17,7 @@ use Rattle.cdx_bom.specs.declared.doc.Hop.{Hop}
 use Rattle.cdx_bom.specs.Docs as shown
 use Rattle.cdx_request.specs.Parts.{member_count, text_at, version_at, all_in}
 use Rattle.cdx_request.specs.Breaks.{BreaksLaw}
-use Rattle.cdx_request.specs.Requests.{Misread, unbalanced, rooted, doc_of, form_of, hop_of, hops_at}
+use Rattle.cdx_request.specs.Requests.{Misread, unbalanced, rooted, form_of, hop_of, hops_at}
 use Rattle.cdx_tool.specs.Reads.{form_read, hop_read}
 
 -- ---- hops

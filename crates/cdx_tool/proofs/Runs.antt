@@ -1,8 +1,6 @@
 -- How a run ends.
-use Rattle.std.proofs.Common.{◌≡◌, ℕ, ◌≤◌, ◌<◌, List, [], length, codes, true, Option, Some, None, Ok, ◌⊎◌, inl, inr, refl, sym, ap, subst, ◌∙◌, arith}
-use Rattle.std.specs.Io.KnownBytes.{Appends, Keeps, Consumes, IsAtEnd}
-use Rattle.std.proofs.lemmas.Bool.{lt-ltb}
-use Rattle.std.proofs.lemmas.List.{length-append}
+use Rattle.std.proofs.Common.{◌≡◌, ℕ, ◌≤◌, List, length, codes, true, Option, Some, None, Ok, ◌⊎◌, inl, inr, refl, sym, ap, subst, ◌∙◌, arith}
+use Rattle.std.specs.Io.KnownBytes.{Appends, IsAtEnd}
 use Rattle.serde_json.specs.Data.{Data, depth}
 use Rattle.cdx_schema.specs.Roads.{Doc}
 use Rattle.cdx_request.specs.Requests.{Request, request_in}
@@ -11,24 +9,7 @@ use Rattle.cdx_request.specs.Made.{made_answer, made_reply}
 use Rattle.cdx_request.specs.Served.{Serves, IsValid, IsMade, ReplyLaw, ValidLaw, AnswersNest, MadeLaw}
 use Rattle.cdx_tool.specs.Words.{Command, a_road, a_make, is_road_or_not}
 use Rattle.cdx_tool.specs.Run.{Tells, Ends, reply_if}
-
-too_long_is : (bytes : List ℕ) → limit < length bytes → reply 6 (no_request (codes "too long")) ≡ reply_to bytes
-too_long_is bytes h = rw (lt-ltb limit (length bytes) h) refl
-
--- more was taken than may come
-pub too_long : (o n : Option (List ℕ)) (taken : List ℕ) (r : Reply) → Consumes o n taken → limit < length taken → r ≡ reply 6 (no_request (codes "too long")) → (bytes : List ℕ) × Tells o bytes × (r ≡ reply_to bytes)
-too_long None n taken r h lt e = (taken, tt, e ∙ too_long_is taken lt)
-too_long (Some told) None taken r h lt e = absurd h
-too_long (Some told) (Some rest) taken r h lt e =
-    (told, refl, e ∙ too_long_is told (omega (arith, ap length h, length-append taken rest)))
-
-some_told : (o : Option (List ℕ)) → (bytes : List ℕ) × Tells o bytes
-some_told None = ([], tt)
-some_told (Some told) = (told, refl)
-
-keeps_itself : (o : Option (List ℕ)) → Keeps o o
-keeps_itself None = tt
-keeps_itself (Some xs) = refl
+use Rattle.cdx_tool.proofs.Settling.{some_told, keeps_itself}
 
 pub ends_early : (o w : Option (List ℕ)) (c : Option Command) (flushed : Option ℕ) (status : ℕ) → (status ≡ 3) ⊎ (status ≡ 5) → (bytes : List ℕ) × Tells o bytes × Ends (reply_if c bytes) status w w flushed
 ends_early o w c flushed status h = let t = some_told o in (t.0, t.1, inr (inr (h, keeps_itself w)))

@@ -4,3 +4,4 @@ pub mod Prints
 pub mod Words
 pub mod Commands
 pub mod Run
+pub mod Owed

@@ -5,17 +5,23 @@ use cdx_events::Text;
 /// An answer: the status that the program ends with, and the text that it writes, with its line feed.
 #[derive(Debug, Drop)]
 pub struct Answer {
+    /// The status: 0, 1, 2 or 6.
     pub status: u8,
+    /// A compact JSON value and a line feed.
     pub text: Text,
 }
 
-pub(crate) const LIMIT: usize = 67_108_864;
+/// How many bytes a request may have.
+pub const LIMIT: usize = 67_108_864;
 
-pub(crate) const SERVED: u8 = 0;
+/// The status of a request that is served.
+pub const SERVED: u8 = 0;
 
-pub(crate) const REFUSED: u8 = 1;
+/// The status of a request whose document is refused.
+pub const REFUSED: u8 = 1;
 
-pub(crate) const UNUSABLE: u8 = 2;
+/// The status where there is no request: by the words, by what `serde_json` reads, or by the value's shape.
+pub const UNUSABLE: u8 = 2;
 
 pub(crate) const TOO_LONG: u8 = 6;
 
@@ -24,7 +30,7 @@ mod make;
 mod refused;
 mod text;
 
-pub use documents::documents_answer;
-pub use make::answer_bytes;
-pub(crate) use make::{answer, refuse};
-pub use refused::refused_answer;
+pub use documents::{documents_answer, only};
+pub(crate) use make::answer_within;
+pub use make::{answer_bytes, answer_value, read_json, refuse};
+pub use refused::{refused_answer, unbalanced_answer};

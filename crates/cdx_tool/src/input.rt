@@ -32,15 +32,22 @@ pub fn take_input<S: Source>(
     limit: usize,
 ) -> Result<Items<u8>, InputError>
     requires { limit + 1 < 2 ^ 64 }
-    ensures ok { IfOk result (λ bytes. Consumes (S.left source.old) (S.left source.new) bytes × IsAtEnd (S.left source.new) × (length bytes ≤ limit)) }
-    ensures taken { (taken : List ℕ) × Consumes (S.left source.old) (S.left source.new) taken × (length taken ≤ limit + 1) }
-    ensures fault { IsErrOf result InputError.Fault → Rose (S.faults source.old) (S.faults source.new) }
-    ensures too_long { IsErrOf result InputError.TooLong → (taken : List ℕ) × Consumes (S.left source.old) (S.left source.new) taken × (limit < length taken) }
-    ensures long { (told : List ℕ) → S.left source.old ≡ Some told → limit < length told → (Rose (S.faults source.old) (S.faults source.new) → ⊥)
-        → IsErrOf result InputError.TooLong ⊎ ((error : Refused) × IsErrOf result (InputError.Memory error)) }
+    ensures ok { IfOk result (λ bytes. Consumes (S.left source.old) (S.left source.new) bytes
+        × IsAtEnd (S.left source.new) × (length bytes ≤ limit)) }
+    ensures taken { (taken : List ℕ) × Consumes (S.left source.old) (S.left source.new) taken
+        × (length taken ≤ limit + 1) }
+    ensures fault { IsErrOf result InputError.Fault
+        → Rose (S.faults source.old) (S.faults source.new) }
+    ensures too_long { IsErrOf result InputError.TooLong → (taken : List ℕ)
+        × Consumes (S.left source.old) (S.left source.new) taken × (limit < length taken) }
+    ensures long { (told : List ℕ) → S.left source.old ≡ Some told → limit < length told
+        → (Rose (S.faults source.old) (S.faults source.new) → ⊥)
+        → IsErrOf result InputError.TooLong
+        ⊎ ((error : Refused) × IsErrOf result (InputError.Memory error)) }
     ensures later { S.faults source.old ≤ S.faults source.new }
     ensures ok_cause { OnOk result (S.faults source.new ≡ S.faults source.old) }
-    ensures too_long_cause { IsErrOf result InputError.TooLong → S.faults source.new ≡ S.faults source.old }
+    ensures too_long_cause { IsErrOf result InputError.TooLong
+        → S.faults source.new ≡ S.faults source.old }
 {
     let mut bytes = Vec::new(alloc);
     let mut chunk = [0u8; CHUNK];

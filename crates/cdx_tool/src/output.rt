@@ -12,8 +12,10 @@ use cdx_events::{Sink, Text};
 /// text went out, and all that was written is flushed. `PutError` comes only where the count rose.
 pub fn put_answer<K: Sink>(text: &Text, sink: &mut K) -> Result<(), PutError>
     ensures ok { OnOk result (Appends (K.written sink.old) (K.written sink.new) text.now) }
-    ensures flushed { OnOk result (IfSome (K.flushed sink.new) (λ n. IfSome (K.written sink.new) (λ bytes. n ≡ length bytes))) }
-    ensures err { IfErr result (λ e. (e.written ≤ length text.now) × Appends (K.written sink.old) (K.written sink.new) (take e.written text.now)) }
+    ensures flushed { OnOk result (IfSome (K.flushed sink.new)
+        (λ n. IfSome (K.written sink.new) (λ bytes. n ≡ length bytes))) }
+    ensures err { IfErr result (λ e. (e.written ≤ length text.now)
+        × Appends (K.written sink.old) (K.written sink.new) (take e.written text.now)) }
     ensures cause { HasCause (K.faults sink.old) (K.faults sink.new) result }
 {
     put_text(text, sink)

@@ -11,7 +11,8 @@ use cdx_models::SpecVersion;
 use serde_json::Value;
 use std::alloc::{AllocError, Global};
 
-pub(crate) fn count_members(value: &Value) -> usize
+/// How many members the value has: none where it is no object.
+pub fn count_members(value: &Value) -> usize
     ensures { result ≡ member_count (view value.now) }
 {
     match value.as_object() {
@@ -36,8 +37,8 @@ pub(crate) fn count_named(value: &Value, name: &str) -> usize
     }
 }
 
-/// The member of the name, taken out of the value without a copy.
-pub(crate) fn take_member(value: Value, name: &str) -> Option<Value>
+/// The member of the name, taken out of the value without a copy, where the value is an object that has it.
+pub fn take_member(value: Value, name: &str) -> Option<Value>
     ensures { option_map view result ≡ get name.now (view value) }
 {
     match value {
@@ -53,12 +54,14 @@ pub(crate) fn text_at<'v>(value: &'v Value, name: &str) -> Option<&'v str>
 }
 
 pub(crate) fn array_at<'v>(value: &'v Value, name: &str) -> Option<&'v Vec<Value>>
-    ensures { option_map (λ v. items_view v.now.items) result ≡ option_and_then as_array (get name.now (view value.now)) }
+    ensures { option_map (λ v. items_view v.now.items) result
+        ≡ option_and_then as_array (get name.now (view value.now)) }
 {
     value.get(name)?.as_array()
 }
 
-pub(crate) fn version_at(value: &Value, name: &str) -> Option<SpecVersion>
+/// The version whose label the member of the name is: `"1.3"`, `"1.4"` or `"1.5"`.
+pub fn version_at(value: &Value, name: &str) -> Option<SpecVersion>
     ensures { result ≡ version_in name.now (view value.now) }
 {
     SpecVersion::from_text(text_at(value, name)?)

@@ -18,7 +18,8 @@ pub(crate) trait Printed {
 
 /// An array of the items.
 pub(crate) fn print_items<P: Printed>(items: &[P], out: &mut Writer) -> Result<(), AllocError>
-    ensures { Becomes result out.old out.new (out.old.tokens ++ tokens_of (array (items_of (each P.printed items.now)))) }
+    ensures { Becomes result out.old out.new
+        (out.old.tokens ++ tokens_of (array (items_of (each P.printed items.now)))) }
 {
     out.begin_array()?;
     for item in items {

@@ -13,55 +13,46 @@ ghost use Rattle.cdx_tool.specs.Shows.{reply_of};
 ghost use Rattle.cdx_tool.specs.Words.{command_of, is_road, a_make};
 ghost use Rattle.cdx_tool.specs.Run.{reply_for, Tells, Ends};
 
-use crate::answer::{Answer, LIMIT, TOO_LONG, UNUSABLE, answer_bytes, refuse};
-use crate::input::{InputError, take_input};
+use crate::answer::{Answer, UNUSABLE, answer_within, refuse};
+use crate::command::Respond;
 use crate::making::answer_made;
 use crate::output::put_answer;
+use crate::responding::{NO_MEMORY, SINK_FAULT, answer_source};
 use crate::words::{Command, read_command};
 use cdx_events::{Sink, Source};
-use std::alloc::Global;
+use std::alloc::{AllocError, Global};
 
-const SOURCE_FAULT: u8 = 3;
+/// The command `road`, which answers one request.
+struct Road;
 
-const SINK_FAULT: u8 = 4;
+impl Respond for Road {
+    ghost use Rattle.cdx_request.specs.Requests.{request_in};
+    ghost use Rattle.cdx_request.specs.Replies.{reply_to_request};
 
-const NO_MEMORY: u8 = 5;
+    ghost owed = { λ road bytes. reply_to_request (request_in bytes) };
 
-// The answer that is owed to what the source has left, or the status in its place.
-fn road<S: Source>(alloc: Global, source: &mut S) -> Result<Answer, u8>
-    ensures ok { IfOk result (λ a. (bytes : List ℕ) × Tells (S.left source.old) bytes × (reply_of a ≡ reply_to bytes)) }
-    ensures end { IfOk result (λ a. (a.status ≡ 6) ⊎ IsAtEnd (S.left source.new)) }
-    ensures ok_cause { OnOk result (S.faults source.new ≡ S.faults source.old) }
-    ensures err { IfErr result (λ status. ((status ≡ 3) × Rose (S.faults source.old) (S.faults source.new)) ⊎ (status ≡ 5)) }
-    ensures later { S.faults source.old ≤ S.faults source.new }
-    ensures taken { (taken : List ℕ) × Consumes (S.left source.old) (S.left source.new) taken × (length taken ≤ limit + 1) }
-{
-    match take_input(alloc, source, LIMIT) {
-        Err(InputError::Fault) => Err(SOURCE_FAULT),
-        Err(InputError::Memory(_)) => Err(NO_MEMORY),
-        Err(InputError::TooLong) => match refuse(alloc, TOO_LONG, "too long") {
-            Ok(answer) => Ok(answer),
-            Err(_) => Err(NO_MEMORY),
-        },
-        Ok(bytes) => match answer_bytes(alloc, bytes.as_slice()) {
-            Ok(answer) => Ok(answer),
-            Err(_) => Err(NO_MEMORY),
-        },
+    fn answer(&self, alloc: Global, bytes: &[u8]) -> Result<Answer, AllocError> {
+        answer_within(alloc, bytes)
     }
 }
 
 // The answer that is owed to the words and to what the source has left, or the status in its place.
 fn owed<S: Source>(alloc: Global, words: &[String], source: &mut S) -> Result<Answer, u8>
-    ensures ok { IfOk result (λ a. (bytes : List ℕ) × Tells (S.left source.old) bytes × (reply_of a ≡ reply_for words.now bytes)) }
-    ensures end { IfOk result (λ a. is_road words.now ≡ true → (a.status ≡ 6) ⊎ IsAtEnd (S.left source.new)) }
+    ensures ok { IfOk result (λ a. (bytes : List ℕ) × Tells (S.left source.old) bytes
+        × (reply_of a ≡ reply_for words.now bytes)) }
+    ensures end { IfOk result
+        (λ a. is_road words.now ≡ true → (a.status ≡ 6) ⊎ IsAtEnd (S.left source.new)) }
     ensures ok_cause { OnOk result (S.faults source.new ≡ S.faults source.old) }
-    ensures err { IfErr result (λ status. ((status ≡ 3) × (is_road words.now ≡ true) × Rose (S.faults source.old) (S.faults source.new)) ⊎ (status ≡ 5)) }
+    ensures err { IfErr result (λ status. ((status ≡ 3) × (is_road words.now ≡ true)
+        × Rose (S.faults source.old) (S.faults source.new))
+        ⊎ (status ≡ 5)) }
     ensures later { S.faults source.old ≤ S.faults source.new }
     ensures words { is_road words.now ≡ false → source.new ≡ source.old }
-    ensures taken { (taken : List ℕ) × Consumes (S.left source.old) (S.left source.new) taken × (length taken ≤ limit + 1) }
+    ensures taken { (taken : List ℕ) × Consumes (S.left source.old) (S.left source.new) taken
+        × (length taken ≤ limit + 1) }
 {
     match read_command(words) {
-        Some(Command::Road) => road(alloc, source),
+        Some(Command::Road) => answer_source(alloc, &Road, source),
         Some(Command::Make(count)) => match answer_made(alloc, count) {
             Ok(answer) => Ok(answer),
             Err(_) => Err(NO_MEMORY),
@@ -96,20 +87,27 @@ fn owed<S: Source>(alloc: Global, words: &[String], source: &mut S) -> Result<An
 pub fn run<S: Source, K: Sink>(alloc: Global, words: &[String], source: &mut S, sink: &mut K) -> u8
     // For `road`, 0 says that the bytes read, to their end, were one request whose document denotes one bill, and that
     // the bytes written are the line of its documents: one for each hop, each denoting the bill after the hops up to it.
-    ensures headline { is_road words.now ≡ true → result ≡ 0 → (bytes : List ℕ) × (docs : List Doc) × Tells (S.left source.old) bytes × IsAtEnd (S.left source.new) × Serves bytes docs
+    ensures headline { is_road words.now ≡ true → result ≡ 0 → (bytes : List ℕ) × (docs : List Doc)
+        × Tells (S.left source.old) bytes × IsAtEnd (S.left source.new) × Serves bytes docs
         × Appends (K.written sink.old) (K.written sink.new) (line_of (documents_answer docs)) }
     // That line nests at most 107 arrays and objects, so that `serde_json` reads it again.
-    ensures nests { is_road words.now ≡ true → result ≡ 0 → (d : Data) × Appends (K.written sink.old) (K.written sink.new) (line_of d) × (depth d ≤ 107) }
+    ensures nests { is_road words.now ≡ true → result ≡ 0 → (d : Data)
+        × Appends (K.written sink.old) (K.written sink.new) (line_of d) × (depth d ≤ 107) }
     // A valid request is answered by 0 where neither count rises, unless memory runs out.
-    ensures valid { (bytes : List ℕ) (request : Request) → is_road words.now ≡ true → S.left source.old ≡ Some bytes → length bytes ≤ limit → request_in bytes ≡ Ok request → IsValid request
-        → (Rose (S.faults source.old) (S.faults source.new) → ⊥) → (Rose (K.faults sink.old) (K.faults sink.new) → ⊥) → (result ≡ 0) ⊎ (result ≡ 5) }
+    ensures valid { (bytes : List ℕ) (request : Request) → is_road words.now ≡ true
+        → S.left source.old ≡ Some bytes → length bytes ≤ limit → request_in bytes ≡ Ok request
+        → IsValid request → (Rose (S.faults source.old) (S.faults source.new) → ⊥)
+        → (Rose (K.faults sink.old) (K.faults sink.new) → ⊥) → (result ≡ 0) ⊎ (result ≡ 5) }
     // For `make` and a number, 0 says that the bytes written are the line that counts the documents of that bill's road.
-    ensures made { (n : ℕ) → command_of words.now ≡ Some (a_make n) → result ≡ 0 → IsMade n × Appends (K.written sink.old) (K.written sink.new) (line_of (made_answer n)) }
+    ensures made { (n : ℕ) → command_of words.now ≡ Some (a_make n) → result ≡ 0
+        → IsMade n × Appends (K.written sink.old) (K.written sink.new) (line_of (made_answer n)) }
     // What is answered to which words and bytes, and what is written with which status.
     ensures table { (bytes : List ℕ) × Tells (S.left source.old) bytes
-        × Ends (reply_for words.now bytes) result (K.written sink.old) (K.written sink.new) (K.flushed sink.new) }
+        × Ends (reply_for words.now bytes) result (K.written sink.old) (K.written sink.new)
+        (K.flushed sink.new) }
     // The causes of 3 and 4, and what a count that grew is answered by.
-    ensures source_fault { result ≡ 3 → (is_road words.now ≡ true) × Rose (S.faults source.old) (S.faults source.new) }
+    ensures source_fault { result ≡ 3
+        → (is_road words.now ≡ true) × Rose (S.faults source.old) (S.faults source.new) }
     ensures sink_fault { result ≡ 4 → Rose (K.faults sink.old) (K.faults sink.new) }
     ensures source_grew { S.faults source.old < S.faults source.new → (result ≡ 3) ⊎ (result ≡ 5) }
     ensures sink_grew { K.faults sink.old < K.faults sink.new → result ≡ 4 }
@@ -119,9 +117,13 @@ pub fn run<S: Source, K: Sink>(alloc: Global, words: &[String], source: &mut S, 
     ensures words { is_road words.now ≡ false → source.new ≡ source.old }
     ensures unwritten { (result ≡ 3) ⊎ (result ≡ 5) → sink.new ≡ sink.old }
     // How far the source was read: to its end, or to one byte beyond the limit.
-    ensures end { is_road words.now ≡ true → (result ≡ 0) ⊎ (result ≡ 1) ⊎ (result ≡ 2) → IsAtEnd (S.left source.new) }
-    ensures end_put { is_road words.now ≡ true → result ≡ 4 → (bytes : List ℕ) × Tells (S.left source.old) bytes × ((limit < length bytes) ⊎ IsAtEnd (S.left source.new)) }
-    ensures taken { (taken : List ℕ) × Consumes (S.left source.old) (S.left source.new) taken × (length taken ≤ limit + 1) }
+    ensures end { is_road words.now ≡ true → (result ≡ 0) ⊎ (result ≡ 1) ⊎ (result ≡ 2)
+        → IsAtEnd (S.left source.new) }
+    ensures end_put { is_road words.now ≡ true → result ≡ 4 → (bytes : List ℕ)
+        × Tells (S.left source.old) bytes
+        × ((limit < length bytes) ⊎ IsAtEnd (S.left source.new)) }
+    ensures taken { (taken : List ℕ) × Consumes (S.left source.old) (S.left source.new) taken
+        × (length taken ≤ limit + 1) }
 {
     cdx_request::reply_law();
     cdx_request::valid_law();

@@ -1,3 +1,5 @@
+//! Documents as JSON values.
+
 ghost use Rattle.std.specs.Prelude.{◌≡◌, List, IfOk};
 ghost use Rattle.serde_json.specs.View.{view};
 ghost use Rattle.cdx_schema.specs.Roads.{Doc as SchemaDoc};
@@ -13,8 +15,8 @@ use cdx_events::List as Items;
 use serde_json::{Map, Value, put};
 use std::alloc::{AllocError, Global};
 
-// An object with this member alone.
-fn only(alloc: Global, name: &str, value: Value) -> Result<Value, AllocError>
+/// An object with this member alone. Only want of memory refuses.
+pub fn only(alloc: Global, name: &str, value: Value) -> Result<Value, AllocError>
     ensures { IfOk result (λ v. view v ≡ alone name.now (view value)) }
 {
     let mut map = Map::new(alloc);
@@ -36,7 +38,8 @@ impl Shown for Doc {
 /// The answer of the documents: `{"documents":[..]}` with each in order, as `{"json":value}` or `{"xml":[events]}`. Only
 /// want of memory refuses.
 pub fn documents_answer(alloc: Global, docs: &Items<Doc>) -> Result<Value, AllocError>
-    ensures { (xs : List SchemaDoc) → AreDocs docs.now xs → IfOk result (λ v. view v ≡ documents_in xs) }
+    ensures { (xs : List SchemaDoc) → AreDocs docs.now xs
+        → IfOk result (λ v. view v ≡ documents_in xs) }
 {
     let values = items_to_json(alloc, docs.as_slice())?;
     only(alloc, "documents", values)

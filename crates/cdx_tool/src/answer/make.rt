@@ -1,9 +1,11 @@
+//! The answer to the bytes of a request.
+
 ghost use Rattle.std.specs.Prelude.{◌≡◌, List, false, option_map, IfOk, Result as Owed};
 ghost use Rattle.serde_json.specs.View.{view};
 ghost use Rattle.serde_json.specs.Written.{has_float};
 ghost use Rattle.cdx_schema.specs.Roads.{Doc as SchemaDoc, Refusal, road as road_of};
 ghost use Rattle.cdx_bom.specs.Docs.{AreDocs, Refuses};
-ghost use Rattle.cdx_request.specs.Requests.{Request as Asked, json_of, request_of};
+ghost use Rattle.cdx_request.specs.Requests.{Request as Asked, json_of, request_of, request_in};
 ghost use Rattle.cdx_request.specs.Refusals.{unbalanced_answer as unbalanced_at};
 ghost use Rattle.cdx_request.specs.Replies.{line_of, reply, no_request, reply_to, reply_to_request, reply_to_road, documents_answer as documents_in};
 ghost use Rattle.cdx_tool.specs.Reads.{IsRequest};
@@ -18,8 +20,8 @@ use cdx_events::{List as Items, Text};
 use serde_json::{Category, Value, json};
 use std::alloc::{AllocError, Global};
 
-// The value that the bytes are.
-fn read_json(alloc: Global, bytes: &[u8]) -> Result<Option<Value>, AllocError>
+/// The value that the bytes are, or none where `serde_json` has no reading of them. Only want of memory refuses.
+pub fn read_json(alloc: Global, bytes: &[u8]) -> Result<Option<Value>, AllocError>
     ensures { IfOk result (λ o. option_map view o ≡ json_of bytes.now) }
 {
     match Value::from_slice(alloc, bytes) {
@@ -40,9 +42,10 @@ fn line(alloc: Global, value: &Value) -> Result<Text, AllocError>
     Ok(Text::from_string(text))
 }
 
-/// The answer of the value, where it holds no float.
-pub(crate) fn answer(alloc: Global, status: u8, value: &Value) -> Result<Answer, AllocError>
-    ensures { IfOk result (λ a. has_float (view value.now) ≡ false → reply_of a ≡ reply status (view value.now)) }
+/// The answer whose text is the value's and a line feed, where the value holds no float. Only want of memory refuses.
+pub fn answer_value(alloc: Global, status: u8, value: &Value) -> Result<Answer, AllocError>
+    ensures { IfOk result
+        (λ a. has_float (view value.now) ≡ false → reply_of a ≡ reply status (view value.now)) }
 {
     let text = line(alloc, value)?;
     Ok(Answer { status, text })
@@ -54,32 +57,34 @@ fn no_request_value(alloc: Global, reason: &str) -> Result<Value, AllocError>
     json!(in alloc; {"request": reason})
 }
 
-/// The answer that something is no request, for a reason.
-pub(crate) fn refuse(alloc: Global, status: u8, reason: &str) -> Result<Answer, AllocError>
+/// The answer that something is no request, for a reason: `{"request":reason}`. Only want of memory refuses.
+pub fn refuse(alloc: Global, status: u8, reason: &str) -> Result<Answer, AllocError>
     ensures { IfOk result (λ a. reply_of a ≡ reply status (no_request reason.now)) }
 {
     let value = no_request_value(alloc, reason)?;
-    answer(alloc, status, &value)
+    answer_value(alloc, status, &value)
 }
 
 // The refusal that the error of a road is.
 fn answer_refused(alloc: Global, error: RoadError) -> Result<Answer, AllocError>
     requires { (owed : Owed (List SchemaDoc) Refusal) × Refuses owed error }
-    ensures { (owed : Owed (List SchemaDoc) Refusal) → Refuses owed error → IfOk result (λ a. reply_of a ≡ reply_to_road owed) }
+    ensures { (owed : Owed (List SchemaDoc) Refusal) → Refuses owed error
+        → IfOk result (λ a. reply_of a ≡ reply_to_road owed) }
 {
     cdx_request::no_floats();
     match error {
         RoadError::Memory(error) => Err(error),
         error => {
             let value = refused_answer(alloc, &error)?;
-            answer(alloc, REFUSED, &value)
+            answer_value(alloc, REFUSED, &value)
         }
     }
 }
 
 fn answer_documents(alloc: Global, docs: &Items<Doc>) -> Result<Answer, AllocError>
     requires { (xs : List SchemaDoc) × AreDocs docs.now xs × (has_float (documents_in xs) ≡ false) }
-    ensures { (xs : List SchemaDoc) → AreDocs docs.now xs → IfOk result (λ a. reply_of a ≡ reply 0 (documents_in xs)) }
+    ensures { (xs : List SchemaDoc) → AreDocs docs.now xs
+        → IfOk result (λ a. reply_of a ≡ reply 0 (documents_in xs)) }
 {
     let text = documents_line(alloc, docs)?;
     Ok(Answer {
@@ -91,7 +96,8 @@ fn answer_documents(alloc: Global, docs: &Items<Doc>) -> Result<Answer, AllocErr
 // The documents of the request's road, or its refusal.
 fn answer_request(alloc: Global, request: Request) -> Result<Answer, AllocError>
     requires { (q : Asked) × IsRequest request q }
-    ensures { (q : Asked) → IsRequest request q → IfOk result (λ a. reply_of a ≡ reply_to_road (road_of q.doc q.from q.hops)) }
+    ensures { (q : Asked) → IsRequest request q
+        → IfOk result (λ a. reply_of a ≡ reply_to_road (road_of q.doc q.from q.hops)) }
 {
     cdx_request::no_floats();
     let Request { from, doc, hops } = request;
@@ -105,10 +111,10 @@ fn answer_unbalanced(alloc: Global, place: usize) -> Result<Answer, AllocError>
     ensures { IfOk result (λ a. reply_of a ≡ reply 1 (unbalanced_at place)) }
 {
     let value = unbalanced_answer(alloc, place)?;
-    answer(alloc, REFUSED, &value)
+    answer_value(alloc, REFUSED, &value)
 }
 
-fn answer_value(alloc: Global, value: Value) -> Result<Answer, AllocError>
+fn answer_asked(alloc: Global, value: Value) -> Result<Answer, AllocError>
     ensures { IfOk result (λ a. reply_of a ≡ reply_to_request (request_of (view value))) }
 {
     match take_request(alloc, value) {
@@ -116,6 +122,16 @@ fn answer_value(alloc: Global, value: Value) -> Result<Answer, AllocError>
         Err(RequestError::Shape) => refuse(alloc, UNUSABLE, "shape"),
         Err(RequestError::Unbalanced { place }) => answer_unbalanced(alloc, place),
         Err(RequestError::Memory(error)) => Err(error),
+    }
+}
+
+// The answer to bytes that are no more than the limit.
+pub(crate) fn answer_within(alloc: Global, bytes: &[u8]) -> Result<Answer, AllocError>
+    ensures { IfOk result (λ a. reply_of a ≡ reply_to_request (request_in bytes.now)) }
+{
+    match read_json(alloc, bytes)? {
+        None => refuse(alloc, UNUSABLE, "not JSON"),
+        Some(value) => answer_asked(alloc, value),
     }
 }
 
@@ -134,8 +150,5 @@ pub fn answer_bytes(alloc: Global, bytes: &[u8]) -> Result<Answer, AllocError>
     if bytes.len() > LIMIT {
         return refuse(alloc, TOO_LONG, "too long");
     }
-    match read_json(alloc, bytes)? {
-        None => refuse(alloc, UNUSABLE, "not JSON"),
-        Some(value) => answer_value(alloc, value),
-    }
+    answer_within(alloc, bytes)
 }

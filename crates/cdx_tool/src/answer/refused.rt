@@ -1,3 +1,5 @@
+//! Refusals as JSON values.
+
 ghost use Rattle.std.specs.Prelude.{◌≡◌, Some, IfOk, IsSome};
 ghost use Rattle.serde_json.specs.View.{view};
 ghost use Rattle.cdx_schema.specs.Roads.{Refusal};
@@ -25,7 +27,8 @@ fn cause_of(kind: JsonKind) -> &'static str
 }
 
 fn json_refused(alloc: Global, path: &Path, kind: JsonKind) -> Result<Value, AllocError>
-    ensures { IfOk result (λ v. view v ≡ refused (json_members (record { path = path.now.0; cause = kind }))) }
+    ensures { IfOk result
+        (λ v. view v ≡ refused (json_members (record { path = path.now.0; cause = kind }))) }
 {
     let path = path.print(alloc)?;
     json!(in alloc; {"refused": {"cause": cause_of(kind), "path": path.as_str()}})
@@ -36,7 +39,8 @@ fn namespace_refused(
     expected: &Text,
     actual: &Option<Text>,
 ) -> Result<Value, AllocError>
-    ensures { IfOk result (λ v. view v ≡ refused (with_actual actual.now (namespace_members expected.now))) }
+    ensures { IfOk result
+        (λ v. view v ≡ refused (with_actual actual.now (namespace_members expected.now))) }
 {
     let expected = expected.as_str();
     match actual {
@@ -110,7 +114,8 @@ fn xml_refused(alloc: Global, fault: &XmlReadError) -> Result<Value, AllocError>
 /// A bill that lacks a version that a hop asks for has the `cause` `version missing` alone. Only want of memory refuses.
 pub fn refused_answer(alloc: Global, error: &RoadError) -> Result<Value, AllocError>
     requires { IsSome (refusal_of error.now) }
-    ensures { (r : Refusal) → refusal_of error.now ≡ Some r → IfOk result (λ v. view v ≡ refused_for r) }
+    ensures { (r : Refusal) → refusal_of error.now ≡ Some r
+        → IfOk result (λ v. view v ≡ refused_for r) }
 {
     match error {
         RoadError::Json(JsonReadError::JsonElementReadError { path, kind }) => {
@@ -121,7 +126,9 @@ pub fn refused_answer(alloc: Global, error: &RoadError) -> Result<Value, AllocEr
     }
 }
 
-pub(crate) fn unbalanced_answer(alloc: Global, place: usize) -> Result<Value, AllocError>
+/// The answer to a document whose events break at the place: `{"refused":{"cause":"unbalanced","place":p}}`. Only
+/// want of memory refuses.
+pub fn unbalanced_answer(alloc: Global, place: usize) -> Result<Value, AllocError>
     ensures { IfOk result (λ v. view v ≡ unbalanced_at place) }
 {
     json!(in alloc; {"refused": {"cause": "unbalanced", "place": place}})

@@ -1,3 +1,5 @@
+//! Documents as text, without their values.
+
 ghost use Rattle.std.specs.Prelude.{◌≡◌, ◌++◌, List, codes, false, IfOk, OnOk, string_bytes};
 ghost use Rattle.serde_json.specs.Written.{has_float, items_have_float, compact_text};
 ghost use Rattle.cdx_schema.specs.Roads.{Doc as SchemaDoc};
@@ -20,7 +22,8 @@ fn push_closed(text: &mut String, start: &str, value: &str) -> Result<(), AllocE
 
 fn push_doc(alloc: Global, text: &mut String, doc: &Doc) -> Result<(), AllocError>
     requires { has_float (doc_shown doc.now) ≡ false }
-    ensures { OnOk result (string_bytes text.new ≡ string_bytes text.old ++ compact_text (doc_shown doc.now)) }
+    ensures { OnOk result
+        (string_bytes text.new ≡ string_bytes text.old ++ compact_text (doc_shown doc.now)) }
 {
     match doc {
         Doc::Json(value) => push_closed(text, "{\"json\":", value.to_string(alloc)?.as_str()),
@@ -31,7 +34,8 @@ fn push_doc(alloc: Global, text: &mut String, doc: &Doc) -> Result<(), AllocErro
 /// The line of `documents_answer`, where the documents hold no float: without its value, so that no document is copied.
 pub(crate) fn documents_line(alloc: Global, docs: &Items<Doc>) -> Result<Text, AllocError>
     requires { items_have_float (docs_shown docs.now) ≡ false }
-    ensures { (xs : List SchemaDoc) → AreDocs docs.now xs → IfOk result (λ t. t ≡ line_of (documents_in xs)) }
+    ensures { (xs : List SchemaDoc) → AreDocs docs.now xs
+        → IfOk result (λ t. t ≡ line_of (documents_in xs)) }
 {
     let mut text = String::from_str(alloc, "{\"documents\":[")?;
     let mut is_later = false;

@@ -1,3 +1,5 @@
+//! Events printed as JSON, token by token.
+
 ghost use Rattle.std.specs.Prelude.{◌≡◌, ◌∷◌, [], ◌++◌, codes, IfOk, string_bytes};
 ghost use Rattle.json.specs.Token.{begin_object, end_object};
 ghost use Rattle.serde_json.specs.Written.{compact_text};
@@ -65,7 +67,10 @@ fn print_start(
     attributes: &Items<OwnedAttribute>,
     default: &Option<Text>,
 ) -> Result<(), AllocError>
-    ensures { Becomes result out.old out.new (then_name (codes "element") name.now (then_text_if (codes "default") default.now (then_attributes attributes.now (out.old.tokens ++ begin_object ∷ []))) ++ end_object ∷ []) }
+    ensures { Becomes result out.old out.new (then_name (codes "element") name.now
+        (then_text_if (codes "default") default.now
+        (then_attributes attributes.now (out.old.tokens ++ begin_object ∷ [])))
+        ++ end_object ∷ []) }
 {
     out.begin_object()?;
     print_attributes(out, attributes)?;
@@ -75,7 +80,9 @@ fn print_start(
 }
 
 fn print_end(out: &mut Writer, name: &OwnedName) -> Result<(), AllocError>
-    ensures { Becomes result out.old out.new (then_name (codes "end") name.now (out.old.tokens ++ begin_object ∷ []) ++ end_object ∷ []) }
+    ensures { Becomes result out.old out.new (then_name (codes "end") name.now
+        (out.old.tokens ++ begin_object ∷ [])
+        ++ end_object ∷ []) }
 {
     out.begin_object()?;
     print_name(out, "end", name)?;
@@ -84,7 +91,8 @@ fn print_end(out: &mut Writer, name: &OwnedName) -> Result<(), AllocError>
 
 // An object with this text alone.
 fn print_only(out: &mut Writer, name: &str, text: &str) -> Result<(), AllocError>
-    ensures { Becomes result out.old out.new (then_text name.now text.now (out.old.tokens ++ begin_object ∷ []) ++ end_object ∷ []) }
+    ensures { Becomes result out.old out.new
+        (then_text name.now text.now (out.old.tokens ++ begin_object ∷ []) ++ end_object ∷ []) }
 {
     out.begin_object()?;
     print_text(out, name, text)?;
@@ -111,7 +119,8 @@ impl Printed for Event {
 }
 
 fn print_events(out: &mut Writer, events: &Events) -> Result<(), AllocError>
-    ensures { Becomes result out.old out.new (out.old.tokens ++ tokens_of (events_value events.now.list)) }
+    ensures { Becomes result out.old out.new
+        (out.old.tokens ++ tokens_of (events_value events.now.list)) }
 {
     let mut reader = EventReader::new(events);
     out.begin_array()?;

@@ -1,3 +1,5 @@
+//! Events out of JSON values.
+
 ghost use Rattle.std.specs.Prelude.{◌≡◌, ◌+◌, ℕ, List, map, option_map, IfOk};
 ghost use Rattle.serde_json.specs.View.{view};
 ghost use Rattle.cdx_events.specs.declared.event.XmlEvent.{XmlEvent};
@@ -137,7 +139,8 @@ fn read_end(alloc: Global, value: &Value) -> Result<Option<Event>, AllocError>
 
 // The only member of an object, which is a text.
 fn read_only_text(alloc: Global, value: &Value, name: &str) -> Result<Option<Text>, AllocError>
-    ensures { IfOk result (λ o. (event : List ℕ → XmlEvent) → option_map event o ≡ text_event name.now event (view value.now)) }
+    ensures { IfOk result (λ o. (event : List ℕ → XmlEvent)
+        → option_map event o ≡ text_event name.now event (view value.now)) }
 {
     if count_members(value) != 1 {
         return Ok(None);

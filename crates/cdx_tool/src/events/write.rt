@@ -1,3 +1,5 @@
+//! Events as JSON values.
+
 ghost use Rattle.std.specs.Prelude.{◌≡◌, [], ◌∷◌, ◌++◌, map as each, IfOk, OnOk};
 ghost use Rattle.serde_json.specs.View.{view, members_view};
 ghost use Rattle.cdx_request.specs.EventValues.{with_text, named, attribute_value, with_attributes, one_text, event_value, events_value};
@@ -15,7 +17,8 @@ fn put_text(
     name: &str,
     text: &Option<Text>,
 ) -> Result<(), AllocError>
-    ensures { OnOk result (members_view map.new.entries ≡ with_text name.now text.now (members_view map.old.entries)) }
+    ensures { OnOk result (members_view map.new.entries
+        ≡ with_text name.now text.now (members_view map.old.entries)) }
 {
     match text {
         None => Ok(()),
@@ -29,7 +32,8 @@ fn put_name(
     local: &str,
     name: &OwnedName,
 ) -> Result<(), AllocError>
-    ensures { OnOk result (members_view map.new.entries ≡ named local.now name.now (members_view map.old.entries)) }
+    ensures { OnOk result
+        (members_view map.new.entries ≡ named local.now name.now (members_view map.old.entries)) }
 {
     let local_name = Value::try_from_str(alloc, name.local_name.as_str())?;
     put(map, alloc, local, local_name)?;
@@ -58,7 +62,8 @@ fn put_attributes(
     map: &mut Map<String, Value>,
     attributes: &Items<OwnedAttribute>,
 ) -> Result<(), AllocError>
-    ensures { OnOk result (members_view map.new.entries ≡ with_attributes attributes.now (members_view map.old.entries)) }
+    ensures { OnOk result (members_view map.new.entries
+        ≡ with_attributes attributes.now (members_view map.old.entries)) }
 {
     match attributes.as_slice() {
         [] => Ok(()),

@@ -1,3 +1,5 @@
+//! What the road of a made bill counts.
+
 ghost use Rattle.std.specs.Prelude.{◌≡◌, [], ◌∷◌, List, false, length, IfOk};
 ghost use Rattle.serde_json.specs.Data.{Data};
 ghost use Rattle.serde_json.specs.View.{view};
@@ -14,7 +16,7 @@ ghost use Rattle.cdx_request.specs.Served.{IsMade};
 ghost use Rattle.cdx_tool.specs.Shows.{reply_of};
 
 use super::made;
-use crate::answer::{Answer, SERVED, answer};
+use crate::answer::{Answer, SERVED, answer_value};
 use cdx_bom::{Doc, Form, Hop, RoadError, into_road};
 use cdx_json::ToJson;
 use cdx_models::SpecVersion;
@@ -23,7 +25,8 @@ use std::alloc::{AllocError, Global};
 
 // How many events the first document has.
 fn count_events(docs: &[Doc]) -> usize
-    ensures { (root : Node) (more : List SchemaDoc) → AreDocs docs.now (xml root ∷ more) → result ≡ length (document root) }
+    ensures { (root : Node) (more : List SchemaDoc) → AreDocs docs.now (xml root ∷ more)
+        → result ≡ length (document root) }
 {
     match docs.first() {
         Some(Doc::Xml(events)) => events.len(),
@@ -33,7 +36,8 @@ fn count_events(docs: &[Doc]) -> usize
 
 // How many bytes the text of the second document has.
 fn count_bytes(alloc: Global, docs: &[Doc]) -> Result<usize, AllocError>
-    ensures { (first : SchemaDoc) (x : Data) → AreDocs docs.now (first ∷ json x ∷ []) → has_float x ≡ false → IfOk result (λ n. n ≡ length (compact_text x)) }
+    ensures { (first : SchemaDoc) (x : Data) → AreDocs docs.now (first ∷ json x ∷ [])
+        → has_float x ≡ false → IfOk result (λ n. n ≡ length (compact_text x)) }
 {
     match docs {
         [_, Doc::Json(value)] => Ok(value.to_string(alloc)?.len()),
@@ -49,16 +53,18 @@ fn counts_value(alloc: Global, bytes: usize, count: u32, events: usize) -> Resul
 
 // The answer that counts the documents of the road of a made bill.
 fn answer_counts(alloc: Global, docs: &[Doc], count: u32) -> Result<Answer, AllocError>
-    ensures { (m : IsMade count) → AreDocs docs.now (xml m.root ∷ json m.value ∷ []) → has_float m.value ≡ false → IfOk result (λ a. reply_of a ≡ made_reply count) }
+    ensures { (m : IsMade count) → AreDocs docs.now (xml m.root ∷ json m.value ∷ [])
+        → has_float m.value ≡ false → IfOk result (λ a. reply_of a ≡ made_reply count) }
 {
     let bytes = count_bytes(alloc, docs)?;
     let value = counts_value(alloc, bytes, count, count_events(docs))?;
-    answer(alloc, SERVED, &value)
+    answer_value(alloc, SERVED, &value)
 }
 
 // A made bill in JSON 1.5.
 fn made_value(alloc: Global, count: u32) -> Result<Value, AllocError>
-    ensures { IfOk result (λ v. view v ≡ jspell (keep SpecVersion.V1_5 (made_bill count) a_bill) SpecVersion.V1_5 a_bill) }
+    ensures { IfOk result (λ v. view v
+        ≡ jspell (keep SpecVersion.V1_5 (made_bill count) a_bill) SpecVersion.V1_5 a_bill) }
 {
     let bom = made(alloc, count)?;
     let value = bom.to_value(alloc, SpecVersion::V1_5);

@@ -1,3 +1,5 @@
+//! Requests out of JSON values.
+
 ghost use Rattle.std.specs.Prelude.{◌≡◌, Some, option_map, option_and_then, IfOk};
 ghost use Rattle.serde_json.specs.Find.{get};
 ghost use Rattle.serde_json.specs.View.{view};
@@ -119,6 +121,16 @@ pub fn read_doc(alloc: Global, value: &Value) -> Result<Doc, RequestError>
     }
 }
 
+/// `read_doc` of a value that nothing else needs, so that no JSON is copied.
+pub fn take_doc(alloc: Global, value: Value) -> Result<Doc, RequestError>
+    ensures { Reads IsDoc (doc_in (view value)) result }
+{
+    match take_sent(alloc, value)? {
+        None => Err(RequestError::Shape),
+        Some(sent) => settle(alloc, sent),
+    }
+}
+
 /// The events of an array of event objects, by `events_to_json`; an empty array of attributes is accepted too. `Shape`
 /// comes exactly where the value is no such array. It doesn't matter whether the events are balanced, so `Unbalanced`
 /// never comes.
@@ -134,7 +146,8 @@ pub fn events_from_json(alloc: Global, value: &Value) -> Result<List<XmlEvent>, 
 // ---- requests
 
 fn sent_at(alloc: Global, value: &Value) -> Result<Option<Sent>, AllocError>
-    ensures { IfOk result (λ o. option_map sent_in o ≡ option_and_then sent_of (get (codes "doc") (view value.now))) }
+    ensures { IfOk result
+        (λ o. option_map sent_in o ≡ option_and_then sent_of (get (codes "doc") (view value.now))) }
 {
     match value.get("doc") {
         None => Ok(None),

@@ -1,3 +1,5 @@
+//! A request before its events are balanced.
+
 use cdx_bom::Hop;
 use cdx_events::{List, XmlEvent};
 use cdx_models::SpecVersion;
