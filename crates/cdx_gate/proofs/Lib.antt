@@ -1,0 +1,4 @@
+pub mod LineLaws
+mod LineRows
+pub mod Served
+pub mod Owed

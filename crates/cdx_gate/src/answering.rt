@@ -1,0 +1,160 @@
+//! Answering lines.
+
+ghost use Rattle.std.specs.Prelude.{◌≡◌, ◌≤◌, ◌⊎◌, [], ◌++◌, List, ℕ, Option, take, vec_len, IfErr, OnOk};
+ghost use Rattle.std.specs.Io.KnownBytes.{Appends};
+ghost use Rattle.cdx_events.specs.Causes.{Rose};
+ghost use Rattle.cdx_gate.specs.Lines.{ended_lines, lines, reply, replies};
+ghost use Rattle.cdx_gate.specs.Gate.{kept, no_words, IsFlushed, PutsFront, Stands, Stops};
+
+use crate::line::{find_feed, hold};
+use cdx_events::{Sink, Text};
+use cdx_tool::{answer_bytes, put_answer, refuse};
+use std::alloc::Global;
+
+const SERVED: u8 = 0;
+
+const UNUSABLE: u8 = 2;
+
+const SINK_FAULT: u8 = 4;
+
+const NO_MEMORY: u8 = 5;
+
+// Puts a text and flushes, or gives the status in its place.
+fn put<K: Sink>(text: &Text, sink: &mut K) -> Result<(), u8>
+    ensures ok { OnOk result (Appends (K.written sink.old) (K.written sink.new) text.now) }
+    ensures flushed { OnOk result (IsFlushed (K.written sink.new) (K.flushed sink.new)) }
+    ensures ok_cause { OnOk result (K.faults sink.new ≡ K.faults sink.old) }
+    ensures err { IfErr result (λ status. (status ≡ 4)
+        × PutsFront (K.written sink.old) (K.written sink.new) text.now
+        × Rose (K.faults sink.old) (K.faults sink.new)) }
+    ensures later { K.faults sink.old ≤ K.faults sink.new }
+{
+    match put_answer(text, sink) {
+        Ok(()) => Ok(()),
+        Err(_) => Err(SINK_FAULT),
+    }
+}
+
+/// Answers words, of which there are none for the gateway.
+pub(crate) fn answer_words<K: Sink>(alloc: Global, sink: &mut K) -> u8
+    ensures table { ((result ≡ 2) × Appends (K.written sink.old) (K.written sink.new) no_words.text
+        × IsFlushed (K.written sink.new) (K.flushed sink.new)
+        × (K.faults sink.new ≡ K.faults sink.old))
+        ⊎ ((result ≡ 4) × PutsFront (K.written sink.old) (K.written sink.new) no_words.text
+        × Rose (K.faults sink.old) (K.faults sink.new))
+        ⊎ ((result ≡ 5) × (sink.new ≡ sink.old)) }
+    ensures later { K.faults sink.old ≤ K.faults sink.new }
+{
+    match refuse(alloc, UNUSABLE, "words") {
+        Ok(answer) => match put(&answer.text, sink) {
+            Ok(()) => answer.status,
+            Err(status) => status,
+        },
+        Err(_) => NO_MEMORY,
+    }
+}
+
+// Answers one line.
+#[tactic(auto, unfolding(crate::specs::Lines::reply))]
+fn answer_line<K: Sink>(alloc: Global, line: &[u8], sink: &mut K) -> Result<(), u8>
+    ensures ok { OnOk result (Appends (K.written sink.old) (K.written sink.new) (reply line.now)) }
+    ensures flushed { OnOk result (IsFlushed (K.written sink.new) (K.flushed sink.new)) }
+    ensures ok_cause { OnOk result (K.faults sink.new ≡ K.faults sink.old) }
+    ensures err { IfErr result (λ status.
+        ((status ≡ 4) × PutsFront (K.written sink.old) (K.written sink.new) (reply line.now)
+        × Rose (K.faults sink.old) (K.faults sink.new))
+        ⊎ ((status ≡ 5) × (sink.new ≡ sink.old))) }
+    ensures later { K.faults sink.old ≤ K.faults sink.new }
+{
+    match answer_bytes(alloc, line) {
+        Ok(answer) => put(&answer.text, sink),
+        Err(_) => Err(NO_MEMORY),
+    }
+}
+
+// Answers the line that is held and that these bytes end, and then holds none.
+fn end_line<K: Sink>(
+    alloc: Global,
+    bytes: &[u8],
+    line: &mut Vec<u8>,
+    sink: &mut K,
+) -> Result<(), u8>
+    requires { vec_len line.old ≤ kept }
+    ensures ok { OnOk result (Appends (K.written sink.old) (K.written sink.new)
+        (reply (take kept (line.old.items ++ bytes.now)))) }
+    ensures none { OnOk result (line.new.items ≡ []) }
+    ensures flushed { OnOk result (IsFlushed (K.written sink.new) (K.flushed sink.new)) }
+    ensures ok_cause { OnOk result (K.faults sink.new ≡ K.faults sink.old) }
+    ensures err { IfErr result (λ status.
+        ((status ≡ 4) × PutsFront (K.written sink.old) (K.written sink.new)
+        (reply (take kept (line.old.items ++ bytes.now)))
+        × Rose (K.faults sink.old) (K.faults sink.new))
+        ⊎ ((status ≡ 5) × (sink.new ≡ sink.old))) }
+    ensures later { K.faults sink.old ≤ K.faults sink.new }
+{
+    match hold(line, bytes) {
+        Ok(()) => {}
+        Err(_) => return Err(NO_MEMORY),
+    }
+    let answered = answer_line(alloc, line.as_slice(), sink);
+    line.clear();
+    answered
+}
+
+/// Answers the last line, which no line feed ends, where it isn't empty, and gives the status. The clauses speak of all
+/// bytes.
+pub(crate) fn answer_last<K: Sink>(alloc: Global, line: &[u8], sink: &mut K) -> u8
+    ensures table { (taken : List ℕ) (first : Option (List ℕ))
+        → Stands taken first (K.written sink.old) line.now
+        → ((result ≡ 0) × Appends first (K.written sink.new) (replies (lines taken)))
+        ⊎ Stops (lines taken) result first (K.written sink.new) }
+    ensures flushed { result ≡ 0
+        → (sink.new ≡ sink.old) ⊎ IsFlushed (K.written sink.new) (K.flushed sink.new) }
+    ensures cause { (((result ≡ 0) ⊎ (result ≡ 5)) × (K.faults sink.new ≡ K.faults sink.old))
+        ⊎ ((result ≡ 4) × Rose (K.faults sink.old) (K.faults sink.new)) }
+    ensures later { K.faults sink.old ≤ K.faults sink.new }
+{
+    if line.is_empty() {
+        return SERVED;
+    }
+    match answer_line(alloc, line, sink) {
+        Ok(()) => SERVED,
+        Err(status) => status,
+    }
+}
+
+/// Answers each line that a line feed ends in the bytes, of which the first goes on with the line that is held, and holds
+/// what comes after the last. The clauses speak of all bytes so far.
+pub(crate) fn answer_ended<K: Sink>(
+    alloc: Global,
+    bytes: &[u8],
+    line: &mut Vec<u8>,
+    sink: &mut K,
+) -> Result<(), u8>
+    requires { vec_len line.old ≤ kept }
+    ensures ok { (taken : List ℕ) (first : Option (List ℕ))
+        → Stands taken first (K.written sink.old) line.old.items
+        → OnOk result (Stands (taken ++ bytes.now) first (K.written sink.new) line.new.items) }
+    ensures flushed { OnOk result
+        ((sink.new ≡ sink.old) ⊎ IsFlushed (K.written sink.new) (K.flushed sink.new)) }
+    ensures ok_cause { OnOk result (K.faults sink.new ≡ K.faults sink.old) }
+    ensures few { OnOk result (vec_len line.new ≤ kept) }
+    ensures err { (taken : List ℕ) (first : Option (List ℕ))
+        → Stands taken first (K.written sink.old) line.old.items
+        → IfErr result (λ status.
+        Stops (ended_lines (taken ++ bytes.now)) status first (K.written sink.new)) }
+    ensures err_cause { IfErr result (λ status.
+        ((status ≡ 4) × Rose (K.faults sink.old) (K.faults sink.new))
+        ⊎ ((status ≡ 5) × (K.faults sink.new ≡ K.faults sink.old))) }
+    ensures later { K.faults sink.old ≤ K.faults sink.new }
+{
+    let mut rest = bytes;
+    while let Some(at) = find_feed(rest) {
+        end_line(alloc, &rest[..at], line, sink)?;
+        rest = &rest[at + 1..];
+    }
+    match hold(line, rest) {
+        Ok(()) => Ok(()),
+        Err(_) => Err(NO_MEMORY),
+    }
+}
