@@ -1,0 +1,2 @@
+//! Paths into bills, and what stands at them: definitions alone.
+#![tactic(auto)]
