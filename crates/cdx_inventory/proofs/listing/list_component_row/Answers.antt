@@ -1,0 +1,15 @@
+use Rattle.std.proofs.Common.{codes}
+use Rattle.cdx_schema.specs.Kinds.{a_record}
+use Rattle.cdx_models.specs.Trees.{component}
+use Rattle.cdx_schema.specs.Faults.{to_member}
+use Rattle.cdx_component.specs.Trees.{component_tree}
+use Rattle.cdx_inventory.proofs.Walks.{adds_absent, adds_row}
+use Rattle.cdx_inventory.proofs.listing.list_component_row.Goals as goal
+
+pub returns-in-None : goal.returns-in-None
+returns-in-None c = adds_absent component_tree (a_record component) (to_member (codes "component")) c.args.held.now c.args.path.now.items c.args.entries.now c.in-None.is
+
+pub returns-in_ok-list_component-in-Some : goal.returns-in_ok-list_component-in-Some
+returns-in_ok-list_component-in-Some c =
+    adds_row component_tree (a_record component) (to_member (codes "component")) c.in-Some.held c.args.held.now c.args.path.now.items c.enter_member.new.path.items c.list_component.new.path.items c.leave.new.path.items c.steps_in-depth.result c.args.entries.now c.list_component.new.entries
+    c.in-Some.is c.in_ok-enter_member-in-Some.ensures c.steps_in-depth.ensures c.leave.ensures c.in_ok-list_component-in-Some.ensures

@@ -1,0 +1,149 @@
+-- Every component of a bill, with its path.
+use Rattle.std.specs.Prelude.{◌≡◌, ◌≢◌, ℕ, suc, ◌+◌, List, [], ◌∷◌, ◌++◌, map, filter, length, Bool, true, false, not, if◌then◌else◌, Option, Some, None, codes, AllPairs, Contains, ◌⊎◌}
+use Rattle.cdx_models.specs.declared.errors.Step.{Step}
+use Rattle.cdx_models.specs.declared.bom.SpecVersion.{SpecVersion}
+use Rattle.cdx_models.specs.declared.bom.SpecVersion.TheVariants.{V1_3, V1_4, V1_5}
+use Rattle.cdx_models.specs.Trees.{Name, component, Tree, absent, text, number, boolean, items, fields, Trees, none, more, field}
+use Rattle.cdx_schema.specs.Kinds.{Kind, a_bill, Row}
+use Rattle.cdx_schema.specs.Held.{held_kind}
+use Rattle.cdx_schema.specs.Table.{rows}
+use Rattle.cdx_schema.specs.Faults.{to_member, to_item}
+use Rattle.cdx_schema.specs.Keeping.{keep}
+use Rattle.cdx_schema.specs.Laws.{HasBillShape}
+use Rattle.cdx_ways.specs.Ways.{At, behind_step, behind_row, behind_choice, begins, found}
+
+-- ---- the components
+
+abbrev pub is_component : Name → Bool
+is_component component = true
+is_component _ = false
+
+-- a component itself, before what stands inside it
+abbrev pub itself : Name → Trees → List (At Tree)
+itself n ts = if is_component n then ([], fields n ts) ∷ [] else []
+
+-- The components of a tree of a kind, in the order of rows and items.
+unfoldable mutual
+  pub listed_in : Tree → Kind → List (At Tree)
+  listed_in absent k = []
+  listed_in (text s) k = []
+  listed_in (number n) k = []
+  listed_in (boolean b) k = []
+  listed_in (items ts) k = items_listed ts (held_kind k) 0
+  listed_in (fields n ts) k = itself n ts ++ behind_choice k n (rows_listed ts (rows n))
+
+  pub items_listed : Trees → Kind → ℕ → List (At Tree)
+  items_listed none k i = []
+  items_listed (more t ts) k i = behind_step (to_item i) (listed_in t k) ++ items_listed ts k (suc i)
+
+  pub rows_listed : Trees → List Row → List (At Tree)
+  rows_listed none rs = []
+  rows_listed (more t ts) [] = []
+  rows_listed (more t ts) (r ∷ rs) = behind_row r.json (listed_in t r.kind) ++ rows_listed ts rs
+
+-- The components of a bill, each with its path. A component comes before what stands inside it.
+abbrev pub listed : Tree → List (At Tree)
+listed b = listed_in b a_bill
+
+-- ---- what a component is called
+
+abbrev pub parts : Tree → Trees
+parts (fields n ts) = ts
+parts _ = none
+
+abbrev pub text_of : Tree → List ℕ
+text_of (text s) = s
+text_of _ = []
+
+abbrev pub text_there : Tree → Option (List ℕ)
+text_there (text s) = Some s
+text_there _ = None
+
+-- the places of a component's rows
+abbrev pub the_name : ℕ
+the_name = 7
+
+abbrev pub the_version : ℕ
+the_version = 8
+
+abbrev pub the_licenses : ℕ
+the_licenses = 12
+
+abbrev pub name_of : Tree → List ℕ
+name_of c = text_of (field the_name (parts c))
+
+-- the version, where there is one
+abbrev pub version_of : Tree → Option (List ℕ)
+version_of c = text_there (field the_version (parts c))
+
+-- ---- the laws
+
+-- No two components have the same path, each path leads in the bill to its component, and nothing but components is
+-- listed.
+abbrev pub ListsPaths : Type 0
+ListsPaths = (b : Tree) → HasBillShape b
+    → AllPairs (λ x y. x.0 ≢ y.0) (listed b)
+    × ((p : List Step) (c : Tree) → Contains (listed b) (p, c) → (found b a_bill p ≡ Some c) × ((ts : Trees) × (c ≡ fields component ts)))
+
+-- The tree c stands somewhere in a tree.
+abbrev mutual
+  pub IsIn : Tree → Tree → Type 0
+  IsIn c absent = c ≡ absent
+  IsIn c (text s) = c ≡ text s
+  IsIn c (number n) = c ≡ number n
+  IsIn c (boolean b) = c ≡ boolean b
+  IsIn c (items ts) = (c ≡ items ts) ⊎ IsInOne c ts
+  IsIn c (fields n ts) = (c ≡ fields n ts) ⊎ IsInOne c ts
+
+  pub IsInOne : Tree → Trees → Type 0
+  IsInOne c none = ⊥
+  IsInOne c (more t ts) = IsIn c t ⊎ IsInOne c ts
+
+-- how many components stand in a tree, whatever its rows are
+unfoldable mutual
+  pub count_in : Tree → ℕ
+  count_in absent = 0
+  count_in (text s) = 0
+  count_in (number n) = 0
+  count_in (boolean b) = 0
+  count_in (items ts) = count_of ts
+  count_in (fields n ts) = (if is_component n then 1 else 0) + count_of ts
+
+  pub count_of : Trees → ℕ
+  count_of none = 0
+  count_of (more t ts) = count_in t + count_of ts
+
+-- Every component of a bill is listed, under every path that leads to it, and there are as many paths as components. So
+-- one that stands at several places is listed for each.
+abbrev pub ListsAll : Type 0
+ListsAll = (b : Tree) → HasBillShape b
+    → ((ts : Trees) → IsIn (fields component ts) b → (p : List Step) × Contains (listed b) (p, fields component ts))
+    × ((p : List Step) (ts : Trees) → found b a_bill p ≡ Some (fields component ts) → Contains (listed b) (p, fields component ts))
+    × (length (listed b) ≡ count_in b)
+
+-- what stays of a component: its path, its name and its version
+pub record Known : Type 0 where
+  pub path : List Step
+  pub name : List ℕ
+  pub version : Option (List ℕ)
+
+abbrev pub known : At Tree → Known
+known x = record { path = x.0; name = name_of x.1; version = version_of x.1 }
+
+abbrev pub the_tools : List Step
+the_tools = to_member (codes "metadata") ∷ to_member (codes "tools") ∷ []
+
+abbrev pub is_outside : List Step → At Tree → Bool
+is_outside p x = not (begins p x.0)
+
+-- Before 1.5 there is no tools object.
+abbrev pub outside_tools : SpecVersion → List (At Tree) → List (At Tree)
+outside_tools V1_3 xs = filter (is_outside the_tools) xs
+outside_tools V1_4 xs = filter (is_outside the_tools) xs
+outside_tools V1_5 xs = xs
+
+-- What a version keeps lists the components at the same paths in the same order, save those of a tools object before
+-- 1.5. Their names and versions stay.
+abbrev pub ListsKept : Type 0
+ListsKept = (b : Tree) (w : SpecVersion) → HasBillShape b
+    → map known (listed (keep w b a_bill)) ≡ map known (outside_tools w (listed b))
