@@ -38,7 +38,8 @@ fn echoed(alloc: Global, bytes: &[u8]) -> Result<String, u8> {
 
 // The value's compact text, which the contract tells where it holds no float, and a line feed.
 fn printed(alloc: Global, value: &Value) -> Result<String, AllocError>
-    ensures { IfOk result (λ t. has_float (view value.now) ≡ false → string_bytes t ≡ compact_text (view value.now) ++ 10 ∷ []) }
+    ensures { IfOk result (λ t. has_float (view value.now) ≡ false
+        → string_bytes t ≡ compact_text (view value.now) ++ 10 ∷ []) }
 {
     let mut text = value.to_string(alloc)?;
     text.push('\n')?;
