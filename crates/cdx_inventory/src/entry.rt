@@ -8,7 +8,9 @@ use cdx_models::Path;
 pub struct Entry {
     /// Where it stands in the bill, by the JSON names of members and the numbers of items.
     pub path: Path,
+    /// Its name.
     pub name: Text,
+    /// Its version, where it has one.
     pub version: Option<Text>,
     /// The texts of its licenses, in order: of a license its id or name, of an expression its text. Those in its evidence
     /// don't count.

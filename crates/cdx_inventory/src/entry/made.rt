@@ -1,3 +1,5 @@
+//! What an inventory tells, out of a component.
+
 ghost use Rattle.std.specs.Prelude.{◌≡◌, List, IfOk};
 ghost use Rattle.cdx_models.specs.declared.errors.Step.{Step};
 ghost use Rattle.cdx_models.specs.Trees.{present, each};
