@@ -49,18 +49,18 @@ module _ (as' : List OwnedAttribute) (v : SpecVersion) (el : List ℕ) (p : ℕ)
   later_fails r rs t e q is h = then_fails e q (row_attribute r as' v el p) t (λ t. attributes_read rs as' v el p >>= λ ts. Ok (more t ts)) is (first_fails e q (attributes_read rs as' v el p) (λ ts. Ok (more t ts)) h)
 
   -- a text that has to be there
-  pub must_row : (name : List ℕ) (j : Member) (t : List ℕ) → or_fault (find_attribute name as') (lacking p el name) ≡ Ok t → row_attribute (text_row name j V1_3 required) as' v el p ≡ Ok (text t)
-  must_row name j t e = required_text (text_row name j V1_3 required) refl refl name v el p (find_attribute name as') ∙ ap (λ x. x >>= λ s. Ok (text s)) e
+  pub must_row : (name : List ℕ) (j : Member) (t : List ℕ) → or_fault (find_attribute name as') (lacking p el name) ≡ Ok t → row_attribute (text_row name j None V1_3 required) as' v el p ≡ Ok (text t)
+  must_row name j t e = required_text (text_row name j None V1_3 required) refl refl name v el p (find_attribute name as') ∙ ap (λ x. x >>= λ s. Ok (text s)) e
 
-  pub must_row_fails : (name : List ℕ) (j : Member) (e : XmlReadError) (q : ℕ) → Fails e q (or_fault (find_attribute name as') (lacking p el name)) → Fails e q (row_attribute (text_row name j V1_3 required) as' v el p)
-  must_row_fails name j e q h = subst (λ x. Fails e q x) (sym (required_text (text_row name j V1_3 required) refl refl name v el p (find_attribute name as'))) (first_fails e q (or_fault (find_attribute name as') (lacking p el name)) (λ s. Ok (text s)) h)
+  pub must_row_fails : (name : List ℕ) (j : Member) (e : XmlReadError) (q : ℕ) → Fails e q (or_fault (find_attribute name as') (lacking p el name)) → Fails e q (row_attribute (text_row name j None V1_3 required) as' v el p)
+  must_row_fails name j e q h = subst (λ x. Fails e q x) (sym (required_text (text_row name j None V1_3 required) refl refl name v el p (find_attribute name as'))) (first_fails e q (or_fault (find_attribute name as') (lacking p el name)) (λ s. Ok (text s)) h)
 
   -- a text that may be there, where the version knows it
-  pub maybe_row : (name : List ℕ) (j : Member) (since : SpecVersion) (x : Option (List ℕ)) → x ≡ known since v (find_attribute name as') → row_attribute (text_row name j since optional) as' v el p ≡ Ok (present text x)
-  maybe_row name j since x e = go (knows since v) ∙ ap (λ o. Ok (present text o)) (sym e)
+  pub maybe_row : {old : Option (List ℕ)} (name : List ℕ) (j : Member) (since : SpecVersion) (x : Option (List ℕ)) → x ≡ known since v (find_attribute name as') → row_attribute (text_row name j old since optional) as' v el p ≡ Ok (present text x)
+  maybe_row {old} name j since x e = go (knows since v) ∙ ap (λ o. Ok (present text o)) (sym e)
     where
-      go : (b : Bool) → (if b then attribute_read (find_attribute name as') name (text_row name j since optional) v el p else Ok absent) ≡ Ok (present text (if b then find_attribute name as' else None))
-      go true = optional_text_is (text_row name j since optional) refl refl name v el p (find_attribute name as')
+      go : (b : Bool) → (if b then attribute_read (find_attribute name as') name (text_row name j old since optional) v el p else Ok absent) ≡ Ok (present text (if b then find_attribute name as' else None))
+      go true = optional_text_is (text_row name j old since optional) refl refl name v el p (find_attribute name as')
       go false = refl
 
   -- a value that may be there
@@ -90,6 +90,6 @@ or_fault_err (Some x) fault f e = absurd cc
 
 -- An attribute that has to be there stands before the text.
 pub text_first : (as' : List OwnedAttribute) (v : SpecVersion) (el : List ℕ) (p : ℕ) (name : List ℕ) (j : Member) (other : Row) → row_attribute other as' v el p ≡ Ok absent → (place : ℕ) (r : Result (List ℕ) XmlReadError)
-    → Gives (λ t. t) place (or_fault (find_attribute name as') (lacking p el name)) r → Gives text_alone place (attributes_read (text_row name j V1_3 required ∷ other ∷ []) as' v el p) r
-text_first as' v el p name j other alone place (Ok s) h = row_ok as' v el p (text_row name j V1_3 required) (other ∷ []) (text s) (more absent none) (must_row as' v el p name j s h) (row_ok as' v el p other [] absent none alone (rows_end as' v el p))
-text_first as' v el p name j other alone place (Err e) h = row_fails as' v el p (text_row name j V1_3 required) (other ∷ []) e place (must_row_fails as' v el p name j e place h)
+    → Gives (λ t. t) place (or_fault (find_attribute name as') (lacking p el name)) r → Gives text_alone place (attributes_read (text_row name j None V1_3 required ∷ other ∷ []) as' v el p) r
+text_first as' v el p name j other alone place (Ok s) h = row_ok as' v el p (text_row name j None V1_3 required) (other ∷ []) (text s) (more absent none) (must_row as' v el p name j s h) (row_ok as' v el p other [] absent none alone (rows_end as' v el p))
+text_first as' v el p name j other alone place (Err e) h = row_fails as' v el p (text_row name j None V1_3 required) (other ∷ []) e place (must_row_fails as' v el p name j e place h)

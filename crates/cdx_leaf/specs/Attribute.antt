@@ -26,11 +26,11 @@ Gives view place denoted (Err e) = Fails e place denoted
 abbrev pub known : {A : Type 0} → SpecVersion → SpecVersion → Option A → Option A
 known since v o = if knows since v then o else None
 
-abbrev pub text_row : List ℕ → Member → SpecVersion → Need → Row
-text_row name j since need = record { kind = a_text; xml = attribute name; json = j; since = since; need = need }
+abbrev pub text_row : List ℕ → Member → Option (List ℕ) → SpecVersion → Need → Row
+text_row name j old since need = record { kind = a_text; xml = attribute name; json = j; old_name = old; since = since; need = need }
 
 abbrev pub value_of : Kind → List ℕ → Member → Row
-value_of k name j = record { kind = k; xml = attribute name; json = j; since = V1_3; need = optional }
+value_of k name j = record { kind = k; xml = attribute name; json = j; old_name = None; since = V1_3; need = optional }
 
 -- what the attributes of a record's element give, for an element of this name whose start stands at this place
 abbrev pub start_read : Name → SpecVersion → List ℕ → List OwnedAttribute → ℕ → Result Trees XmlReadError

@@ -300,17 +300,17 @@ hollow_diff_and_source_found : are_found (xs V1_5 ∷ []) (bill_of "{\"bomFormat
 unfolding reading_on_literals serde_json_on_literals on_reports
 hollow_diff_and_source_found = refl
 
-signature_by_xml : report "{\"bomFormat\":\"CycloneDX\",\"specVersion\":\"1.5\",\"version\":1,\"signature\":{\"algorithm\":\"ES256\",\"value\":\"v\"}}" V1_5 (xs V1_5 ∷ []) ≡ says "{\"losses\":[{\"path\":\"/signature\",\"reason\":\"xml\"}]}"
+signature_in_xml : report "{\"bomFormat\":\"CycloneDX\",\"specVersion\":\"1.5\",\"version\":1,\"signature\":{\"algorithm\":\"ES256\",\"value\":\"v\"}}" V1_5 (xs V1_5 ∷ []) ≡ says "{\"losses\":[]}"
 unfolding reading_on_literals serde_json_on_literals on_reports
-signature_by_xml = refl
+signature_in_xml = refl
 
-signature_by_xml_less : are_struck_well (xs V1_5) ([]) (bill_of "{\"bomFormat\":\"CycloneDX\",\"specVersion\":\"1.5\",\"version\":1,\"signature\":{\"algorithm\":\"ES256\",\"value\":\"v\"}}" V1_5) ≡ true
+signature_in_xml_less : are_struck_well (xs V1_5) ([]) (bill_of "{\"bomFormat\":\"CycloneDX\",\"specVersion\":\"1.5\",\"version\":1,\"signature\":{\"algorithm\":\"ES256\",\"value\":\"v\"}}" V1_5) ≡ true
 unfolding reading_on_literals serde_json_on_literals on_reports
-signature_by_xml_less = refl
+signature_in_xml_less = refl
 
-signature_by_xml_found : are_found (xs V1_5 ∷ []) (bill_of "{\"bomFormat\":\"CycloneDX\",\"specVersion\":\"1.5\",\"version\":1,\"signature\":{\"algorithm\":\"ES256\",\"value\":\"v\"}}" V1_5) ≡ true
+signature_in_xml_found : are_found (xs V1_5 ∷ []) (bill_of "{\"bomFormat\":\"CycloneDX\",\"specVersion\":\"1.5\",\"version\":1,\"signature\":{\"algorithm\":\"ES256\",\"value\":\"v\"}}" V1_5) ≡ true
 unfolding reading_on_literals serde_json_on_literals on_reports
-signature_by_xml_found = refl
+signature_in_xml_found = refl
 
 signature_by_version : report "{\"bomFormat\":\"CycloneDX\",\"specVersion\":\"1.5\",\"version\":1,\"signature\":{\"algorithm\":\"ES256\",\"value\":\"v\"}}" V1_5 (xs V1_5 ∷ js V1_3 ∷ []) ≡ says "{\"losses\":[{\"path\":\"/signature\",\"reason\":\"version\"}]}"
 unfolding reading_on_literals serde_json_on_literals on_reports
@@ -360,7 +360,7 @@ signers_in_xml_found : are_found (xs V1_4 ∷ []) (bill_of "{\"bomFormat\":\"Cyc
 unfolding reading_on_literals serde_json_on_literals on_reports
 signers_in_xml_found = refl
 
-licenses_of_components : report "{\"bomFormat\":\"CycloneDX\",\"specVersion\":\"1.5\",\"version\":1,\"components\":[{\"type\":\"library\",\"name\":\"a\",\"licenses\":[{\"license\":{\"bomRef\":\"l\",\"id\":\"MIT\",\"properties\":[]}},{\"expression\":\"X\",\"bomRef\":\"e\"},{\"license\":{\"name\":\"N\",\"bomRef\":\"m\"}}]}]}" V1_5 (js V1_4 ∷ []) ≡ says "{\"losses\":[{\"path\":\"/components/0/licenses/0/license/bomRef\",\"reason\":\"version\"},{\"path\":\"/components/0/licenses/0/license/properties\",\"reason\":\"version\"},{\"path\":\"/components/0/licenses/2/license/bomRef\",\"reason\":\"version\"}]}"
+licenses_of_components : report "{\"bomFormat\":\"CycloneDX\",\"specVersion\":\"1.5\",\"version\":1,\"components\":[{\"type\":\"library\",\"name\":\"a\",\"licenses\":[{\"license\":{\"bomRef\":\"l\",\"id\":\"MIT\",\"properties\":[]}},{\"expression\":\"X\",\"bomRef\":\"e\"},{\"license\":{\"name\":\"N\",\"bomRef\":\"m\"}}]}]}" V1_5 (js V1_4 ∷ []) ≡ says "{\"losses\":[{\"path\":\"/components/0/licenses/0/license/bom-ref\",\"reason\":\"version\"},{\"path\":\"/components/0/licenses/0/license/properties\",\"reason\":\"version\"},{\"path\":\"/components/0/licenses/2/license/bom-ref\",\"reason\":\"version\"}]}"
 unfolding reading_on_literals serde_json_on_literals on_reports
 licenses_of_components = refl
 
@@ -372,7 +372,7 @@ licenses_of_components_found : are_found (js V1_4 ∷ []) (bill_of "{\"bomFormat
 unfolding reading_on_literals serde_json_on_literals on_reports
 licenses_of_components_found = refl
 
-licenses_of_evidence : report "{\"bomFormat\":\"CycloneDX\",\"specVersion\":\"1.5\",\"version\":1,\"components\":[{\"type\":\"library\",\"name\":\"a\",\"evidence\":{\"licenses\":[{\"license\":{\"bomRef\":\"l\",\"id\":\"MIT\",\"properties\":[]}},{\"expression\":\"X\",\"bomRef\":\"e\"},{\"license\":{\"name\":\"N\",\"bomRef\":\"m\"}}]}}]}" V1_5 (xs V1_4 ∷ []) ≡ says "{\"losses\":[{\"path\":\"/components/0/evidence/licenses/0/license/bomRef\",\"reason\":\"version\"},{\"path\":\"/components/0/evidence/licenses/0/license/properties\",\"reason\":\"version\"},{\"path\":\"/components/0/evidence/licenses/2/license/bomRef\",\"reason\":\"version\"}]}"
+licenses_of_evidence : report "{\"bomFormat\":\"CycloneDX\",\"specVersion\":\"1.5\",\"version\":1,\"components\":[{\"type\":\"library\",\"name\":\"a\",\"evidence\":{\"licenses\":[{\"license\":{\"bomRef\":\"l\",\"id\":\"MIT\",\"properties\":[]}},{\"expression\":\"X\",\"bomRef\":\"e\"},{\"license\":{\"name\":\"N\",\"bomRef\":\"m\"}}]}}]}" V1_5 (xs V1_4 ∷ []) ≡ says "{\"losses\":[{\"path\":\"/components/0/evidence/licenses/0/license/bom-ref\",\"reason\":\"version\"},{\"path\":\"/components/0/evidence/licenses/0/license/properties\",\"reason\":\"version\"},{\"path\":\"/components/0/evidence/licenses/2/license/bom-ref\",\"reason\":\"version\"}]}"
 unfolding reading_on_literals serde_json_on_literals on_reports
 licenses_of_evidence = refl
 
@@ -384,7 +384,7 @@ licenses_of_evidence_found : are_found (xs V1_4 ∷ []) (bill_of "{\"bomFormat\"
 unfolding reading_on_literals serde_json_on_literals on_reports
 licenses_of_evidence_found = refl
 
-licenses_of_metadata_and_services : report "{\"bomFormat\":\"CycloneDX\",\"specVersion\":\"1.5\",\"version\":1,\"metadata\":{\"licenses\":[{\"license\":{\"bomRef\":\"l\",\"id\":\"MIT\",\"properties\":[]}},{\"expression\":\"X\",\"bomRef\":\"e\"},{\"license\":{\"name\":\"N\",\"bomRef\":\"m\"}}]},\"services\":[{\"name\":\"s\",\"licenses\":[{\"license\":{\"bomRef\":\"l\",\"id\":\"MIT\",\"properties\":[]}},{\"expression\":\"X\",\"bomRef\":\"e\"},{\"license\":{\"name\":\"N\",\"bomRef\":\"m\"}}]}]}" V1_5 (js V1_3 ∷ []) ≡ says "{\"losses\":[{\"path\":\"/metadata/licenses/0/license/bomRef\",\"reason\":\"version\"},{\"path\":\"/metadata/licenses/0/license/properties\",\"reason\":\"version\"},{\"path\":\"/metadata/licenses/2/license/bomRef\",\"reason\":\"version\"},{\"path\":\"/services/0/licenses/0/license/bomRef\",\"reason\":\"version\"},{\"path\":\"/services/0/licenses/0/license/properties\",\"reason\":\"version\"},{\"path\":\"/services/0/licenses/2/license/bomRef\",\"reason\":\"version\"}]}"
+licenses_of_metadata_and_services : report "{\"bomFormat\":\"CycloneDX\",\"specVersion\":\"1.5\",\"version\":1,\"metadata\":{\"licenses\":[{\"license\":{\"bomRef\":\"l\",\"id\":\"MIT\",\"properties\":[]}},{\"expression\":\"X\",\"bomRef\":\"e\"},{\"license\":{\"name\":\"N\",\"bomRef\":\"m\"}}]},\"services\":[{\"name\":\"s\",\"licenses\":[{\"license\":{\"bomRef\":\"l\",\"id\":\"MIT\",\"properties\":[]}},{\"expression\":\"X\",\"bomRef\":\"e\"},{\"license\":{\"name\":\"N\",\"bomRef\":\"m\"}}]}]}" V1_5 (js V1_3 ∷ []) ≡ says "{\"losses\":[{\"path\":\"/metadata/licenses/0/license/bom-ref\",\"reason\":\"version\"},{\"path\":\"/metadata/licenses/0/license/properties\",\"reason\":\"version\"},{\"path\":\"/metadata/licenses/2/license/bom-ref\",\"reason\":\"version\"},{\"path\":\"/services/0/licenses/0/license/bom-ref\",\"reason\":\"version\"},{\"path\":\"/services/0/licenses/0/license/properties\",\"reason\":\"version\"},{\"path\":\"/services/0/licenses/2/license/bom-ref\",\"reason\":\"version\"}]}"
 unfolding reading_on_literals serde_json_on_literals on_reports
 licenses_of_metadata_and_services = refl
 
@@ -408,7 +408,7 @@ licenses_in_1_5_found : are_found (xs V1_5 ∷ []) (bill_of "{\"bomFormat\":\"Cy
 unfolding reading_on_literals serde_json_on_literals on_reports
 licenses_in_1_5_found = refl
 
-compositions : report "{\"bomFormat\":\"CycloneDX\",\"specVersion\":\"1.5\",\"version\":1,\"compositions\":[{\"aggregate\":\"a\"},{\"bomRef\":\"c\",\"aggregate\":\"b\",\"vulnerabilities\":[\"v\"],\"signature\":{\"algorithm\":\"ES256\",\"value\":\"v\"}}]}" V1_5 (js V1_3 ∷ []) ≡ says "{\"losses\":[{\"path\":\"/compositions/1/bomRef\",\"reason\":\"version\"},{\"path\":\"/compositions/1/vulnerabilities\",\"reason\":\"version\"},{\"path\":\"/compositions/1/signature\",\"reason\":\"version\"}]}"
+compositions : report "{\"bomFormat\":\"CycloneDX\",\"specVersion\":\"1.5\",\"version\":1,\"compositions\":[{\"aggregate\":\"a\"},{\"bomRef\":\"c\",\"aggregate\":\"b\",\"vulnerabilities\":[\"v\"],\"signature\":{\"algorithm\":\"ES256\",\"value\":\"v\"}}]}" V1_5 (js V1_3 ∷ []) ≡ says "{\"losses\":[{\"path\":\"/compositions/1/bom-ref\",\"reason\":\"version\"},{\"path\":\"/compositions/1/vulnerabilities\",\"reason\":\"version\"},{\"path\":\"/compositions/1/signature\",\"reason\":\"version\"}]}"
 unfolding reading_on_literals serde_json_on_literals on_reports
 compositions = refl
 
@@ -420,7 +420,7 @@ compositions_found : are_found (js V1_3 ∷ []) (bill_of "{\"bomFormat\":\"Cyclo
 unfolding reading_on_literals serde_json_on_literals on_reports
 compositions_found = refl
 
-compositions_in_1_4 : report "{\"bomFormat\":\"CycloneDX\",\"specVersion\":\"1.5\",\"version\":1,\"compositions\":[{\"bomRef\":\"c\",\"aggregate\":\"b\",\"vulnerabilities\":[\"v\"],\"signature\":{\"algorithm\":\"ES256\",\"value\":\"v\"}}]}" V1_5 (xs V1_4 ∷ []) ≡ says "{\"losses\":[{\"path\":\"/compositions/0/bomRef\",\"reason\":\"version\"},{\"path\":\"/compositions/0/vulnerabilities\",\"reason\":\"version\"}]}"
+compositions_in_1_4 : report "{\"bomFormat\":\"CycloneDX\",\"specVersion\":\"1.5\",\"version\":1,\"compositions\":[{\"bomRef\":\"c\",\"aggregate\":\"b\",\"vulnerabilities\":[\"v\"],\"signature\":{\"algorithm\":\"ES256\",\"value\":\"v\"}}]}" V1_5 (xs V1_4 ∷ []) ≡ says "{\"losses\":[{\"path\":\"/compositions/0/bom-ref\",\"reason\":\"version\"},{\"path\":\"/compositions/0/vulnerabilities\",\"reason\":\"version\"}]}"
 unfolding reading_on_literals serde_json_on_literals on_reports
 compositions_in_1_4 = refl
 

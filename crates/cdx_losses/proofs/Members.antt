@@ -7,7 +7,7 @@ use Rattle.cdx_models.specs.declared.bom.SpecVersion.{SpecVersion}
 use Rattle.cdx_models.specs.declared.bom.SpecVersion.TheVariants.{V1_3, V1_4, V1_5}
 use Rattle.cdx_models.specs.Versions.{knows, is_first}
 use Rattle.cdx_models.specs.Trees.{Name, hash, license, spdx_id, license_name, Tree, absent, text, number, boolean, items, fields, Trees, none, more, is_absent}
-use Rattle.cdx_schema.specs.Kinds.{Kind, a_text, a_record, a_license_choice, a_license_identifier, Spelled, attribute, attribute_or, content, one_text, as_cdata, child, filled_child, read_child, children, either_child, the_version, Row}
+use Rattle.cdx_schema.specs.Kinds.{Kind, a_text, a_record, a_license_choice, a_license_identifier, Spelled, attribute, attribute_or, content, one_text, as_cdata, child, filled_child, children, either_child, the_version, Row}
 use Rattle.cdx_schema.specs.Kinds as kinds
 use Rattle.cdx_schema.specs.Table.{rows}
 use Rattle.cdx_schema.specs.Faults.{to_member}
@@ -142,7 +142,6 @@ differ_rest r rs h = (and_true (is_new r.kind r.json rs) (members_differ rs) h).
 -- A trip looks into the row's field and doesn't take it.
 abbrev pub is_steady : Spelled → Bool
 is_steady (filled_child q) = false
-is_steady (read_child q) = false
 is_steady (children q) = false
 is_steady _ = true
 
@@ -151,7 +150,6 @@ steady_after r t u h = by r.xml h
   where
     by : (x : Spelled) → is_steady x ≡ true → field_after (record r { xml = x }) t u ≡ u
     by (filled_child q) e = absurd (true≢false (sym e))
-    by (read_child q) e = absurd (true≢false (sym e))
     by (children q) e = absurd (true≢false (sym e))
     by (attribute q) e = refl
     by (attribute_or q m) e = refl

@@ -6,7 +6,7 @@ use Rattle.cdx_models.specs.declared.bom.SpecVersion.{SpecVersion}
 use Rattle.cdx_models.specs.declared.bom.SpecVersion.TheVariants.{V1_3, V1_4, V1_5}
 use Rattle.cdx_models.specs.Versions.{knows}
 use Rattle.cdx_models.specs.Trees.{Name, hash, classification, service_data, tools_object, Tree, absent, text, number, boolean, items, fields, Trees, none, more, two, field, is_absent, all_absent}
-use Rattle.cdx_schema.specs.Kinds.{Kind, a_text, a_record, a_license_choice, a_license_identifier, a_tools, an_entry, a_signature, a_bill, Need, optional, Spelled, attribute, attribute_or, content, one_text, as_cdata, child, filled_child, read_child, children, either_child, the_version, Row}
+use Rattle.cdx_schema.specs.Kinds.{Kind, a_text, a_record, a_license_choice, a_license_identifier, a_tools, an_entry, a_signature, a_bill, Need, optional, Spelled, attribute, attribute_or, content, one_text, as_cdata, child, filled_child, children, either_child, the_version, Row}
 use Rattle.cdx_schema.specs.Held.{held_kind}
 use Rattle.cdx_schema.specs.Table.{rows}
 use Rattle.cdx_schema.specs.Keeping.{kept, items_kept, rows_kept, kept_record, before_1_5}
@@ -137,7 +137,6 @@ first_trip r t u = by r.xml
 
     by : (x : Spelled) → (field_after (record r { xml = x }) t u ≡ absent) ⊎ (field_after (record r { xml = x }) t u ≡ u)
     by (filled_child q) = hollow (is_hollow t)
-    by (read_child q) = inl refl
     by (children q) = empty r.need u
     by (attribute q) = inr refl
     by (attribute_or q m) = inr refl

@@ -6,7 +6,7 @@ use Rattle.cdx_models.specs.declared.bom.SpecVersion.{SpecVersion}
 use Rattle.cdx_models.specs.declared.bom.SpecVersion.TheVariants.{V1_3, V1_4, V1_5}
 use Rattle.cdx_models.specs.Versions.{knows}
 use Rattle.cdx_models.specs.Trees.{Name, contact, classification, service_data, tools_object, Tree, absent, text, number, boolean, items, fields, Trees, none, more, two, field, is_absent}
-use Rattle.cdx_schema.specs.Kinds.{Kind, a_list, a_record, a_tools, an_entry, Need, optional, Spelled, attribute, attribute_or, content, one_text, as_cdata, child, filled_child, read_child, children, either_child, the_version, Row}
+use Rattle.cdx_schema.specs.Kinds.{Kind, a_list, a_record, a_tools, an_entry, Need, optional, Spelled, attribute, attribute_or, content, one_text, as_cdata, child, filled_child, children, either_child, the_version, Row}
 use Rattle.cdx_schema.specs.Table.{rows}
 use Rattle.cdx_schema.specs.Held.{held_kind}
 use Rattle.cdx_schema.specs.Keeping.{kept, items_kept, rows_kept, kept_record, before_1_5}
@@ -163,7 +163,6 @@ field_alike r t u x y s h e = by r.xml s
         at : (b : Bool) → settled (if b then absent else x) r.kind ≡ settled (if b then absent else y) r.kind
         at true = refl
         at false = e
-    by (read_child q) g = refl
     by (children q) g = none_settled r.need x r.kind g ∙ (ap (none_is_absent r.need) e ∙ sym (none_settled r.need y r.kind g))
     by (attribute q) g = e
     by (attribute_or q m) g = e

@@ -3,7 +3,7 @@ use Rattle.std.specs.Prelude.{◌≡◌, refl, ℕ, List, [], ◌∷◌, Bool, t
 use Rattle.std.proofs.Common.{true≢false, inl, inr}
 use mathlib.Core.Path.{ap, sym, ◌∙◌}
 use Rattle.cdx_models.specs.Trees.{Name, contact, entity, diff, source, evidence, Tree, absent, text, number, boolean, items, fields, Trees, none, more, is_absent}
-use Rattle.cdx_schema.specs.Kinds.{Kind, a_record, Need, optional, Spelled, attribute, attribute_or, content, one_text, as_cdata, child, filled_child, read_child, children, either_child, the_version, Row}
+use Rattle.cdx_schema.specs.Kinds.{Kind, a_record, Need, optional, Spelled, attribute, attribute_or, content, one_text, as_cdata, child, filled_child, children, either_child, the_version, Row}
 use Rattle.cdx_schema.specs.Table.{rows}
 use Rattle.cdx_schema.specs.Held.{held_kind}
 use Rattle.cdx_schema.specs.Membership.{AnyText, HasShape, HaveShape, FieldsHaveShape}
@@ -28,7 +28,6 @@ bare_there (fields n ts) = refl
 -- rows whose fields a trip looks into and never takes
 abbrev is_steady : Spelled → Bool
 is_steady (filled_child q) = false
-is_steady (read_child q) = false
 is_steady (children q) = false
 is_steady _ = true
 
@@ -41,7 +40,6 @@ steady_after r t u h = by r.xml h
   where
     by : (x : Spelled) → is_steady x ≡ true → field_after (record r { xml = x }) t u ≡ u
     by (filled_child q) e = absurd (true≢false (sym e))
-    by (read_child q) e = absurd (true≢false (sym e))
     by (children q) e = absurd (true≢false (sym e))
     by (attribute q) e = refl
     by (attribute_or q m) e = refl
@@ -121,7 +119,6 @@ field_twice r t s h e = by r.xml s
   where
     by : (x : Spelled) → sound_xml x r.need r.kind ≡ true → Twice x r (field_after (record r { xml = x }) t (bare t))
     by (filled_child q) g = filled_twice r t q (filled_whole r.need r.kind g) h e (is_hollow t) refl
-    by (read_child q) g = unfold unsupplied in refl
     by (children q) g = lists_twice r.need (bare t) e
     by (attribute q) g = e
     by (attribute_or q m) g = e

@@ -7,8 +7,8 @@ use Rattle.cdx_models.specs.declared.bom.SpecVersion.{SpecVersion}
 use Rattle.cdx_models.specs.declared.bom.SpecVersion.TheVariants.{V1_4, V1_5}
 use Rattle.cdx_models.specs.Versions.{knows, label, namespace}
 use Rattle.cdx_models.specs.Trees.{bill, metadata, Tree, absent, text, number, fields, Trees, none, more, two}
-use Rattle.cdx_schema.specs.Kinds.{Row, lax, Spelled, attribute, content, one_text, as_cdata, child, filled_child, children, either_child, a_text, a_number, a_version, a_bill, a_list, a_record, a_signature, components, services, external_references, dependencies, compositions, properties, the_version, attribute_or, read_child}
-use Rattle.cdx_schema.specs.Table.{rows, rule, list, row, must, at, of, from}
+use Rattle.cdx_schema.specs.Kinds.{Row, lax, Spelled, attribute, content, one_text, as_cdata, child, filled_child, children, either_child, a_text, a_number, a_version, a_bill, a_list, a_record, a_signature, components, services, external_references, dependencies, compositions, properties, the_version, attribute_or}
+use Rattle.cdx_schema.specs.Table.{rows, rule, list, row, must, at, of, from, signature_row}
 use Rattle.cdx_schema.specs.Results.{◌>>=◌}
 use Rattle.cdx_schema.specs.Depth.{Depth}
 use Rattle.cdx_schema.specs.XmlTexts.{text_of, decimal, number_tree}
@@ -29,7 +29,7 @@ bill_rest = of (a_record metadata) "metadata"
     ∷ of (a_list dependencies) "dependencies"
     ∷ of (a_list compositions) "compositions"
     ∷ from V1_5 (of (a_list properties) "properties")
-    ∷ from V1_4 (row a_signature (read_child (codes "signature")) "signature")
+    ∷ signature_row
     ∷ []
 
 abbrev bill_front : List Row
@@ -56,7 +56,6 @@ row_bears_none r t h = by r.xml h
     by as_cdata e = refl
     by (child n) e = refl
     by (filled_child n) e = refl
-    by (read_child n) e = refl
     by (children n) e = refl
     by (either_child m n) e = refl
     by the_version e = refl

@@ -6,7 +6,7 @@ use Rattle.cdx_models.specs.declared.bom.SpecVersion.{SpecVersion}
 use Rattle.cdx_models.specs.declared.bom.SpecVersion.TheVariants.{V1_3, V1_4, V1_5}
 use Rattle.cdx_models.specs.Versions.{knows}
 use Rattle.cdx_models.specs.Trees.{Name, contact, entity, diff, source, evidence, service_data, tools_object, signer, signers, chain, Tree, absent, text, number, boolean, items, fields, Trees, none, more, field, is_absent}
-use Rattle.cdx_schema.specs.Kinds.{Kind, a_version, a_list, a_record, a_license_choice, a_license_identifier, a_tools, an_entry, a_signature, a_bill, Need, optional, Spelled, attribute, attribute_or, content, one_text, as_cdata, child, filled_child, read_child, children, either_child, the_version, Row}
+use Rattle.cdx_schema.specs.Kinds.{Kind, a_version, a_list, a_record, a_license_choice, a_license_identifier, a_tools, an_entry, a_signature, a_bill, Need, optional, Spelled, attribute, attribute_or, content, one_text, as_cdata, child, filled_child, children, either_child, the_version, Row}
 use Rattle.cdx_schema.specs.Table.{rows}
 use Rattle.cdx_schema.specs.Held.{held_kind}
 use Rattle.cdx_schema.specs.Keeping.{kept, items_kept, rows_kept, kept_text, kept_record, before_1_5}
@@ -178,7 +178,6 @@ gone_after r = by r.xml
   where
     by : (x : Spelled) → field_after (record r { xml = x }) absent absent ≡ absent
     by (filled_child q) = unfold is_hollow in refl
-    by (read_child q) = refl
     by (children q) = none_gone r.need
     by (attribute q) = refl
     by (attribute_or q m) = refl
@@ -223,7 +222,6 @@ field_commute w l r t s h e = by r.xml s
 
         at : (b c : Bool) → b ≡ c → (if b then absent else bare (kept w l t r.kind)) ≡ kept w l (if c then absent else bare t) r.kind
         at b c i = ap (λ x. if x then absent else bare (kept w l t r.kind)) i ∙ to c
-    by (read_child q) g = unfold kept in refl
     by (children q) g = ap (none_is_absent r.need) e ∙ none_kept w l r.need (bare t) r.kind g
     by (attribute q) g = e
     by (attribute_or q m) g = e

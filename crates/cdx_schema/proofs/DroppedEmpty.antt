@@ -7,7 +7,7 @@ use Rattle.cdx_models.specs.declared.bom.SpecVersion.{SpecVersion}
 use Rattle.cdx_models.specs.declared.bom.SpecVersion.TheVariants.{V1_5}
 use Rattle.cdx_models.specs.Versions.{knows}
 use Rattle.cdx_models.specs.Trees.{Name, hash, property, attached_text, contact, entity, commit, action, patch, diff, issue, source, reference, dependency, composition, license, expression, spdx_id, license_name, tool, component, swid, pedigree, evidence, copyright, service, classification, service_data, tools_object, metadata, signer, signers, chain, bill, Tree, absent, text, number, boolean, items, fields, Trees, none, more, one, is_absent}
-use Rattle.cdx_schema.specs.Kinds.{Lists, Kind, a_text, a_boolean, a_number, a_version, a_list, a_record, a_reference, a_license_choice, a_license_identifier, a_tools, a_data, an_entry, a_signature, a_bill, signer_list, chain_list, Spelled, attribute, attribute_or, content, one_text, as_cdata, child, filled_child, read_child, children, either_child, the_version, Need, optional, required, required_first, else_empty, Row}
+use Rattle.cdx_schema.specs.Kinds.{Lists, Kind, a_text, a_boolean, a_number, a_version, a_list, a_record, a_reference, a_license_choice, a_license_identifier, a_tools, a_data, an_entry, a_signature, a_bill, signer_list, chain_list, Spelled, attribute, attribute_or, content, one_text, as_cdata, child, filled_child, children, either_child, the_version, Need, optional, required, required_first, else_empty, Row}
 use Rattle.cdx_schema.specs.Table.{rows, list}
 use Rattle.cdx_models.specs.Entries.{is_flow}
 use Rattle.cdx_schema.specs.Depth.{Depth, inside}
@@ -282,7 +282,6 @@ abbrev is_sound : Kind → Spelled → Bool
 is_sound k (attribute n) = is_bare k
 is_sound k (attribute_or n m) = is_bare k
 is_sound k the_version = is_bare k
-is_sound k (read_child n) = is_signature k
 is_sound k (filled_child n) = is_frame_kind k
 is_sound k _ = true
 
@@ -337,7 +336,6 @@ row_back w d plan t r p clear sound finds held b its = by r.kind r.xml clear sou
     by k as_cdata c s f g e h = absurd (true≢false (sym c))
     by k (child n) c s f g e h = child_back w plan t k n n p e (tag_plain k t n c) f h
     by k (filled_child n) c s f g e h = filled k n (is_hollow t) refl s g (child_back w plan t k n n p e (tag_plain k t n c) f) h
-    by k (read_child n) c s f g e h = signed w d t k s g
     by k (children n) c s f g e h = lists k n c f g h
     by k the_version c s f g e h = bare_solid w k s d t g
     by k (either_child m n) c s f g e h = either k m n c f g e h

@@ -8,7 +8,7 @@ use Rattle.cdx_models.specs.declared.bom.SpecVersion.{SpecVersion}
 use Rattle.cdx_models.specs.declared.bom.SpecVersion.TheVariants.{V1_5}
 use Rattle.cdx_models.specs.Versions.{knows}
 use Rattle.cdx_models.specs.Trees.{Name, hash, property, attached_text, contact, entity, commit, action, patch, diff, issue, source, reference, dependency, composition, license, expression, spdx_id, license_name, tool, component, swid, pedigree, evidence, copyright, service, classification, service_data, tools_object, metadata, signer, signers, chain, bill, Tree, absent, text, number, boolean, items, fields, Trees, none, more, one, is_absent}
-use Rattle.cdx_schema.specs.Kinds.{Lists, Kind, a_text, a_boolean, a_number, a_version, a_list, a_record, a_reference, a_license_choice, a_license_identifier, a_tools, a_data, an_entry, a_signature, a_bill, Rule, Spelled, attribute, attribute_or, content, one_text, as_cdata, child, filled_child, read_child, children, either_child, the_version, Need, optional, required, required_first, else_empty, Row}
+use Rattle.cdx_schema.specs.Kinds.{Lists, Kind, a_text, a_boolean, a_number, a_version, a_list, a_record, a_reference, a_license_choice, a_license_identifier, a_tools, a_data, an_entry, a_signature, a_bill, Rule, Spelled, attribute, attribute_or, content, one_text, as_cdata, child, filled_child, children, either_child, the_version, Need, optional, required, required_first, else_empty, Row}
 use Rattle.cdx_schema.specs.Table.{rows, rule, list}
 use Rattle.cdx_schema.specs.Depth.{Depth, inside}
 use Rattle.cdx_schema.specs.Held.{held_kind}
@@ -280,7 +280,6 @@ row_whole w d plan t r clear known finds held full h its = by r.kind r.xml clear
     by k as_cdata c f g e = absurd (true≢false (sym c))
     by k (child n) c f g e = one_child w plan t k n n e (tag_plain k t n c) f
     by k (filled_child n) c f g e = filled (is_hollow t) (lone (wrapped t w n k (nodes_of t w k))) (one_child w plan t k n n e (tag_plain k t n c) f)
-    by k (read_child n) c f g e = nothing_none w plan
     by k (children n) c f g e = lists k n c f g
     by k the_version c f g e = nothing_none w plan
     by k (either_child m n) c f g e = either k m n c f g e

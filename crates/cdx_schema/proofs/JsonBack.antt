@@ -16,13 +16,14 @@ use Rattle.cdx_models.specs.declared.bom.SpecVersion.TheVariants.{V1_3, V1_4, V1
 use Rattle.cdx_models.specs.Versions.{knows, is_label}
 use Rattle.cdx_models.specs.Trees.{Name, hash, property, attached_text, contact, entity, commit, action, patch, diff, issue, source, reference, dependency, composition, license, expression, spdx_id, license_name, tool, component, swid, pedigree, evidence, copyright, service, classification, service_data, tools_object, metadata, signer, signers, chain, bill, Tree, absent, text, number, boolean, items, fields, Trees, none, more, one, two}
 use Rattle.cdx_schema.specs.Kinds.{properties, signer_list, chain_list, Kind, a_text, a_boolean, a_number, a_version, a_list, a_record, a_reference, a_license_choice, a_license_identifier, a_tools, a_data, an_entry, a_signature, a_bill, Member, member, merged, Need, optional, required, required_first, else_empty, child, either_child, content, children, Row}
-use Rattle.cdx_schema.specs.Table.{rows, from, of, at, row, must, old_reference}
+use Rattle.cdx_schema.specs.Table.{rows, from, of, at, row, must, respelled_reference}
 use Rattle.cdx_schema.specs.Results.{◌>>=◌}
 use Rattle.cdx_models.specs.declared.errors.Step.{Step}
 use Rattle.cdx_schema.specs.Faults.{JsonFault, to_member, under}
 use Rattle.cdx_schema.specs.Depth.{Depth, inside, name_too_deep}
-use Rattle.cdx_schema.specs.JsonReading.{Found, nothing, found, Object, jread, items_read, seen, as_found, rows_read, row_read, member_read, found_read, when_nothing, own_read, record_read, identifier_read, id_read, name_read, no_own, is_lone_license, choice_read, signature_read, chain_read, format_read}
+use Rattle.cdx_schema.specs.JsonReading.{Found, nothing, found, Object, jread, items_read, seen, as_found, rows_read, row_read, member_read, named_read, member_name, first_or_old, found_read, when_nothing, own_read, record_read, identifier_read, id_read, name_read, no_own, is_lone_license, choice_read, signature_read, chain_read, format_read}
 use Rattle.cdx_schema.specs.JsonSpelling.{jspell, items_spelled, members_spelled, own_members, is_written, stands, set_member, heading}
+use Rattle.cdx_schema.specs.RowLaws.{old_names}
 use Rattle.cdx_schema.specs.Membership.{Never, IsRecordOf, IsBooleanOf, IsListOf}
 use Rattle.cdx_models.specs.Entries.{is_flow, entry_of}
 use Rattle.cdx_schema.specs.Held.{held_kind}
@@ -54,13 +55,13 @@ abbrev pub distinct : List (List ℕ) → Bool
 distinct [] = true
 distinct (n ∷ ns) = not (is_in n ns) && distinct ns
 
-abbrev pub row_name : Member → List (List ℕ) → List (List ℕ)
-row_name (member n) own = n ∷ []
-row_name merged own = own
+abbrev pub row_names : Option (List ℕ) → Member → List (List ℕ) → List (List ℕ)
+row_names old (member n) own = n ∷ old_names old
+row_names old merged own = own
 
 abbrev pub plain_names : List Row → List (List ℕ)
 plain_names [] = []
-plain_names (r ∷ rs) = row_name r.json [] ++ plain_names rs
+plain_names (r ∷ rs) = row_names r.old_name r.json [] ++ plain_names rs
 
 abbrev pub own_names : Kind → List (List ℕ)
 own_names a_license_identifier = codes "id" ∷ codes "name" ∷ []
@@ -69,7 +70,7 @@ own_names _ = []
 
 abbrev pub names : List Row → List (List ℕ)
 names [] = []
-names (r ∷ rs) = row_name r.json (own_names r.kind) ++ names rs
+names (r ∷ rs) = row_names r.old_name r.json (own_names r.kind) ++ names rs
 
 abbrev pub are_distinct : Name → Bool
 are_distinct n = distinct (names (rows n))
@@ -197,14 +198,14 @@ own_name q an_entry n e h = absurd (true≢false e)
 own_name q a_signature n e h = absurd (true≢false e)
 own_name q a_bill n e h = absurd (true≢false e)
 
-pub left_at : (q : List ℕ) (b : Bool) (r : Row) (x : Data) (own : Members → Members) (ms : Members) → is_in q (row_name r.json (own_names r.kind)) ≡ false
+pub left_at : (q : List ℕ) (b : Bool) (r : Row) (x : Data) (own : Members → Members) (ms : Members) → is_in q (row_names r.old_name r.json (own_names r.kind)) ≡ false
     → (r.json ≡ merged → get_member q (own ms) ≡ get_member q ms)
     → get_member q (if b then set_member r.json x own ms else ms) ≡ get_member q ms
 left_at q false r x own ms h same = refl
 left_at q true r x own ms h same = by r.json h same
   where
-    by : (j : Member) → is_in q (row_name j (own_names r.kind)) ≡ false → (j ≡ merged → get_member q (own ms) ≡ get_member q ms) → get_member q (set_member j x own ms) ≡ get_member q ms
-    by (member n) h' same' = get_member-put_other q n x ms (other_name q n (or_false (bytes_eq q n) false h').0)
+    by : (j : Member) → is_in q (row_names r.old_name j (own_names r.kind)) ≡ false → (j ≡ merged → get_member q (own ms) ≡ get_member q ms) → get_member q (set_member j x own ms) ≡ get_member q ms
+    by (member n) h' same' = get_member-put_other q n x ms (other_name q n (or_false (bytes_eq q n) (is_in q (old_names r.old_name)) h').0)
     by merged h' same' = same' refl
 
 -- A name that no row has keeps what it has.
@@ -216,9 +217,9 @@ mutual
   other q none w rs ms own h = refl
   other q (more t ts) w [] ms own h = refl
   other q (more t ts) w (r ∷ rs) ms own h =
-      other q ts w rs _ own.1 (not_in_append q (row_name r.json (own_names r.kind)) (names rs) h).1
-      ∙ left_at q (stands r t w) r (jspell t w r.kind) (own_members t w) ms (not_in_append q (row_name r.json (own_names r.kind)) (names rs) h).0
-      (λ e. own_other q t w r.kind ms (subst (λ (j : Member). IsOwn t j r.kind) e own.0) (subst (λ (j : Member). is_in q (row_name j (own_names r.kind)) ≡ false) e (not_in_append q (row_name r.json (own_names r.kind)) (names rs) h).0))
+      other q ts w rs _ own.1 (not_in_append q (row_names r.old_name r.json (own_names r.kind)) (names rs) h).1
+      ∙ left_at q (stands r t w) r (jspell t w r.kind) (own_members t w) ms (not_in_append q (row_names r.old_name r.json (own_names r.kind)) (names rs) h).0
+      (λ e. own_other q t w r.kind ms (subst (λ (j : Member). IsOwn t j r.kind) e own.0) (subst (λ (j : Member). is_in q (row_names r.old_name j (own_names r.kind)) ≡ false) e (not_in_append q (row_names r.old_name r.json (own_names r.kind)) (names rs) h).0))
 
   own_other : (q : List ℕ) (t : Tree) (w : SpecVersion) (k : Kind) (ms : Members) → IsOwn t merged k → is_in q (own_names k) ≡ false
       → get_member q (own_members t w ms) ≡ get_member q ms
@@ -285,32 +286,74 @@ OwnBack own w none rs = Unit {0}
 OwnBack own w (more t ts) [] = Unit {0}
 OwnBack own w (more t ts) (r ∷ rs) = OwnAt r.json own r t w × OwnBack own w ts rs
 
-pub member_gets : (n : List ℕ) (own : Kind → Result Tree JsonFault) (w : SpecVersion) (d : Depth) (t : Tree) (r : Row) (ms final : Members)
-    → get_member n ms ≡ None
-    → get_member n final ≡ get_member n (if stands r t w then put n (jspell t w r.kind) ms else ms)
-    → ((is_written r.need t ≡ false) × (when_nothing r.need w ≡ Ok t)) ⊎ ((is_written r.need t ≡ true) × (as_found (jspell t w r.kind) (jread (jspell t w r.kind)) ≡ found (jread (jspell t w r.kind))) × (jread (jspell t w r.kind) w r.kind d ≡ Ok t))
-    → knows r.since w ≡ true
-    → under (to_member n) (found_read (seen final n) r w d) ≡ Ok t
-member_gets n own w d t r ms final clear is (inl h) known =
-    let at : get_member n final ≡ None = is ∙ (ap (get_member n) (if_false (stands r t w) (put n (jspell t w r.kind) ms) ms (rw (known, h.0) refl)) ∙ clear) in
-    under_ok (to_member n) _ t (ap (λ f. found_read f r w d) (seen_is final n ∙ ap as_seen at) ∙ h.1)
-member_gets n own w d t r ms final clear is (inr h) known =
-    let at : get_member n final ≡ Some (jspell t w r.kind) = is ∙ (ap (get_member n) (if_true (stands r t w) (put n (jspell t w r.kind) ms) ms (rw (known, h.0) refl)) ∙ get_member-put n (jspell t w r.kind) ms) in
-    under_ok (to_member n) _ t (ap (λ f. found_read f r w d) (seen_is final n ∙ (ap as_seen at ∙ h.1)) ∙ h.2)
+-- A row isn't written and stands for nothing, or it is written and read back.
+abbrev pub IsSpelled : SpecVersion → Depth → Tree → Row → Type 0
+IsSpelled w d t r = ((is_written r.need t ≡ false) × (when_nothing r.need w ≡ Ok t))
+    ⊎ ((is_written r.need t ≡ true) × (as_found (jspell t w r.kind) (jread (jspell t w r.kind)) ≡ found (jread (jspell t w r.kind))) × (jread (jspell t w r.kind) w r.kind d ≡ Ok t))
+
+-- a name under which the row was set, if it stands
+abbrev pub IsSetAt : List ℕ → SpecVersion → Tree → Row → Members → Members → Type 0
+IsSetAt n w t r ms final = get_member n final ≡ get_member n (if stands r t w then put n (jspell t w r.kind) ms else ms)
+
+-- what is read under a name of which there is nothing
+pub nothing_gets : (n : List ℕ) (w : SpecVersion) (d : Depth) (t : Tree) (r : Row) (final : Members) → get_member n final ≡ None → when_nothing r.need w ≡ Ok t → named_read n (seen final) r w d ≡ Ok t
+nothing_gets n w d t r final at h = under_ok (to_member n) _ t (ap (λ f. found_read f r w d) (seen_is final n ∙ ap as_seen at) ∙ h)
+
+-- An old name has nothing, and the row is read under it only where the first has nothing.
+pub named_gets : (n : List ℕ) (old : Option (List ℕ)) (w : SpecVersion) (d : Depth) (t : Tree) (r : Row) (ms final : Members)
+    → get_member n ms ≡ None → IsSetAt n w t r ms final
+    → ((q : List ℕ) → is_in q (old_names old) ≡ true → stands r t w ≡ false → get_member q final ≡ None)
+    → IsSpelled w d t r → knows r.since w ≡ true
+    → named_read (member_name (seen final) n old) (seen final) r w d ≡ Ok t
+named_gets n old w d t r ms final clear is olds (inl h) known = by old olds
+  where
+    unset : stands r t w ≡ false
+    unset = rw (known, h.0) refl
+
+    at : get_member n final ≡ None
+    at = is ∙ (ap (get_member n) (if_false (stands r t w) (put n (jspell t w r.kind) ms) ms unset) ∙ clear)
+
+    by : (o : Option (List ℕ)) → ((q : List ℕ) → is_in q (old_names o) ≡ true → stands r t w ≡ false → get_member q final ≡ None) → named_read (member_name (seen final) n o) (seen final) r w d ≡ Ok t
+    by None f = nothing_gets n w d t r final at h.1
+    by (Some m) f = ap (λ x. named_read (first_or_old x n m) (seen final) r w d) (seen_is final n ∙ ap as_seen at)
+        ∙ nothing_gets m w d t r final (f m (rw (same_itself m) refl) unset) h.1
+named_gets n old w d t r ms final clear is olds (inr h) known = by old
+  where
+    at : get_member n final ≡ Some (jspell t w r.kind)
+    at = is ∙ (ap (get_member n) (if_true (stands r t w) (put n (jspell t w r.kind) ms) ms (rw (known, h.0) refl)) ∙ get_member-put n (jspell t w r.kind) ms)
+
+    there : seen final n ≡ found (jread (jspell t w r.kind))
+    there = seen_is final n ∙ (ap as_seen at ∙ h.1)
+
+    first : named_read n (seen final) r w d ≡ Ok t
+    first = under_ok (to_member n) _ t (ap (λ f. found_read f r w d) there ∙ h.2)
+
+    by : (o : Option (List ℕ)) → named_read (member_name (seen final) n o) (seen final) r w d ≡ Ok t
+    by None = first
+    by (Some m) = ap (λ x. named_read (first_or_old x n m) (seen final) r w d) there ∙ first
 
 pub row_gets_known : (j : Member) (own : Kind → Result Tree JsonFault) (w : SpecVersion) (d : Depth) (t : Tree) (r : Row) (ms final : Members)
-    → ((q : List ℕ) → is_in q (row_name j (own_names r.kind)) ≡ true → get_member q ms ≡ None)
-    → ((q : List ℕ) → is_in q (row_name j (own_names r.kind)) ≡ true → get_member q final ≡ get_member q (if stands r t w then set_member j (jspell t w r.kind) (own_members t w) ms else ms))
-    → ((is_written r.need t ≡ false) × (when_nothing r.need w ≡ Ok t)) ⊎ ((is_written r.need t ≡ true) × (as_found (jspell t w r.kind) (jread (jspell t w r.kind)) ≡ found (jread (jspell t w r.kind))) × (jread (jspell t w r.kind) w r.kind d ≡ Ok t))
+    → ((q : List ℕ) → is_in q (row_names r.old_name j (own_names r.kind)) ≡ true → get_member q ms ≡ None)
+    → ((q : List ℕ) → is_in q (row_names r.old_name j (own_names r.kind)) ≡ true → get_member q final ≡ get_member q (if stands r t w then set_member j (jspell t w r.kind) (own_members t w) ms else ms))
+    → IsSpelled w d t r
     → knows r.since w ≡ true
     → OwnAt j own r t w
     → member_read j (seen final) own r w d ≡ Ok t
-row_gets_known (member n) own w d t r ms final clear later h known o = member_gets n own w d t r ms final (clear n (rw (same_itself n) refl)) (later n (rw (same_itself n) refl)) h known
+row_gets_known (member n) own w d t r ms final clear later h known o =
+    named_gets n r.old_name w d t r ms final (clear n (rw (same_itself n) refl)) (later n (rw (same_itself n) refl))
+    (λ q i unset. later q (behind q i) ∙ (ap (get_member q) (if_false (stands r t w) (put n (jspell t w r.kind) ms) ms unset) ∙ clear q (behind q i))) h known
+  where
+    behind : (q : List ℕ) → is_in q (old_names r.old_name) ≡ true → is_in q (n ∷ old_names r.old_name) ≡ true
+    behind q i = by (bytes_eq q n)
+      where
+        by : (b : Bool) → (b || is_in q (old_names r.old_name)) ≡ true
+        by true = refl
+        by false = i
 row_gets_known merged own w d t r ms final clear later h known o = o
 
 pub row_gets : (own : Kind → Result Tree JsonFault) (w : SpecVersion) (d : Depth) (t : Tree) (r : Row) (ms final : Members)
-    → ((q : List ℕ) → is_in q (row_name r.json (own_names r.kind)) ≡ true → get_member q ms ≡ None)
-    → ((q : List ℕ) → is_in q (row_name r.json (own_names r.kind)) ≡ true → get_member q final ≡ get_member q (if stands r t w then set_member r.json (jspell t w r.kind) (own_members t w) ms else ms))
+    → ((q : List ℕ) → is_in q (row_names r.old_name r.json (own_names r.kind)) ≡ true → get_member q ms ≡ None)
+    → ((q : List ℕ) → is_in q (row_names r.old_name r.json (own_names r.kind)) ≡ true → get_member q final ≡ get_member q (if stands r t w then set_member r.json (jspell t w r.kind) (own_members t w) ms else ms))
     → IsBack w d t r
     → OwnAt r.json own r t w
     → row_read (seen final) own r w d ≡ Ok t
@@ -342,10 +385,10 @@ apart_first q xs ys d h = by (is_in q xs) refl
     by false e = refl
 
 -- what the row leaves of a name that it doesn't have
-pub left_row : (q : List ℕ) (t : Tree) (r : Row) (w : SpecVersion) (ms : Members) → IsOwn t r.json r.kind → is_in q (row_name r.json (own_names r.kind)) ≡ false
+pub left_row : (q : List ℕ) (t : Tree) (r : Row) (w : SpecVersion) (ms : Members) → IsOwn t r.json r.kind → is_in q (row_names r.old_name r.json (own_names r.kind)) ≡ false
     → get_member q (if stands r t w then set_member r.json (jspell t w r.kind) (own_members t w) ms else ms) ≡ get_member q ms
 left_row q t r w ms own h = left_at q (stands r t w) r (jspell t w r.kind) (own_members t w) ms h
-    (λ e. own_other q t w r.kind ms (subst (λ (j : Member). IsOwn t j r.kind) e own) (subst (λ (j : Member). is_in q (row_name j (own_names r.kind)) ≡ false) e h))
+    (λ e. own_other q t w r.kind ms (subst (λ (j : Member). IsOwn t j r.kind) e own) (subst (λ (j : Member). is_in q (row_names r.old_name j (own_names r.kind)) ≡ false) e h))
 
 -- The rows of what was spelled by the rows are the fields.
 pub gets : (own : Kind → Result Tree JsonFault) (w : SpecVersion) (d : Depth) (ts : Trees) (rs : List Row) (ms final : Members)
@@ -358,11 +401,11 @@ gets own w d none (r ∷ rs) ms final distinct' clear owns back ob is = absurd (
 gets own w d (more t ts) [] ms final distinct' clear owns back ob is = absurd (true≢false back)
 gets own w d (more t ts) (r ∷ rs) ms final distinct' clear owns back ob is = (
   row_gets own w d t r ms final
-      (λ q h. clear q (is_in_first q (row_name r.json (own_names r.kind)) (names rs) h))
-      (λ q h. ap (get_member q) is ∙ other q ts w rs _ owns.1 (apart q (row_name r.json (own_names r.kind)) (names rs) distinct' h))
+      (λ q h. clear q (is_in_first q (row_names r.old_name r.json (own_names r.kind)) (names rs) h))
+      (λ q h. ap (get_member q) is ∙ other q ts w rs _ owns.1 (apart q (row_names r.old_name r.json (own_names r.kind)) (names rs) distinct' h))
       back.0 ob.0,
-  gets own w d ts rs _ final (distinct_later (row_name r.json (own_names r.kind)) (names rs) distinct')
-      (λ q h. left_row q t r w ms owns.0 (apart_first q (row_name r.json (own_names r.kind)) (names rs) distinct' h) ∙ clear q (is_in_later q (row_name r.json (own_names r.kind)) (names rs) h))
+  gets own w d ts rs _ final (distinct_later (row_names r.old_name r.json (own_names r.kind)) (names rs) distinct')
+      (λ q h. left_row q t r w ms owns.0 (apart_first q (row_names r.old_name r.json (own_names r.kind)) (names rs) distinct' h) ∙ clear q (is_in_later q (row_names r.old_name r.json (own_names r.kind)) (names rs) h))
       owns.1 back.1 ob.1 is,
 )
 
@@ -379,8 +422,8 @@ pub named_names : (rs : List Row) → all_named rs ≡ true → plain_names rs �
 named_names [] h = refl
 named_names (r ∷ rs) h = by r.json (and_true (is_named r.json) (all_named rs) h) (named_names rs (and_true (is_named r.json) (all_named rs) h).1)
   where
-    by : (j : Member) → (is_named j ≡ true) × (all_named rs ≡ true) → plain_names rs ≡ names rs → (row_name j [] ++ plain_names rs) ≡ (row_name j (own_names r.kind) ++ names rs)
-    by (member n) e f = ap (n ∷◌) f
+    by : (j : Member) → (is_named j ≡ true) × (all_named rs ≡ true) → plain_names rs ≡ names rs → (row_names r.old_name j [] ++ plain_names rs) ≡ (row_names r.old_name j (own_names r.kind) ++ names rs)
+    by (member n) e f = ap ((n ∷ old_names r.old_name) ++◌) f
     by merged e f = absurd (true≢false (sym e.0))
 
 -- The kinds whose members may stand in their record's own object.
@@ -610,7 +653,7 @@ abbrev pub license_rest : List Row
 license_rest = of (a_record attached_text) "text" ∷ of a_text "url" ∷ from V1_5 (of (a_list properties) "properties") ∷ []
 
 abbrev pub license_front : Tree → SpecVersion → Members
-license_front b w = members_spelled (one b) w (from V1_5 old_reference ∷ []) no_members
+license_front b w = members_spelled (one b) w (from V1_5 respelled_reference ∷ []) no_members
 
 pub id_gets : (w : SpecVersion) (d : Depth) (b : Tree) (s : List ℕ) (us : Trees) → AreOwn (more b (more (fields spdx_id (one (text s))) us)) (rows license)
     → identifier_read (seen (spelled license (more b (more (fields spdx_id (one (text s))) us)) w)) w d ≡ Ok (fields spdx_id (one (text s)))
@@ -635,7 +678,7 @@ name_gets w d b s us owns =
     no_id : get_member (codes "id") MS ≡ None
     no_id = other (codes "id") us w license_rest (put (codes "name") (json.string s) (license_front b w)) owns.1.1 refl
         ∙ (get_member-put_other (codes "id") (codes "name") (json.string s) (license_front b w) (other_name (codes "id") (codes "name") refl)
-        ∙ left_row (codes "id") b (from V1_5 old_reference) w no_members tt refl)
+        ∙ left_row (codes "id") b (from V1_5 respelled_reference) w no_members tt refl)
 
     at : get_member (codes "name") MS ≡ Some (json.string s)
     at = other (codes "name") us w license_rest (put (codes "name") (json.string s) (license_front b w)) owns.1.1 refl ∙ get_member-put (codes "name") (json.string s) (license_front b w)
@@ -673,10 +716,10 @@ identifier_gets w d d' b i us h = by (identifier_of w d i h)
     by (inr e) = subst (IdGets w d' b us) (sym e.1) (name_gets w d' b e.0 us)
 
 abbrev pub identifier_row : Row
-identifier_row = record { kind = a_license_identifier; xml = either_child (codes "id") (codes "name"); json = merged; since = V1_3; need = required }
+identifier_row = record { kind = a_license_identifier; xml = either_child (codes "id") (codes "name"); json = merged; old_name = None; since = V1_3; need = required }
 
 abbrev pub class_row : Row
-class_row = record { kind = a_record classification; xml = child (codes "classification"); json = merged; since = V1_3; need = required }
+class_row = record { kind = a_record classification; xml = child (codes "classification"); json = merged; old_name = None; since = V1_3; need = required }
 
 pub own_back_license : (w : SpecVersion) (d d' : Depth) (ts : Trees) → FieldsHeld w d ts (rows license) → AreOwn ts (rows license)
     → OwnBack (own_read (seen (spelled license ts w)) w d') w ts (rows license)
@@ -791,7 +834,7 @@ own_back bill w d d' ts h owns = own_back_named _ w ts (rows bill) refl
 pub must_held : (w : SpecVersion) (d : Depth) (t : Tree) (r : Row) → is_must r ≡ true → RowHeld w d t r → Held w d t r.kind
 must_held w d t r must h = by r.need r.since refl refl must
   where
-    by : (n : Need) (s : SpecVersion) → r.need ≡ n → r.since ≡ s → is_must (record { kind = r.kind; xml = r.xml; json = r.json; since = s; need = n }) ≡ true → Held w d t r.kind
+    by : (n : Need) (s : SpecVersion) → r.need ≡ n → r.since ≡ s → is_must (record r { since = s; need = n }) ≡ true → Held w d t r.kind
     by required V1_3 e f g = required_held w d t r e f h
     by required V1_4 e f g = absurd (true≢false (sym g))
     by required V1_5 e f g = absurd (true≢false (sym g))
@@ -865,7 +908,7 @@ pub license_back : (w : SpecVersion) (d : Depth) (ts : Trees) → IsRead w d (fi
 unfolding jspell jread
 license_back w d ts h = (refl, under_ok (to_member (codes "license")) _ (fields license ts) h.1)
 
-pub not_lone : (b : Bool) (y x : Data) → is_lone_license (put (codes "expression") x (if b then put (codes "bomRef") y no_members else no_members)) ≡ false
+pub not_lone : (b : Bool) (y x : Data) → is_lone_license (put (codes "expression") x (if b then put (codes "bom-ref") y no_members else no_members)) ≡ false
 not_lone true y x = refl
 not_lone false y x = refl
 
@@ -877,7 +920,7 @@ expression_lone w d (more a (more b (more c us))) h = absurd (true≢false h.1.1
 expression_lone w d (more a (more b none)) h = by (held_text w d b (required_held w d b (must (row a_text content "expression")) refl refl h.1.0))
   where
     by : (s : List ℕ) × (b ≡ text s) → is_lone_license (spelled expression (two a b) w) ≡ false
-    by e = subst (λ (t : Tree). is_lone_license (spelled expression (two a t) w) ≡ false) (sym e.1) (not_lone (stands old_reference a w) (jspell a w a_text) (json.string e.0))
+    by e = subst (λ (t : Tree). is_lone_license (spelled expression (two a t) w) ≡ false) (sym e.1) (not_lone (stands respelled_reference a w) (jspell a w a_text) (json.string e.0))
 
 pub expression_back : (w : SpecVersion) (d : Depth) (ts : Trees) → FieldsHeld w d ts (rows expression) → AreOwn ts (rows expression) → AreBack w d ts (rows expression)
     → IsRead w d (fields expression ts) a_license_choice

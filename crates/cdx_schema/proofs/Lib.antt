@@ -46,6 +46,7 @@ pub mod DroppedLaw
 pub mod DroppedFull
 pub mod DroppedEmpty
 mod DroppedRows
+mod OldNameRows
 pub mod PlainNames
 pub mod EarlyBalance
 pub mod EarlyFaults

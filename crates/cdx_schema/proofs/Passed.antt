@@ -1,5 +1,5 @@
 -- A member that no row has is passed over.
-use Rattle.std.specs.Prelude.{◌≡◌, refl, ℕ, List, [], ◌∷◌, ◌++◌, Bool, true, false, ◌||◌, Result, Ok, if◌then◌else◌, codes}
+use Rattle.std.specs.Prelude.{◌≡◌, refl, ℕ, List, [], ◌∷◌, ◌++◌, Bool, true, false, ◌||◌, Option, Some, None, Result, Ok, if◌then◌else◌, codes}
 use Rattle.std.proofs.Common.{true≢false}
 use Rattle.std.specs.Str.{bytes_eq}
 use mathlib.Core.Path.{ap, sym, ◌∙◌}
@@ -15,8 +15,8 @@ use Rattle.cdx_schema.specs.Table.{rows}
 use Rattle.cdx_schema.specs.Results.{◌>>=◌}
 use Rattle.cdx_schema.specs.Faults.{JsonFault, under, to_member}
 use Rattle.cdx_schema.specs.Depth.{Depth, inside}
-use Rattle.cdx_schema.specs.JsonReading.{jread, rows_read, row_read, member_read, found_read, Object, seen, own_read, record_read, under_name, no_own, id_read, name_read, format_read, object_read, at_depth, Found, nothing, a_null, found}
-use Rattle.cdx_schema.specs.RowLaws.{is_among, row_names, plain_names, merged_names, known_names, IsUnknown, AreAlikeBut, PassesMembers, PassesPut}
+use Rattle.cdx_schema.specs.JsonReading.{jread, rows_read, row_read, member_read, named_read, member_name, first_or_old, found_read, Object, seen, own_read, record_read, under_name, no_own, id_read, name_read, format_read, object_read, at_depth, Found, nothing, a_null, found}
+use Rattle.cdx_schema.specs.RowLaws.{is_among, old_names, row_names, plain_names, merged_names, known_names, IsUnknown, AreAlikeBut, PassesMembers, PassesPut}
 use Rattle.cdx_schema.proofs.JsonBack.{seen_is, as_seen, or_false, other_name}
 
 -- ---- names
@@ -51,11 +51,23 @@ row_alike : (q : List ℕ) (o p : Object) (own own' : Kind → Result Tree JsonF
 row_alike q o p own own' r v d inner alike same h = known_alike (knows r.since v) q (names_by r.json) (member_read r.json o own r v d) (member_read r.json p own' r v d) h (by r.json)
   where
     names_by : Member → List (List ℕ)
-    names_by (member n) = n ∷ []
+    names_by (member n) = n ∷ old_names r.old_name
     names_by merged = inner
 
+    at : (n : List ℕ) → bytes_eq q n ≡ false → named_read n o r v d ≡ named_read n p r v d
+    at n e = ap (λ f. under (to_member n) (found_read f r v d)) (alike n e)
+
+    named : (n : List ℕ) (old : Option (List ℕ)) → bytes_eq q n ≡ false → is_among q (old_names old) ≡ false → named_read (member_name o n old) o r v d ≡ named_read (member_name p n old) p r v d
+    named n None e f = at n e
+    named n (Some m) e f = ap (λ x. named_read (first_or_old x n m) o r v d) (alike n e) ∙ under_either (p n)
+      where
+        under_either : (x : Found) → named_read (first_or_old x n m) o r v d ≡ named_read (first_or_old x n m) p r v d
+        under_either nothing = at m (first_none q m [] f).0
+        under_either a_null = at m (first_none q m [] f).0
+        under_either (found read) = at n e
+
     by : (j : Member) → is_among q (names_by j) ≡ false → member_read j o own r v d ≡ member_read j p own' r v d
-    by (member n) e = ap (λ f. under (to_member n) (found_read f r v d)) (alike n (first_none q n [] e).0)
+    by (member n) e = named n r.old_name (first_none q n (old_names r.old_name) e).0 (first_none q n (old_names r.old_name) e).1
     by merged e = same e
 
 joined_alike : {F : Type 0} (x y : Result Tree F) (xs ys : Result Trees F) → x ≡ y → xs ≡ ys → (x >>= λ t. xs >>= λ ts. Ok (more t ts)) ≡ (y >>= λ t. ys >>= λ ts. Ok (more t ts))

@@ -18,7 +18,7 @@ use Rattle.cdx_models.specs.declared.errors.Step.{Step}
 use Rattle.cdx_schema.specs.Faults.{JsonFault, to_member, to_item, under, here, wrong_kind, out_of_range, bad_spec_version, too_deep}
 use Rattle.cdx_schema.specs.Depth.{Depth, top, inside, name_too_deep, is_too_deep}
 use Rattle.cdx_models.specs.Entries.{is_flow, entry_of}
-use Rattle.cdx_schema.specs.JsonReading.{Reading, Found, nothing, a_null, found, Object, jread, items_read, seen, as_found, rows_read, row_read, member_read, found_read, when_nothing, when_null, own_read, no_own, record_read, under_name, id_read, name_read, is_lone_license, choice_read, license_read, signature_read, chain_read, tools_read, entry_read, bill_read, format_read, object_read, text_read, boolean_read, integer_read, number_read, version_read, item_kind, array_read, json_denotes, first_float}
+use Rattle.cdx_schema.specs.JsonReading.{Reading, Found, nothing, a_null, found, Object, jread, items_read, seen, as_found, rows_read, row_read, member_read, member_name, found_read, when_nothing, when_null, own_read, no_own, record_read, under_name, id_read, name_read, is_lone_license, choice_read, license_read, signature_read, chain_read, tools_read, entry_read, bill_read, format_read, object_read, text_read, boolean_read, integer_read, number_read, version_read, item_kind, array_read, json_denotes, first_float}
 use Rattle.cdx_schema.specs.Keeping.{is_shallow, are_shallow}
 use Rattle.cdx_schema.specs.Membership.{IsOfAll, AreOfAll, AreFieldsAll, IsTextOf, may_lack}
 use Rattle.cdx_schema.specs.Texts.{AreTexts, AreTextsIn, AreTextsOf}
@@ -158,7 +158,9 @@ GoodOwn Q own d = (k : Kind) (t : Tree) → is_own k ≡ true → own k ≡ Ok t
 
 member_good : (Q : List ℕ → Type 0) (m : Member) (o : Object) (own : Kind → Result Tree JsonFault) (r : Row) (v : SpecVersion) (d : Depth) (t : Tree) → GoodObject Q o → GoodOwn Q own d → is_else r.need r.kind ≡ true → is_own_row m r.kind ≡ true
     → member_read m o own r v d ≡ Ok t → FieldOf Q r.need r.kind d t
-member_good Q (member q) o own r v d t g f s c e = found_good Q (o q) r v d t (g q) s (under_was (to_member q) (found_read (o q) r v d) t e)
+member_good Q (member q) o own r v d t g f s c e =
+    let n : List ℕ = member_name o q r.old_name in
+    found_good Q (o n) r v d t (g n) s (under_was (to_member n) (found_read (o n) r v d) t e)
 member_good Q merged o own r v d t g f s c e = let p : IsReadOf Q r.kind d t = f r.kind t c e in (inr p.0, p.1)
 
 row_good : (Q : List ℕ → Type 0) (b : Bool) (o : Object) (own : Kind → Result Tree JsonFault) (r : Row) (v : SpecVersion) (d : Depth) (t : Tree) → knows r.since v ≡ b → GoodObject Q o → GoodOwn Q own d

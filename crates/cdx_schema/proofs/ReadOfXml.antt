@@ -8,7 +8,7 @@ use Rattle.cdx_models.specs.declared.bom.SpecVersion.{SpecVersion}
 use Rattle.cdx_models.specs.declared.bom.SpecVersion.TheVariants.{V1_3, V1_4, V1_5}
 use Rattle.cdx_models.specs.Versions.{knows, label, namespace}
 use Rattle.cdx_models.specs.Trees.{Name, hash, property, attached_text, contact, entity, commit, action, patch, diff, issue, source, reference, dependency, composition, license, expression, spdx_id, license_name, tool, component, swid, pedigree, evidence, copyright, service, classification, service_data, tools_object, metadata, signer, signers, chain, bill, Tree, absent, text, number, boolean, items, fields, Trees, none, more, one, two, ◌⧺◌, field, with_field, is_absent}
-use Rattle.cdx_schema.specs.Kinds.{Lists, hashes, properties, urls, contacts, commits, patches, resolved, links, external_references, dependencies, depended, compositions, assemblies, composed, vulnerabilities, licenses, components, services, copyright_texts, endpoints, authors, tool_list, signer_list, chain_list, classifications, flows, Kind, a_text, a_boolean, a_number, a_version, a_list, a_record, a_reference, a_license_choice, a_license_identifier, a_tools, a_data, an_entry, a_signature, a_bill, Rule, lax, strict, passing, Spelled, attribute, attribute_or, content, one_text, as_cdata, child, filled_child, read_child, children, either_child, the_version, Need, optional, required, required_first, else_empty, Row}
+use Rattle.cdx_schema.specs.Kinds.{Lists, hashes, properties, urls, contacts, commits, patches, resolved, links, external_references, dependencies, depended, compositions, assemblies, composed, vulnerabilities, licenses, components, services, copyright_texts, endpoints, authors, tool_list, signer_list, chain_list, classifications, flows, Kind, a_text, a_boolean, a_number, a_version, a_list, a_record, a_reference, a_license_choice, a_license_identifier, a_tools, a_data, an_entry, a_signature, a_bill, Rule, lax, strict, passing, Spelled, attribute, attribute_or, content, one_text, as_cdata, child, filled_child, children, either_child, the_version, Need, optional, required, required_first, else_empty, Row}
 use Rattle.cdx_schema.specs.Table.{rows, list}
 use Rattle.cdx_schema.specs.Held.{held_kind}
 use Rattle.cdx_schema.specs.Results.{◌>>=◌}
@@ -328,7 +328,6 @@ reads_xml the_version n k = is_version_kind k
 reads_xml (children q) n k = is_list_kind k
 reads_xml (child q) n k = is_not_else n
 reads_xml (filled_child q) n k = is_not_else n
-reads_xml (read_child q) n k = is_not_else n
 reads_xml (either_child q m) n k = is_not_else n
 reads_xml _ n k = true
 
@@ -465,7 +464,6 @@ row_attributed Q r as' v around p d t u h e = by r.xml h e
     by as_cdata g f = absent_attributed Q r.kind d false t refl (ok_same f)
     by (child q) g f = absent_attributed Q r.kind d false t refl (ok_same f)
     by (filled_child q) g f = absent_attributed Q r.kind d false t refl (ok_same f)
-    by (read_child q) g f = absent_attributed Q r.kind d false t refl (ok_same f)
     by (children q) g f = absent_attributed Q r.kind d false t refl (ok_same f)
     by (either_child q m) g f = absent_attributed Q r.kind d false t refl (ok_same f)
 
@@ -566,7 +564,6 @@ absent_ended Q r v d s h l f = by r.xml h l f
     by as_cdata g o e = absurd (true≢false (e refl))
     by (child q) g o e = (inl (refl, child_lacks (knows r.since v) r v refl s g o), refl)
     by (filled_child q) g o e = (inl (refl, child_lacks (knows r.since v) r v refl s g o), refl)
-    by (read_child q) g o e = (inl (refl, child_lacks (knows r.since v) r v refl s g o), refl)
     by (either_child q m) g o e = (inl (refl, child_lacks (knows r.since v) r v refl s g o), refl)
     by (children q) g o e = children_ended Q r.need q r d g
 
@@ -605,7 +602,6 @@ row_children_good Q i r ks h e = by r.xml h
     by : (x : Spelled) → reads_xml x r.need r.kind ≡ true → GoodChildren Q (row_children i (record r { xml = x })) ks
     by (child q) g = (same_kind Q e, tt)
     by (filled_child q) g = (same_kind Q e, tt)
-    by (read_child q) g = (same_kind Q e, tt)
     by (children q) g = (subst (λ (s : Kind). IsListOf s × ((t : Tree) → IsOfAll Q t (held_kind r.kind) → IsOfAll Q t (held_kind s))) (sym e) (list_kind_of r.kind g, λ t f. f), tt)
     by (either_child q m) g = (same_kind Q e, (same_kind Q e, tt))
     by _ g = tt

@@ -75,7 +75,7 @@ abbrev pub contact_tree : Tree
 contact_tree = of_fields name.contact (t' "r" ∷ t' "n" ∷ t' "e" ∷ t' "p" ∷ [])
 
 abbrev pub contact_json : Data
-contact_json = obj ("bomRef" ↪ str "r" ⨟ "name" ↪ str "n" ⨟ "email" ↪ str "e" ⨟ "phone" ↪ str "p" ⨟ no_members)
+contact_json = obj ("bom-ref" ↪ str "r" ⨟ "name" ↪ str "n" ⨟ "email" ↪ str "e" ⨟ "phone" ↪ str "p" ⨟ no_members)
 
 abbrev pub contact_xml : String → Node
 contact_xml s = el s (at "bom-ref" "r" ∷ []) (leaf "name" "n" ⊳ leaf "email" "e" ⊳ leaf "phone" "p" ⊳ no_nodes)
@@ -141,7 +141,7 @@ abbrev pub expression_tree : Tree
 expression_tree = of_fields name.expression (t' "r" ∷ t' "MIT OR ISC" ∷ [])
 
 abbrev pub expression_json : Data
-expression_json = obj ("bomRef" ↪ str "r" ⨟ "expression" ↪ str "MIT OR ISC" ⨟ no_members)
+expression_json = obj ("bom-ref" ↪ str "r" ⨟ "expression" ↪ str "MIT OR ISC" ⨟ no_members)
 
 abbrev pub expression_xml : Node
 expression_xml = el "expression" (at "bom-ref" "r" ∷ []) (txt "MIT OR ISC" ⊳ no_nodes)
@@ -171,7 +171,7 @@ abbrev pub entity_tree : Tree
 entity_tree = of_fields name.entity (t' "r" ∷ t' "n" ∷ list_of (t' "u" ∷ t' "w" ∷ []) ∷ list_of (contact_tree ∷ []) ∷ [])
 
 abbrev pub entity_json : Data
-entity_json = obj ("bomRef" ↪ str "r" ⨟ "name" ↪ str "n" ⨟ "url" ↪ arr (str "u" ⨠ str "w" ⨠ no_items) ⨟ "contact" ↪ arr (contact_json ⨠ no_items) ⨟ no_members)
+entity_json = obj ("bom-ref" ↪ str "r" ⨟ "name" ↪ str "n" ⨟ "url" ↪ arr (str "u" ⨠ str "w" ⨠ no_items) ⨟ "contact" ↪ arr (contact_json ⨠ no_items) ⨟ no_members)
 
 abbrev pub entity_xml : String → Node
 entity_xml s = el s (at "bom-ref" "r" ∷ []) (leaf "name" "n" ⊳ leaf "url" "u" ⊳ leaf "url" "w" ⊳ contact_xml "contact" ⊳ no_nodes)
@@ -294,7 +294,7 @@ abbrev pub composition_tree : Tree
 composition_tree = of_fields name.composition (t' "r" ∷ t' "complete" ∷ list_of (t' "a" ∷ []) ∷ list_of (t' "d" ∷ []) ∷ list_of (t' "v" ∷ []) ∷ signer_tree ∷ [])
 
 abbrev pub composition_json : Data
-composition_json = obj ("bomRef" ↪ str "r" ⨟ "aggregate" ↪ str "complete" ⨟ "assemblies" ↪ arr (str "a" ⨠ no_items) ⨟ "dependencies" ↪ arr (str "d" ⨠ no_items) ⨟ "vulnerabilities" ↪ arr (str "v" ⨠ no_items) ⨟ "signature" ↪ signer_json ⨟ no_members)
+composition_json = obj ("bom-ref" ↪ str "r" ⨟ "aggregate" ↪ str "complete" ⨟ "assemblies" ↪ arr (str "a" ⨠ no_items) ⨟ "dependencies" ↪ arr (str "d" ⨠ no_items) ⨟ "vulnerabilities" ↪ arr (str "v" ⨠ no_items) ⨟ "signature" ↪ signer_json ⨟ no_members)
 
 abbrev pub composition_xml : Node
 composition_xml = el "composition" (at "bom-ref" "r" ∷ []) (leaf "aggregate" "complete" ⊳ tag "assemblies" (el "assembly" (at "ref" "a" ∷ []) no_nodes ⊳ no_nodes)
@@ -314,7 +314,7 @@ abbrev pub license_tree : Tree
 license_tree = of_fields name.license (t' "r" ∷ id_tree ∷ text_tree ∷ t' "u" ∷ list_of (property_tree ∷ []) ∷ [])
 
 abbrev pub license_json : Data
-license_json = obj ("bomRef" ↪ str "r" ⨟ "id" ↪ str "MIT" ⨟ "text" ↪ text_json ⨟ "url" ↪ str "u" ⨟ "properties" ↪ arr (property_json ⨠ no_items) ⨟ no_members)
+license_json = obj ("bom-ref" ↪ str "r" ⨟ "id" ↪ str "MIT" ⨟ "text" ↪ text_json ⨟ "url" ↪ str "u" ⨟ "properties" ↪ arr (property_json ⨠ no_items) ⨟ no_members)
 
 abbrev pub license_xml : Node
 license_xml = el "license" (at "bom-ref" "r" ∷ []) (leaf "id" "MIT" ⊳ text_xml ⊳ leaf "url" "u" ⊳ tag "properties" (property_xml ⊳ no_nodes) ⊳ no_nodes)
@@ -502,18 +502,18 @@ some_metadata : Agrees V1_5 (kind.a_record name.metadata) "metadata" metadata_tr
 unfolding reading_on_literals
 some_metadata = (refl, refl, refl, refl)
 
-abbrev pub bill_tree : Tree → Tree
-bill_tree s = of_fields name.bill (t' "1.5" ∷ number 2 ∷ t' "urn:uuid:1" ∷ metadata_tree ∷ list_of (small_tree ∷ []) ∷ list_of (small_service_tree ∷ []) ∷ list_of (reference_tree ∷ []) ∷ list_of (dependency_tree ∷ []) ∷ list_of (composition_tree ∷ []) ∷ list_of (property_tree ∷ []) ∷ s ∷ [])
+abbrev pub bill_tree : Tree
+bill_tree = of_fields name.bill (t' "1.5" ∷ number 2 ∷ t' "urn:uuid:1" ∷ metadata_tree ∷ list_of (small_tree ∷ []) ∷ list_of (small_service_tree ∷ []) ∷ list_of (reference_tree ∷ []) ∷ list_of (dependency_tree ∷ []) ∷ list_of (composition_tree ∷ []) ∷ list_of (property_tree ∷ []) ∷ signer_tree ∷ [])
 
 abbrev pub bill_json : Data
 bill_json = obj ("bomFormat" ↪ str "CycloneDX" ⨟ "specVersion" ↪ str "1.5" ⨟ "version" ↪ num 2 ⨟ "serialNumber" ↪ str "urn:uuid:1" ⨟ "metadata" ↪ metadata_json ⨟ "components" ↪ arr (small_json ⨠ no_items) ⨟ "services" ↪ arr (small_service_json ⨠ no_items)
     ⨟ "externalReferences" ↪ arr (reference_json ⨠ no_items) ⨟ "dependencies" ↪ arr (dependency_json ⨠ no_items) ⨟ "compositions" ↪ arr (composition_json ⨠ no_items) ⨟ "properties" ↪ arr (property_json ⨠ no_items) ⨟ "signature" ↪ signer_json ⨟ no_members)
 
--- The serial number stands before the version. The signature is read and not written.
+-- The serial number stands before the version.
 abbrev pub bill_xml : Node
 bill_xml = bom V1_5 (at "serialNumber" "urn:uuid:1" ∷ at "version" "2" ∷ []) (metadata_xml ⊳ tag "components" (small_xml ⊳ no_nodes) ⊳ tag "services" (small_service_xml ⊳ no_nodes) ⊳ tag "externalReferences" (reference_xml ⊳ no_nodes)
-    ⊳ tag "dependencies" (dependency_xml ⊳ no_nodes) ⊳ tag "compositions" (composition_xml ⊳ no_nodes) ⊳ tag "properties" (property_xml ⊳ no_nodes) ⊳ no_nodes)
+    ⊳ tag "dependencies" (dependency_xml ⊳ no_nodes) ⊳ tag "compositions" (composition_xml ⊳ no_nodes) ⊳ tag "properties" (property_xml ⊳ no_nodes) ⊳ signer_xml "signature" ⊳ no_nodes)
 
-a_bill : (json_denotes bill_json V1_5 ≡ Ok (bill_tree signer_tree)) × (jspell (bill_tree signer_tree) V1_5 kind.a_bill ≡ bill_json) × (xml_denotes bill_xml V1_5 ≡ Ok (bill_tree absent)) × (root (bill_tree signer_tree) V1_5 ≡ bill_xml)
+a_bill : (json_denotes bill_json V1_5 ≡ Ok bill_tree) × (jspell bill_tree V1_5 kind.a_bill ≡ bill_json) × (xml_denotes bill_xml V1_5 ≡ Ok bill_tree) × (root bill_tree V1_5 ≡ bill_xml)
 unfolding reading_on_literals
 a_bill = (refl, refl, refl, refl)

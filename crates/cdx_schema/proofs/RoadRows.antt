@@ -90,6 +90,9 @@ shop_road = refl
 
 -- ---- bills of one part
 
+abbrev xml15 : Nodes → Node
+xml15 ns = bom V1_5 (at "version" "1" ∷ []) ns
+
 -- a chain in JSON
 abbrev chain_bill : String
 chain_bill = "{\"bomFormat\":\"CycloneDX\",\"specVersion\":\"1.5\",\"version\":1,\"signature\":{\"chain\":[{\"algorithm\":\"ES256\",\"value\":\"abcdefgh\"},{\"algorithm\":\"HS512\",\"value\":\"1234567890\"}]}}"
@@ -104,15 +107,15 @@ unfolding reading_on_literals serde_json_on_literals
 array_is_signers = refl
 
 chain_in_xml : road_from chain_bill V1_5 (xs V1_5 ∷ js V1_5 ∷ [])
-    ≡ gives (an_xml (bom V1_5 (at "version" "1" ∷ []) no_nodes) ∷ text_doc "{\"bomFormat\":\"CycloneDX\",\"specVersion\":\"1.5\",\"version\":1}" ∷ [])
+    ≡ gives (an_xml (xml15 (tag "signature" (tag "chain"
+    (tag "chain" (leaf "algorithm" "ES256" ⊳ leaf "value" "abcdefgh" ⊳ no_nodes)
+    ⊳ tag "chain" (leaf "algorithm" "HS512" ⊳ leaf "value" "1234567890" ⊳ no_nodes) ⊳ no_nodes) ⊳ no_nodes) ⊳ no_nodes))
+    ∷ text_doc chain_bill ∷ [])
 unfolding reading_on_literals serde_json_on_literals
 chain_in_xml = refl
 
 abbrev signed_component : String
 signed_component = "{\"bomFormat\":\"CycloneDX\",\"specVersion\":\"1.5\",\"version\":1,\"components\":[{\"type\":\"library\",\"name\":\"a\",\"signature\":{\"algorithm\":\"XY1\",\"value\":\"v\"}}]}"
-
-abbrev xml15 : Nodes → Node
-xml15 ns = bom V1_5 (at "version" "1" ∷ []) ns
 
 abbrev a_component : Nodes → Nodes
 a_component ns = tag "components" (el "component" (at "type" "library" ∷ []) ns ⊳ no_nodes) ⊳ no_nodes

@@ -31,10 +31,10 @@ use Rattle.cdx_schema.proofs.RecordRows.{of_fields, list_of, hash_json, hash_xml
 abbrev Reads : SpecVersion → kind.Kind → Node → Result Tree XmlReadError → Type 0
 Reads v k x r = xread x v k 1 top ≡ r
 
-abbrev Values : SpecVersion → kind.Kind → Data → Result Tree JsonFault → Type 0
+abbrev pub Values : SpecVersion → kind.Kind → Data → Result Tree JsonFault → Type 0
 Values v k x r = jread x v k top ≡ r
 
-abbrev wrong : List Step → JsonKind → Result Tree JsonFault
+abbrev pub wrong : List Step → JsonKind → Result Tree JsonFault
 wrong p c = Err (record { path = p; cause = c })
 
 abbrev inside_32 : Depth
@@ -272,7 +272,7 @@ no_evidence = of_fields name.evidence (absent ∷ absent ∷ [])
 
 -- A supplier and evidence without children aren't written, in XML.
 hollow_left_out : (spelled (component_of no_entity no_evidence) V1_5 (codes "component") (kind.a_record name.component) ≡ small_xml)
-    × (jspell (component_of no_entity no_evidence) V1_5 (kind.a_record name.component) ≡ obj ("type" ↪ str "library" ⨟ "name" ↪ str "s" ⨟ "supplier" ↪ obj ("bomRef" ↪ str "r" ⨟ no_members) ⨟ "evidence" ↪ obj no_members ⨟ no_members))
+    × (jspell (component_of no_entity no_evidence) V1_5 (kind.a_record name.component) ≡ obj ("type" ↪ str "library" ⨟ "name" ↪ str "s" ⨟ "supplier" ↪ obj ("bom-ref" ↪ str "r" ⨟ no_members) ⨟ "evidence" ↪ obj no_members ⨟ no_members))
     × (bare (component_of no_entity no_evidence) ≡ small_tree)
 unfolding reading_on_literals
 hollow_left_out = (refl, refl, refl)
@@ -328,7 +328,7 @@ pedigree_fits = (refl, refl)
 
 -- ---- which names a version knows
 
-known_of_license : (known_names V1_5 (rows name.license) ≡ codes "bomRef" ∷ codes "id" ∷ codes "name" ∷ codes "text" ∷ codes "url" ∷ codes "properties" ∷ [])
+known_of_license : (known_names V1_5 (rows name.license) ≡ codes "bom-ref" ∷ codes "bomRef" ∷ codes "id" ∷ codes "name" ∷ codes "text" ∷ codes "url" ∷ codes "properties" ∷ [])
     × (known_names V1_4 (rows name.license) ≡ codes "id" ∷ codes "name" ∷ codes "text" ∷ codes "url" ∷ [])
 unfolding reading_on_literals
 known_of_license = (refl, refl)

@@ -5,7 +5,7 @@ use mathlib.Core.Path.{ap, sym, ◌∙◌}
 use Rattle.cdx_models.specs.declared.bom.SpecVersion.{SpecVersion}
 use Rattle.cdx_models.specs.declared.bom.SpecVersion.TheVariants.{V1_3, V1_4, V1_5}
 use Rattle.cdx_models.specs.Trees.{Name, hash, property, attached_text, contact, entity, commit, action, patch, diff, issue, source, reference, dependency, composition, license, expression, spdx_id, license_name, tool, component, swid, pedigree, evidence, copyright, service, classification, service_data, tools_object, metadata, signer, signers, chain, bill, Tree, absent, text, number, boolean, items, fields, Trees, none, more}
-use Rattle.cdx_schema.specs.Kinds.{Kind, a_list, a_tools, Need, optional, required, required_first, else_empty, Spelled, attribute, attribute_or, content, one_text, as_cdata, child, filled_child, read_child, children, either_child, the_version, Row}
+use Rattle.cdx_schema.specs.Kinds.{Kind, a_list, a_tools, Need, optional, required, required_first, else_empty, Spelled, attribute, attribute_or, content, one_text, as_cdata, child, filled_child, children, either_child, the_version, Row}
 use Rattle.cdx_schema.specs.Table.{rows}
 use Rattle.cdx_schema.specs.Held.{held_kind}
 use Rattle.cdx_schema.specs.Trips.{bare, items_bare, rows_bare, settled, items_settled, rows_settled, settled_items, is_hollow, is_passed_over, field_after, none_is_absent}
@@ -108,7 +108,6 @@ field_alike w t r l e = by r.xml l
         at : (b : Bool) → settled (if b then absent else tripped w t r.kind) r.kind ≡ settled (if b then absent else bare t) r.kind
         at true = refl
         at false = e
-    by (read_child n) l' = refl
     by (children n) l' = children_alike w t r.kind r.need l' e
     by (attribute n) l' = e
     by (attribute_or n m) l' = e

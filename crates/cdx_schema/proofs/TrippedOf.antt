@@ -5,7 +5,7 @@ use mathlib.Core.Path.{ap, sym, ◌∙◌, subst}
 use Rattle.cdx_models.specs.declared.bom.SpecVersion.{SpecVersion}
 use Rattle.cdx_models.specs.declared.bom.SpecVersion.TheVariants.{V1_3, V1_4, V1_5}
 use Rattle.cdx_models.specs.Trees.{Name, contact, service_data, Tree, absent, text, number, boolean, items, fields, Trees, none, more, is_absent}
-use Rattle.cdx_schema.specs.Kinds.{Kind, a_text, a_record, a_license_choice, a_license_identifier, a_tools, an_entry, a_signature, a_bill, Need, optional, Spelled, attribute, attribute_or, content, one_text, as_cdata, child, filled_child, read_child, children, either_child, the_version, Row}
+use Rattle.cdx_schema.specs.Kinds.{Kind, a_text, a_record, a_license_choice, a_license_identifier, a_tools, an_entry, a_signature, a_bill, Need, optional, Spelled, attribute, attribute_or, content, one_text, as_cdata, child, filled_child, children, either_child, the_version, Row}
 use Rattle.cdx_schema.specs.Table.{rows}
 use Rattle.cdx_schema.specs.Held.{held_kind}
 use Rattle.cdx_models.specs.Entries.{is_flow}
@@ -98,10 +98,6 @@ filled_lacks : (n : Need) (k : Kind) → sound_xml (filled_child []) n k ≡ tru
 filled_lacks optional k s = refl
 filled_lacks _ k s = absurd (true≢false (sym s))
 
-read_lacks : (n : Need) (k : Kind) → sound_xml (read_child []) n k ≡ true → may_lack n ≡ true
-read_lacks optional k s = refl
-read_lacks _ k s = absurd (true≢false (sym s))
-
 none_of : (Q : List ℕ → Type 0) (n : Need) (u : Tree) (k : Kind) → ((u ≡ absent) × (may_lack n ≡ true)) ⊎ IsOfAll Q u k → ((none_is_absent n u ≡ absent) × (may_lack n ≡ true)) ⊎ IsOfAll Q (none_is_absent n u) k
 none_of Q optional (items none) k h = inl (refl, refl)
 none_of Q optional (items (more u us)) k h = h
@@ -117,7 +113,6 @@ field_of_trip Q r t u s h = by r.xml s
         at : (b : Bool) → IsFieldAll Q (if b then absent else u) r
         at true = inl (refl, filled_lacks r.need r.kind e)
         at false = h
-    by (read_child q) e = inl (refl, read_lacks r.need r.kind e)
     by (children q) e = none_of Q r.need u r.kind h
     by (attribute q) e = h
     by (attribute_or q m) e = h
@@ -193,10 +188,6 @@ filled_free : (n : Need) (k : Kind) → sound_xml (filled_child []) n k ≡ true
 filled_free optional k s = (refl, (and_true (free_kind k) (whole_kind k) s).0)
 filled_free _ k s = absurd (true≢false (sym s))
 
-read_free : (n : Need) (k : Kind) → sound_xml (read_child []) n k ≡ true → (free_need n ≡ true) × (free_kind k ≡ true)
-read_free optional k s = (refl, s)
-read_free _ k s = absurd (true≢false (sym s))
-
 none_there : (n : Need) (u : Tree) → is_there n (none_is_absent n u) ≡ is_there n u
 none_there optional u = refl
 none_there _ u = refl
@@ -221,7 +212,6 @@ field_versions r t u s h a v = by r.xml s
         at : (b : Bool) → (is_there r.need (if b then absent else u) && has_versions (if b then absent else u) r.kind) ≡ (is_there r.need t && has_versions t r.kind)
         at true = dropped_versions t r (filled_free r.need r.kind e).0 (filled_free r.need r.kind e).1 h
         at false = same
-    by (read_child q) e = dropped_versions t r (read_free r.need r.kind e).0 (read_free r.need r.kind e).1 h
     by (children q) e = and_alike (none_there r.need u) (none_versions r.need u r.kind) ∙ same
     by (attribute q) e = same
     by (attribute_or q m) e = same
@@ -299,7 +289,6 @@ field_shallow r t u d h = by r.xml
         at : (b : Bool) → is_shallow (if b then absent else u) d ≡ true
         at true = refl
         at false = h
-    by (read_child q) = refl
     by (children q) = none_shallow r.need u d h
     by (attribute q) = h
     by (attribute_or q m) = h

@@ -6,7 +6,7 @@ use Rattle.cdx_models.specs.declared.bom.SpecVersion.{SpecVersion}
 use Rattle.cdx_models.specs.declared.bom.SpecVersion.TheVariants.{V1_3, V1_4, V1_5}
 use Rattle.cdx_models.specs.Versions.{knows}
 use Rattle.cdx_models.specs.Trees.{Name, service_data, Tree, absent, text, number, boolean, items, fields, Trees, none, more, is_absent}
-use Rattle.cdx_schema.specs.Kinds.{Kind, a_text, a_list, a_tools, a_data, a_bill, Need, Spelled, attribute, attribute_or, content, one_text, as_cdata, child, filled_child, read_child, children, either_child, the_version, Row}
+use Rattle.cdx_schema.specs.Kinds.{Kind, a_text, a_list, a_tools, a_data, a_bill, Need, Spelled, attribute, attribute_or, content, one_text, as_cdata, child, filled_child, children, either_child, the_version, Row}
 use Rattle.cdx_schema.specs.Table.{rows, list}
 use Rattle.cdx_schema.specs.Held.{held_kind}
 use Rattle.cdx_models.specs.Entries.{is_flow}
@@ -192,7 +192,6 @@ row_nodes_alike one_text n t u w k xs ys s h b f e = e
 row_nodes_alike as_cdata n t u w k xs ys s h b f e = ap (λ x. lone (cdata x)) b
 row_nodes_alike (child q) n t u w k xs ys s h b f e = ap lone (f q)
 row_nodes_alike (filled_child q) n t u w k xs ys s h b f e = rw (h (filled_whole n k s), f q) refl
-row_nodes_alike (read_child q) n t u w k xs ys s h b f e = refl
 row_nodes_alike (children q) n t u w k xs ys s h b f e = e
 row_nodes_alike (either_child q m) n t u w k xs ys s h b f e = ap lone (f q)
 row_nodes_alike the_version n t u w k xs ys s h b f e = refl

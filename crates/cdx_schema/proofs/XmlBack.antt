@@ -7,7 +7,7 @@ use native.Mathlib.Omega.{arith}
 use Rattle.cdx_models.specs.declared.bom.SpecVersion.{SpecVersion}
 use Rattle.cdx_models.specs.Versions.{knows}
 use Rattle.cdx_models.specs.Trees.{Name, hash, property, attached_text, contact, entity, commit, action, patch, diff, issue, source, reference, dependency, composition, license, expression, spdx_id, license_name, tool, component, swid, pedigree, evidence, copyright, service, classification, service_data, tools_object, metadata, signer, signers, chain, bill, Tree, absent, text, boolean, items, fields, Trees, none, more, one, ◌⧺◌, is_absent, field, with_field}
-use Rattle.cdx_schema.specs.Kinds.{Lists, Kind, a_text, a_reference, a_boolean, a_list, a_record, Rule, Spelled, attribute, attribute_or, content, one_text, as_cdata, child, filled_child, read_child, children, either_child, the_version, Row}
+use Rattle.cdx_schema.specs.Kinds.{Lists, Kind, a_text, a_reference, a_boolean, a_list, a_record, Rule, Spelled, attribute, attribute_or, content, one_text, as_cdata, child, filled_child, children, either_child, the_version, Row}
 use Rattle.cdx_schema.specs.Table.{rows, rule}
 use Rattle.cdx_schema.specs.Results.{◌>>=◌}
 use Rattle.cdx_schema.specs.Depth.{Depth, inside, name_too_deep}
@@ -27,7 +27,6 @@ use Rattle.cdx_schema.specs.Nodes.{places, places_of}
 abbrev pub child_names : Spelled → List (List ℕ)
 child_names (child n) = n ∷ []
 child_names (filled_child n) = n ∷ []
-child_names (read_child n) = n ∷ []
 child_names (children n) = n ∷ []
 child_names (either_child m n) = m ∷ n ∷ []
 child_names _ = []
@@ -65,7 +64,6 @@ find_none_row w q i r h = by r.xml h
     by as_cdata e = refl
     by (child n) e = passed n r.kind last [] (or_false (bytes_eq q n) false e).0
     by (filled_child n) e = passed n r.kind last [] (or_false (bytes_eq q n) false e).0
-    by (read_child n) e = passed n r.kind last [] (or_false (bytes_eq q n) false e).0
     by (children n) e = passed n (held_kind r.kind) all [] (or_false (bytes_eq q n) false e).0
     by (either_child m n) e =
         passed m r.kind once (record { name = n; since = r.since; kind = r.kind; field = i; place = once } ∷ []) (or_false (bytes_eq q m) (is_in q (n ∷ [])) e).0

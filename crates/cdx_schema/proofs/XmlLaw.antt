@@ -8,8 +8,8 @@ use Rattle.cdx_models.specs.declared.bom.SpecVersion.{SpecVersion}
 use Rattle.cdx_models.specs.declared.bom.SpecVersion.TheVariants.{V1_3, V1_4, V1_5}
 use Rattle.cdx_models.specs.Versions.{knows, label}
 use Rattle.cdx_models.specs.Trees.{Name, hash, property, attached_text, contact, entity, commit, action, patch, diff, issue, source, reference, dependency, composition, license, expression, tool, component, swid, pedigree, evidence, copyright, service, classification, service_data, tools_object, metadata, signer, signers, chain, bill, Tree, absent, text, number, boolean, items, fields, Trees, none, more, one, two, ◌⧺◌, is_absent, field, with_field}
-use Rattle.cdx_schema.specs.Kinds.{Lists, hashes, properties, urls, contacts, commits, patches, resolved, links, external_references, dependencies, depended, compositions, assemblies, composed, vulnerabilities, licenses, components, services, copyright_texts, endpoints, authors, tool_list, signer_list, chain_list, classifications, flows, Kind, strict, a_reference, a_signature, a_version, an_entry, a_bill, a_text, a_boolean, a_number, a_list, a_record, a_tools, a_data, a_license_choice, a_license_identifier, Need, optional, required, required_first, else_empty, Spelled, attribute, attribute_or, content, one_text, as_cdata, child, filled_child, read_child, children, either_child, the_version, Row}
-use Rattle.cdx_schema.specs.Table.{rows, list, row, must, from, at, of, each, old_reference}
+use Rattle.cdx_schema.specs.Kinds.{Lists, hashes, properties, urls, contacts, commits, patches, resolved, links, external_references, dependencies, depended, compositions, assemblies, composed, vulnerabilities, licenses, components, services, copyright_texts, endpoints, authors, tool_list, signer_list, chain_list, classifications, flows, Kind, strict, a_reference, a_signature, a_version, an_entry, a_bill, a_text, a_boolean, a_number, a_list, a_record, a_tools, a_data, a_license_choice, a_license_identifier, Need, optional, required, required_first, else_empty, Spelled, attribute, attribute_or, content, one_text, as_cdata, child, filled_child, children, either_child, the_version, Row}
+use Rattle.cdx_schema.specs.Table.{rows, list, row, must, from, at, of, each, respelled_reference}
 use Rattle.cdx_schema.specs.Results.{◌>>=◌}
 use Rattle.cdx_schema.specs.Faults.{lacking}
 use Rattle.cdx_schema.specs.Depth.{Depth, inside, name_too_deep}
@@ -92,7 +92,6 @@ skip_row q r t w as' h = at (knows r.since w)
     by as_cdata e = refl
     by (child n) e = refl
     by (filled_child n) e = refl
-    by (read_child n) e = refl
     by (children n) e = refl
     by (either_child m n) e = refl
     by the_version e = refl
@@ -195,7 +194,6 @@ row_attribute_read w r t pre rest around p held lacks' = by r.xml held lacks'
     by as_cdata e l = refl
     by (child n) e l = refl
     by (filled_child n) e l = refl
-    by (read_child n) e l = refl
     by (children n) e l = refl
     by (either_child m n) e l = refl
 
@@ -232,7 +230,6 @@ regathered t = t
 abbrev pub second_at : SpecVersion → Spelled → Kind → Tree → Tree
 second_at w (child n) k t = tripped w t k
 second_at w (filled_child n) k t = if is_hollow t then absent else tripped w t k
-second_at w (read_child n) k t = absent
 second_at w (children n) k t = regathered (tripped w t k)
 second_at w (either_child m n) k t = tripped w t k
 second_at w x k t = first_at w x t
@@ -274,7 +271,6 @@ is_else_empty _ = false
 abbrev pub is_well : Row → Spelled → Bool
 is_well r (child n) = not (is_else_empty r.need)
 is_well r (filled_child n) = is_optional r.need
-is_well r (read_child n) = is_optional r.need
 is_well r (children n) = is_list_kind r.kind
 is_well r (either_child m n) = not (is_else_empty r.need)
 is_well r _ = true
@@ -520,7 +516,6 @@ reads_well n k (attribute q) = not (is_else_empty n) && is_leaf k
 reads_well n k (attribute_or q m) = false
 reads_well n k (child q) = not (is_else_empty n) && is_well_kind k
 reads_well n k (filled_child q) = is_optional n && is_well_kind k
-reads_well n k (read_child q) = is_optional n
 reads_well n k (children q) = is_listed n && is_well_list k q
 reads_well n k (either_child p q) = not (is_else_empty n) && (is_identifier k && (bytes_eq p (codes "id") && bytes_eq q (codes "name")))
 reads_well n k _ = false
@@ -601,7 +596,6 @@ row_back w d t r well h f g = by r.xml refl well
     by : (x : Spelled) → r.xml ≡ x → reads_well r.need r.kind x ≡ true → RowRead w d t r (first_at w x t) (second_at w x r.kind t)
     by (attribute n) e v = silent_row w d t r t (silent (attribute n) e refl)
     by (attribute_or n m) e v = absurd (true≢false (sym v))
-    by (read_child n) e v = silent_row w d t r absent (silent (read_child n) e refl)
     by (child n) e v =
         let p : (not (is_else_empty r.need) ≡ true) × (is_well_kind r.kind ≡ true) = and_true (not (is_else_empty r.need)) (is_well_kind r.kind) v in
         let q : (is_plain r.kind ≡ true) × (is_elem r.kind ≡ true) = and_true (is_plain r.kind) (is_elem r.kind) p.1 in
@@ -758,7 +752,6 @@ row_end w d t r well always h = by r.xml well always
     by (attribute_or n m) v a = absurd (true≢false (sym v))
     by (child n) v a = (lacks_not w d t (tripped w t r.kind) r (Some n) (row_cases w d t r (and_true (not (is_else_empty r.need)) (is_well_kind r.kind) v).0 h) (tripped_there w t r.kind), refl)
     by (filled_child n) v a = (lacks_optional w r _ n (and_true (is_optional r.need) (is_well_kind r.kind) v).0, refl)
-    by (read_child n) v a = (lacks_optional w r absent n v, refl)
     by (children n) v a = (refl, list_kind r.kind refl (and_true (is_listed r.need) (is_well_list r.kind n) v))
       where
         list_kind : (k : Kind) → r.kind ≡ k → (is_listed r.need ≡ true) × (is_well_list k n ≡ true) → filled (record r { xml = children n }) (regathered (tripped w t r.kind)) ≡ none_is_absent r.need (tripped w t r.kind)
@@ -827,7 +820,6 @@ attribute_held dec w d t r v h = by r.xml v
     by as_cdata v' = tt
     by (child n) v' = tt
     by (filled_child n) v' = tt
-    by (read_child n) v' = tt
     by (children n) v' = tt
     by (either_child m n) v' = tt
 
@@ -899,7 +891,7 @@ text_row = must (row a_text content "expression")
 pub expression_back : (w : SpecVersion) (d : Depth) (ts : Trees) → FieldsHeld w d ts (rows expression) → XBack w d expression ts
 unfolding xread nodes_of rows attributes_read ended tripped
 expression_back w d none h = absurd (true≢false h)
-expression_back w d (more a us) h = by a us (optional_text w d a old_reference refl refl h.0) (one_text_of w d us text_row refl refl refl h.1)
+expression_back w d (more a us) h = by a us (optional_text w d a respelled_reference refl refl h.0) (one_text_of w d us text_row refl refl refl h.1)
   where
     at : (g : List ℕ) (b : Tree) → (b ≡ absent) ⊎ ((s : List ℕ) × (b ≡ text s)) → XBack w d expression (more b (one (text g)))
     at g b (inl e) = subst (λ (x : Tree). XBack w d expression (more x (one (text g)))) (sym e) (λ tag p. refl)

@@ -67,9 +67,23 @@ found_read nothing r v d = when_nothing r.need v
 found_read a_null r v d = when_null r.need v
 found_read (found read) r v d = read v r.kind d
 
+abbrev pub named_read : List ℕ → Object → Row → SpecVersion → Depth → Result Tree JsonFault
+named_read name o r v d = under (to_member name) (found_read (o name) r v d)
+
+-- A member that old documents spell otherwise is read under its name where that is there and not null, else under the
+-- old name.
+abbrev pub first_or_old : Found → List ℕ → List ℕ → List ℕ
+first_or_old nothing name old = old
+first_or_old a_null name old = old
+first_or_old (found read) name old = name
+
+abbrev pub member_name : Object → List ℕ → Option (List ℕ) → List ℕ
+member_name o name None = name
+member_name o name (Some old) = first_or_old (o name) name old
+
 -- A kind whose members stand in its record's own object is read by `own`.
 abbrev pub member_read : Member → Object → (Kind → Result Tree JsonFault) → Row → SpecVersion → Depth → Result Tree JsonFault
-member_read (member name) o own r v d = under (to_member name) (found_read (o name) r v d)
+member_read (member name) o own r v d = named_read (member_name o name r.old_name) o r v d
 member_read merged o own r v d = own r.kind
 
 abbrev pub row_read : Object → (Kind → Result Tree JsonFault) → Row → SpecVersion → Depth → Result Tree JsonFault

@@ -1,5 +1,5 @@
 -- The kinds of values that a bill's fields hold, and the rows of the schema.
-use Rattle.std.specs.Prelude.{ℕ, List}
+use Rattle.std.specs.Prelude.{ℕ, List, Option}
 use Rattle.cdx_models.specs.declared.bom.SpecVersion.{SpecVersion}
 use Rattle.cdx_models.specs.Trees.{Name}
 
@@ -49,8 +49,6 @@ pub data Spelled : Type 0 where
   child : List ℕ → Spelled
   -- a child that is written only where it has a child itself
   filled_child : List ℕ → Spelled
-  -- a child that is read and never written
-  read_child : List ℕ → Spelled
   -- children, all of which count
   children : List ℕ → Spelled
   -- one child of either name, and no second one
@@ -74,6 +72,8 @@ pub record Row : Type 0 where
   pub kind : Kind
   pub xml : Spelled
   pub json : Member
+  -- the name that the member has in old documents, which are still read
+  pub old_name : Option (List ℕ)
   -- the first version that knows the row
   pub since : SpecVersion
   pub need : Need

@@ -1,5 +1,5 @@
 -- Laws of rows, as statements: members that no row has, rows in two groups, and one node more.
-use Rattle.std.specs.Prelude.{◌≡◌, ℕ, suc, ◌+◌, List, [], ◌∷◌, ◌++◌, Bool, false, ◌||◌, if◌then◌else◌, Result, Ok, Err, codes}
+use Rattle.std.specs.Prelude.{◌≡◌, ℕ, suc, ◌+◌, List, [], ◌∷◌, ◌++◌, Bool, false, ◌||◌, if◌then◌else◌, Option, Some, None, Result, Ok, Err, codes}
 use Rattle.std.specs.Str.{bytes_eq}
 use Rattle.serde_json.specs.Data.{Data, Members, no_members, put}
 use Rattle.serde_json.specs.Data as json
@@ -32,12 +32,17 @@ abbrev pub is_among : List ℕ → List (List ℕ) → Bool
 is_among q [] = false
 is_among q (n ∷ ns) = bytes_eq q n || is_among q ns
 
--- The names of the members in which a row that the version knows stands: its own, or those of the record that is merged.
+abbrev pub old_names : Option (List ℕ) → List (List ℕ)
+old_names None = []
+old_names (Some old) = old ∷ []
+
+-- The names of the members in which a row that the version knows stands: its own and its old one, or those of the record
+-- that is merged.
 abbrev pub row_names : SpecVersion → Row → List (List ℕ) → List (List ℕ)
 row_names v r merged_in = if knows r.since v then by r.json else []
   where
     by : Member → List (List ℕ)
-    by (member name) = name ∷ []
+    by (member name) = name ∷ old_names r.old_name
     by merged = merged_in
 
 -- the names of rows of which none is merged

@@ -1,15 +1,15 @@
 -- The schema: the rows of each record, in the order in which they are written, and the items of each list.
 use Prim.Native.String.{String}
-use Rattle.std.specs.Prelude.{List, [], ◌∷◌, codes}
+use Rattle.std.specs.Prelude.{List, [], ◌∷◌, Some, None, codes}
 use Rattle.cdx_models.specs.declared.bom.SpecVersion.{SpecVersion}
 use Rattle.cdx_models.specs.declared.bom.SpecVersion.TheVariants.{V1_3, V1_4, V1_5}
 use Rattle.cdx_models.specs.Trees.{Name, hash, property, attached_text, contact, entity, commit, action, patch, diff, issue, source, reference, dependency, composition, license, expression, spdx_id, license_name, tool, component, swid, pedigree, evidence, copyright, service, classification, service_data, tools_object, metadata, signer, signers, chain, bill}
-use Rattle.cdx_schema.specs.Kinds.{Lists, hashes, properties, urls, contacts, commits, patches, resolved, links, external_references, dependencies, depended, compositions, assemblies, composed, vulnerabilities, licenses, components, services, copyright_texts, endpoints, authors, tool_list, signer_list, chain_list, classifications, flows, Kind, a_text, a_boolean, a_number, a_version, a_list, a_record, a_reference, a_license_choice, a_license_identifier, a_tools, a_data, a_signature, Rule, lax, strict, passing, Spelled, attribute, attribute_or, content, one_text, as_cdata, child, filled_child, read_child, children, either_child, the_version, member, merged, optional, required, required_first, else_empty, Row, Listed}
+use Rattle.cdx_schema.specs.Kinds.{Lists, hashes, properties, urls, contacts, commits, patches, resolved, links, external_references, dependencies, depended, compositions, assemblies, composed, vulnerabilities, licenses, components, services, copyright_texts, endpoints, authors, tool_list, signer_list, chain_list, classifications, flows, Kind, a_text, a_boolean, a_number, a_version, a_list, a_record, a_reference, a_license_choice, a_license_identifier, a_tools, a_data, a_signature, Rule, lax, strict, passing, Spelled, attribute, attribute_or, content, one_text, as_cdata, child, filled_child, children, either_child, the_version, member, merged, optional, required, required_first, else_empty, Row, Listed}
 
 -- ---- how a row is written below
 
 abbrev pub row : Kind → Spelled → String → Row
-row k x j = record { kind = k; xml = x; json = member (codes j); since = V1_3; need = optional }
+row k x j = record { kind = k; xml = x; json = member (codes j); old_name = None; since = V1_3; need = optional }
 
 abbrev pub must : Row → Row
 must r = record r { need = required }
@@ -27,9 +27,9 @@ of k name = row k (child (codes name)) name
 abbrev pub each : Lists → String → Row
 each l name = row (a_list l) (children (codes name)) name
 
--- a reference under its old name in JSON
-abbrev pub old_reference : Row
-old_reference = row a_text (attribute (codes "bom-ref")) "bomRef"
+-- a reference that old documents spell otherwise in JSON
+abbrev pub respelled_reference : Row
+respelled_reference = record (at a_text "bom-ref") { old_name = Some (codes "bomRef") }
 
 abbrev pub signature_row : Row
 signature_row = from V1_4 (of a_signature "signature")
@@ -43,8 +43,8 @@ rows attached_text = row a_text (attribute (codes "content-type")) "contentType"
     ∷ at a_text "encoding"
     ∷ must (row a_text one_text "content")
     ∷ []
-rows contact = old_reference ∷ of a_text "name" ∷ of a_text "email" ∷ of a_text "phone" ∷ []
-rows entity = old_reference ∷ of a_text "name" ∷ each urls "url" ∷ each contacts "contact" ∷ []
+rows contact = respelled_reference ∷ of a_text "name" ∷ of a_text "email" ∷ of a_text "phone" ∷ []
+rows entity = respelled_reference ∷ of a_text "name" ∷ each urls "url" ∷ each contacts "contact" ∷ []
 rows commit = of a_text "uid"
     ∷ of a_text "url"
     ∷ of (a_record action) "author"
@@ -71,22 +71,22 @@ rows reference = must (at a_text "type")
     ∷ of (a_list hashes) "hashes"
     ∷ []
 rows dependency = must (at a_text "ref")
-    ∷ record { kind = a_list depended; xml = children (codes "dependency"); json = member (codes "dependsOn"); since = V1_3; need = else_empty }
+    ∷ record (row (a_list depended) (children (codes "dependency")) "dependsOn") { need = else_empty }
     ∷ []
-rows composition = from V1_5 old_reference
+rows composition = from V1_5 respelled_reference
     ∷ must (of a_text "aggregate")
     ∷ of (a_list assemblies) "assemblies"
     ∷ of (a_list composed) "dependencies"
     ∷ from V1_5 (of (a_list vulnerabilities) "vulnerabilities")
     ∷ signature_row
     ∷ []
-rows license = from V1_5 old_reference
-    ∷ record { kind = a_license_identifier; xml = either_child (codes "id") (codes "name"); json = merged; since = V1_3; need = required }
+rows license = from V1_5 respelled_reference
+    ∷ record { kind = a_license_identifier; xml = either_child (codes "id") (codes "name"); json = merged; old_name = None; since = V1_3; need = required }
     ∷ of (a_record attached_text) "text"
     ∷ of a_text "url"
     ∷ from V1_5 (of (a_list properties) "properties")
     ∷ []
-rows expression = old_reference ∷ must (row a_text content "expression") ∷ []
+rows expression = respelled_reference ∷ must (row a_text content "expression") ∷ []
 rows spdx_id = must (row a_text one_text "id") ∷ []
 rows license_name = must (row a_text one_text "name") ∷ []
 rows tool = of a_text "vendor"
@@ -103,7 +103,7 @@ rows component = must (at a_text "type")
     ∷ of a_text "publisher"
     ∷ of a_text "group"
     ∷ must (of a_text "name")
-    ∷ record { kind = a_text; xml = child (codes "version"); json = member (codes "version"); since = V1_3; need = required_first }
+    ∷ record (of a_text "version") { need = required_first }
     ∷ of a_text "description"
     ∷ of a_text "scope"
     ∷ of (a_list hashes) "hashes"
@@ -157,7 +157,7 @@ rows service = at a_text "bom-ref"
 rows classification = must (at a_text "flow") ∷ must (row a_text content "classification") ∷ []
 rows service_data = at a_text "name"
     ∷ at a_text "description"
-    ∷ record { kind = a_record classification; xml = child (codes "classification"); json = merged; since = V1_3; need = required }
+    ∷ record { kind = a_record classification; xml = child (codes "classification"); json = merged; old_name = None; since = V1_3; need = required }
     ∷ []
 rows tools_object = of (a_list services) "services" ∷ of (a_list components) "components" ∷ []
 rows metadata = of a_text "timestamp"
@@ -182,7 +182,7 @@ rows bill = must (row a_version the_version "specVersion")
     ∷ of (a_list dependencies) "dependencies"
     ∷ of (a_list compositions) "compositions"
     ∷ from V1_5 (of (a_list properties) "properties")
-    ∷ from V1_4 (row a_signature (read_child (codes "signature")) "signature")
+    ∷ signature_row
     ∷ []
 
 -- what a record is to what it doesn't know

@@ -2,7 +2,7 @@
 use Rattle.std.specs.Prelude.{ℕ, zero, suc, List, [], ◌∷◌, Bool, true, false, not, ◌&&◌, ◌||◌, if◌then◌else◌, ◌≡◌}
 use Rattle.cdx_models.specs.declared.bom.SpecVersion.{SpecVersion}
 use Rattle.cdx_models.specs.Trees.{contact, tools_object, Tree, absent, text, number, boolean, items, fields, Trees, none, more, two, is_absent}
-use Rattle.cdx_schema.specs.Kinds.{Kind, a_tools, a_bill, Need, optional, Row, Spelled, attribute, attribute_or, content, one_text, as_cdata, child, filled_child, read_child, children, either_child, the_version}
+use Rattle.cdx_schema.specs.Kinds.{Kind, a_tools, a_bill, Need, optional, Row, Spelled, attribute, attribute_or, content, one_text, as_cdata, child, filled_child, children, either_child, the_version}
 use Rattle.cdx_schema.specs.Held.{held_kind}
 use Rattle.cdx_schema.specs.Table.{rows}
 use Rattle.cdx_models.specs.Versions.{lowest}
@@ -17,7 +17,6 @@ is_child one_text = false
 is_child as_cdata = false
 is_child (child name) = true
 is_child (filled_child name) = true
-is_child (read_child name) = true
 is_child (children name) = true
 is_child (either_child m n) = true
 is_child the_version = false
@@ -47,7 +46,6 @@ field_after r t u = by r.xml
   where
     by : Spelled → Tree
     by (filled_child name) = if is_hollow t then absent else u
-    by (read_child name) = absent
     by (children name) = none_is_absent r.need u
     by _ = u
 

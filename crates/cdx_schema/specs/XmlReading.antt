@@ -5,7 +5,7 @@ use Rattle.cdx_models.specs.declared.bom.SpecVersion.{SpecVersion}
 use Rattle.cdx_models.specs.declared.bom.SpecVersion.TheVariants.{V1_3, V1_4, V1_5}
 use Rattle.cdx_models.specs.Versions.{knows, label, namespace}
 use Rattle.cdx_models.specs.Trees.{Name, attached_text, spdx_id, license_name, license, expression, signer, signers, chain, tool, tools_object, classification, service_data, bill, Tree, absent, text, number, items, fields, Trees, none, more, one, two, ◌⧺◌, is_absent, field, with_field}
-use Rattle.cdx_schema.specs.Kinds.{Lists, services, components, Kind, a_text, a_boolean, a_number, a_version, a_list, a_record, a_reference, a_license_choice, a_license_identifier, a_tools, a_data, an_entry, a_signature, a_bill, Rule, lax, strict, passing, Spelled, attribute, attribute_or, content, one_text, as_cdata, child, filled_child, read_child, children, either_child, the_version, Need, required, else_empty, Row}
+use Rattle.cdx_schema.specs.Kinds.{Lists, services, components, Kind, a_text, a_boolean, a_number, a_version, a_list, a_record, a_reference, a_license_choice, a_license_identifier, a_tools, a_data, an_entry, a_signature, a_bill, Rule, lax, strict, passing, Spelled, attribute, attribute_or, content, one_text, as_cdata, child, filled_child, children, either_child, the_version, Need, required, else_empty, Row}
 use Rattle.cdx_schema.specs.Table.{rows, rule, list}
 use Rattle.cdx_schema.specs.Results.{◌>>=◌}
 use Rattle.cdx_events.specs.declared.event.EventKind.{EventKind}
@@ -50,7 +50,6 @@ row_children i r = by r.xml
     by : Spelled → List Child
     by (child name) = record { name = name; since = r.since; kind = r.kind; field = i; place = last } ∷ []
     by (filled_child name) = record { name = name; since = r.since; kind = r.kind; field = i; place = last } ∷ []
-    by (read_child name) = record { name = name; since = r.since; kind = r.kind; field = i; place = last } ∷ []
     by (children name) = record { name = name; since = r.since; kind = held_kind r.kind; field = i; place = all } ∷ []
     by (either_child m n) = record { name = m; since = r.since; kind = r.kind; field = i; place = once } ∷ record { name = n; since = r.since; kind = r.kind; field = i; place = once } ∷ []
     by _ = []
@@ -219,7 +218,6 @@ content_from i (r ∷ rs) = or_later r.xml i (content_from (suc i) rs)
 abbrev pub owed : Spelled → Option (List ℕ)
 owed (child name) = Some name
 owed (filled_child name) = Some name
-owed (read_child name) = Some name
 owed (either_child m n) = Some (m ++ codes " or " ++ n)
 owed _ = None
 

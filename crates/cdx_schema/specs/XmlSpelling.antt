@@ -3,7 +3,7 @@ use Rattle.std.specs.Prelude.{ℕ, List, [], ◌∷◌, ◌++◌, reverse, Bool,
 use Rattle.cdx_models.specs.declared.bom.SpecVersion.{SpecVersion}
 use Rattle.cdx_models.specs.Versions.{knows, namespace}
 use Rattle.cdx_models.specs.Trees.{Name, license, spdx_id, service_data, signers, chain, bill, Tree, absent, text, number, boolean, items, fields, Trees, none, more, is_absent}
-use Rattle.cdx_schema.specs.Kinds.{Kind, a_reference, a_license_choice, a_license_identifier, a_list, a_tools, a_data, a_signature, a_bill, tool_list, classifications, Row, Spelled, attribute, attribute_or, content, one_text, as_cdata, child, filled_child, read_child, children, either_child, the_version}
+use Rattle.cdx_schema.specs.Kinds.{Kind, a_reference, a_license_choice, a_license_identifier, a_list, a_tools, a_data, a_signature, a_bill, tool_list, classifications, Row, Spelled, attribute, attribute_or, content, one_text, as_cdata, child, filled_child, children, either_child, the_version}
 use Rattle.cdx_schema.specs.Held.{held_kind}
 use Rattle.cdx_schema.specs.Table.{rows, list}
 use Rattle.cdx_schema.specs.Trips.{is_hollow, is_passed_over}
@@ -118,7 +118,6 @@ row_nodes one_text t w k xs = xs
 row_nodes as_cdata t w k xs = lone (cdata (text_of t))
 row_nodes (child name) t w k xs = lone (wrapped t w name k xs)
 row_nodes (filled_child name) t w k xs = if is_hollow t then no_nodes else lone (wrapped t w name k xs)
-row_nodes (read_child name) t w k xs = no_nodes
 row_nodes (children name) t w k xs = xs
 row_nodes (either_child m n) t w k xs = lone (wrapped t w m k xs)
 row_nodes the_version t w k xs = no_nodes

@@ -8,7 +8,7 @@ use Rattle.cdx_models.specs.declared.bom.SpecVersion.{SpecVersion}
 use Rattle.cdx_models.specs.declared.bom.SpecVersion.TheVariants.{V1_3, V1_4, V1_5}
 use Rattle.cdx_models.specs.Versions.{knows}
 use Rattle.cdx_models.specs.Trees.{Name, Tree, absent, text, number, boolean, items, fields, Trees, none, more, ◌⧺◌, is_absent, fields_of}
-use Rattle.cdx_schema.specs.Kinds.{Kind, a_record, Spelled, attribute, attribute_or, content, one_text, as_cdata, child, filled_child, read_child, children, either_child, the_version, Row}
+use Rattle.cdx_schema.specs.Kinds.{Kind, a_record, Spelled, attribute, attribute_or, content, one_text, as_cdata, child, filled_child, children, either_child, the_version, Row}
 use Rattle.cdx_schema.specs.Nodes.{◌⊕◌}
 use Rattle.cdx_schema.specs.Table.{rows}
 use Rattle.cdx_schema.specs.Keeping.{kept, keep, rows_kept}
@@ -51,7 +51,6 @@ attribute_row one_text k r t w rest e = sym (none_known (knows r.since w) rest)
 attribute_row as_cdata k r t w rest e = sym (none_known (knows r.since w) rest)
 attribute_row (child name) k r t w rest e = sym (none_known (knows r.since w) rest)
 attribute_row (filled_child name) k r t w rest e = sym (none_known (knows r.since w) rest)
-attribute_row (read_child name) k r t w rest e = sym (none_known (knows r.since w) rest)
 attribute_row (children name) k r t w rest e = sym (none_known (knows r.since w) rest)
 attribute_row (either_child m n) k r t w rest e = sym (none_known (knows r.since w) rest)
 attribute_row the_version k r t w rest e = sym (none_known (knows r.since w) rest)
@@ -116,7 +115,6 @@ row_is one_text r t w rest = something r.since w _ _ rest (sym (inner_there (kee
 row_is as_cdata r t w rest = something r.since w _ _ rest (sym (one_there (is_absent (keep w t r.kind)) _ _ refl))
 row_is (child name) r t w rest = something r.since w _ _ rest (sym (one_there (is_absent (keep w t r.kind)) _ _ (append-nil _)))
 row_is (filled_child name) r t w rest = something r.since w _ _ rest (sym (filled_there (is_absent (keep w t r.kind)) (is_hollow (keep w t r.kind)) _ _ (append-nil _)))
-row_is (read_child name) r t w rest = nothing (knows r.since w) _ rest (none_there (is_absent (keep w t r.kind)))
 row_is (children name) r t w rest = something r.since w _ _ rest (sym (inner_there (keep w t r.kind) w r.kind))
 row_is (either_child m n) r t w rest = something r.since w _ _ rest (sym (one_there (is_absent (keep w t r.kind)) _ _ (append-nil _)))
 row_is the_version r t w rest = nothing (knows r.since w) _ rest (none_there (is_absent (keep w t r.kind)))
@@ -171,7 +169,6 @@ attribute_then_more one_text r t w a b = refl
 attribute_then_more as_cdata r t w a b = refl
 attribute_then_more (child name) r t w a b = refl
 attribute_then_more (filled_child name) r t w a b = refl
-attribute_then_more (read_child name) r t w a b = refl
 attribute_then_more (children name) r t w a b = refl
 attribute_then_more (either_child m n) r t w a b = refl
 attribute_then_more the_version r t w a b = refl
@@ -184,7 +181,6 @@ row_then_more one_text r t w a b = sym (append_assoc (since_put r.since w (inner
 row_then_more as_cdata r t w a b = sym (append_assoc (since_put r.since w (cdata_put r.kind t w)) a b)
 row_then_more (child name) r t w a b = sym (append_assoc (since_put r.since w (child_put name r.kind t w)) a b)
 row_then_more (filled_child name) r t w a b = sym (append_assoc (since_put r.since w (filled_put name r.kind t w)) a b)
-row_then_more (read_child name) r t w a b = refl
 row_then_more (children name) r t w a b = sym (append_assoc (since_put r.since w (inner t w r.kind)) a b)
 row_then_more (either_child m n) r t w a b = sym (append_assoc (since_put r.since w (child_put m r.kind t w)) a b)
 row_then_more the_version r t w a b = refl

@@ -7,7 +7,7 @@ use Rattle.cdx_models.specs.declared.bom.SpecVersion.{SpecVersion}
 use Rattle.cdx_models.specs.declared.bom.SpecVersion.TheVariants.{V1_3, V1_4, V1_5}
 use Rattle.cdx_models.specs.Versions.{knows}
 use Rattle.cdx_models.specs.Trees.{Tree, Trees, none, more, is_absent}
-use Rattle.cdx_schema.specs.Kinds.{Kind, Spelled, attribute, attribute_or, content, one_text, as_cdata, child, filled_child, read_child, children, either_child, the_version, Row}
+use Rattle.cdx_schema.specs.Kinds.{Kind, Spelled, attribute, attribute_or, content, one_text, as_cdata, child, filled_child, children, either_child, the_version, Row}
 use Rattle.cdx_schema.specs.Keeping.{keep}
 use Rattle.cdx_schema.specs.Trips.{is_hollow}
 use Rattle.cdx_schema.specs.XmlTexts.{text_of}
@@ -66,7 +66,6 @@ row_then r t w rest = by r.xml
     by as_cdata = since_put r.since w (cdata_put r.kind t w) ++ rest
     by (child name) = since_put r.since w (child_put name r.kind t w) ++ rest
     by (filled_child name) = since_put r.since w (filled_put name r.kind t w) ++ rest
-    by (read_child name) = rest
     by (children name) = since_put r.since w (inner t w r.kind) ++ rest
     by (either_child m n) = since_put r.since w (child_put m r.kind t w) ++ rest
     by the_version = rest
