@@ -1,5 +1,5 @@
 -- The reading by rows is the schema's, and rows may be read in groups.
-use Rattle.std.proofs.Common.{◌≡◌, List, [], ◌∷◌, ◌++◌, if◌then◌else◌, Result, Ok, Err, refl, sym, ap, ◌∙◌}
+use Rattle.std.proofs.Common.{◌≡◌, List, [], ◌∷◌, ◌++◌, if◌then◌else◌, ℕ, Result, Ok, Err, refl, sym, ap, ◌∙◌}
 use Rattle.cdx_models.specs.declared.bom.SpecVersion.{SpecVersion}
 use Rattle.cdx_models.specs.declared.bom.SpecVersion.TheVariants.{V1_3, V1_4, V1_5}
 use Rattle.cdx_models.specs.Versions.{knows}
@@ -9,7 +9,7 @@ use Rattle.cdx_schema.specs.Table.{rows}
 use Rattle.cdx_schema.specs.Depth.{Depth}
 use Rattle.cdx_schema.specs.Results.{◌>>=◌}
 use Rattle.cdx_schema.specs.Faults.{to_member, JsonFault, under}
-use Rattle.cdx_schema.specs.JsonReading.{Object, Found, nothing, a_null, found, found_read, member_read, row_read, rows_read, no_own, own_read, record_read}
+use Rattle.cdx_schema.specs.JsonReading.{Object, Found, nothing, a_null, found, found_read, member_name, member_read, row_read, rows_read, no_own, own_read, record_read}
 use Rattle.cdx_json.specs.ByRows.{found_as, member_of, late_read, since_read, member_made, row_made, rows_made, own_by_rows, own_made, by_rows, named, identifier_of}
 
 pub then_same : {A B F : Type 0} (x : Result A F) (f g : A → Result B F) → ((a : A) → f a ≡ g a) → (x >>= f) ≡ (x >>= g)
@@ -29,7 +29,8 @@ found_same (found read) r v d = refl
 
 member_same : (m : Member) (o : Object) (own own' : Kind → Result Tree JsonFault) (r : Row) (v : SpecVersion) (d : Depth) → ((k : Kind) → own k ≡ own' k) → member_made m o own r v d ≡ member_read m o own' r v d
 unfolding member_of
-member_same (member name) o own own' r v d same = ap (under (to_member name)) (found_same (o name) r v d)
+member_same (member name) o own own' r v d same =
+    let n : List ℕ = member_name o name r.old_name in ap (under (to_member n)) (found_same (o n) r v d)
 member_same merged o own own' r v d same = same r.kind
 
 since_same : (s v : SpecVersion) (x : Result Tree JsonFault) → since_read s v x ≡ (if knows s v then x else Ok absent)

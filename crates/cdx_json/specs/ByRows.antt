@@ -10,7 +10,7 @@ use Rattle.cdx_schema.specs.Table.{rows, list}
 use Rattle.cdx_schema.specs.Depth.{Depth}
 use Rattle.cdx_schema.specs.Results.{◌>>=◌}
 use Rattle.cdx_schema.specs.Faults.{to_member, wrong_kind, JsonFault, under, here}
-use Rattle.cdx_schema.specs.JsonReading.{Object, Found, nothing, a_null, found, when_nothing, when_null, no_own, identifier_read, signature_read, choice_read, is_lone_license, seen, items_read}
+use Rattle.cdx_schema.specs.JsonReading.{Object, Found, nothing, a_null, found, member_name, when_nothing, when_null, no_own, identifier_read, signature_read, choice_read, is_lone_license, seen, items_read}
 
 -- JSON does not tell a reference from a text.
 abbrev pub plain : Kind → Kind
@@ -40,7 +40,7 @@ since_read V1_4 v r = late_read V1_4 v r
 since_read V1_5 v r = late_read V1_5 v r
 
 abbrev pub member_made : Member → Object → (Kind → Result Tree JsonFault) → Row → SpecVersion → Depth → Result Tree JsonFault
-member_made (member name) o own r v d = member_of o name r.need r.kind v d
+member_made (member name) o own r v d = member_of o (member_name o name r.old_name) r.need r.kind v d
 member_made merged o own r v d = own r.kind
 
 abbrev pub row_made : Object → (Kind → Result Tree JsonFault) → Row → SpecVersion → Depth → Result Tree JsonFault

@@ -17,9 +17,9 @@ pub mod writing;
 pub use depth::Depth;
 pub use fault::{at_item, at_member, here, missing};
 pub use reading::{
-    first_row, has_member, has_value, list_from_items, list_from_value, list_row, member,
-    member_not_null, optional_list_row, optional_list_row_since, optional_row, optional_row_since,
-    required_row,
+    first_or_old, first_row, has_member, has_value, list_from_items, list_from_value, list_row,
+    member, member_not_null, optional_list_row, optional_list_row_since, optional_row,
+    optional_row_since, required_row,
 };
 pub use traits::{FromJson, JsonRecord, Kept, ToJson};
 pub use writing::{

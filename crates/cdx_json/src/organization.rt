@@ -3,7 +3,7 @@
 ghost use Rattle.cdx_models.specs.Trees.{contact};
 
 use crate::depth::Depth;
-use crate::reading::{optional_list_row, optional_row};
+use crate::reading::{first_or_old, optional_list_row, optional_row};
 use crate::traits::JsonRecord;
 use crate::writing::{keep_optional_list, keep_row, put_optional_list, put_row};
 use cdx_models::{JsonReadError, OrganizationalContact, OrganizationalEntity, SpecVersion};
@@ -18,7 +18,8 @@ impl JsonRecord for OrganizationalContact {
         version: SpecVersion,
         depth: Depth,
     ) -> Result<OrganizationalContact, JsonReadError> {
-        let bom_ref = optional_row(alloc, map, "bomRef", version, depth)?;
+        let reference = first_or_old(map, "bom-ref", "bomRef");
+        let bom_ref = optional_row(alloc, map, reference, version, depth)?;
         let name = optional_row(alloc, map, "name", version, depth)?;
         let email = optional_row(alloc, map, "email", version, depth)?;
         let phone = optional_row(alloc, map, "phone", version, depth)?;
@@ -52,7 +53,7 @@ impl JsonRecord for OrganizationalContact {
         map: &mut Map<String, Value>,
         version: SpecVersion,
     ) -> Result<(), AllocError> {
-        put_row(alloc, map, "bomRef", &self.bom_ref, version)?;
+        put_row(alloc, map, "bom-ref", &self.bom_ref, version)?;
         put_row(alloc, map, "name", &self.name, version)?;
         put_row(alloc, map, "email", &self.email, version)?;
         put_row(alloc, map, "phone", &self.phone, version)
@@ -67,7 +68,8 @@ impl JsonRecord for OrganizationalEntity {
         version: SpecVersion,
         depth: Depth,
     ) -> Result<OrganizationalEntity, JsonReadError> {
-        let bom_ref = optional_row(alloc, map, "bomRef", version, depth)?;
+        let reference = first_or_old(map, "bom-ref", "bomRef");
+        let bom_ref = optional_row(alloc, map, reference, version, depth)?;
         let name = optional_row(alloc, map, "name", version, depth)?;
         let url = optional_list_row(alloc, map, "url", version, depth)?;
         let contact = optional_list_row(alloc, map, "contact", version, depth)?;
@@ -101,7 +103,7 @@ impl JsonRecord for OrganizationalEntity {
         map: &mut Map<String, Value>,
         version: SpecVersion,
     ) -> Result<(), AllocError> {
-        put_row(alloc, map, "bomRef", &self.bom_ref, version)?;
+        put_row(alloc, map, "bom-ref", &self.bom_ref, version)?;
         put_row(alloc, map, "name", &self.name, version)?;
         put_optional_list(alloc, map, "url", &self.url, version)?;
         put_optional_list(alloc, map, "contact", &self.contact, version)

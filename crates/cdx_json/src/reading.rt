@@ -6,6 +6,7 @@ ghost use Rattle.serde_json.specs.View.{view, items_view, members_view};
 ghost use Rattle.cdx_models.specs.Trees.{present, list_tree};
 ghost use Rattle.cdx_schema.specs.Kinds.{Lists, a_list, optional, required, else_empty, required_first};
 ghost use Rattle.cdx_schema.specs.JsonReading.{jread, seen};
+ghost use Rattle.cdx_schema.specs.JsonReading as reading;
 ghost use Rattle.cdx_json.specs.Depths.{depth_of};
 ghost use Rattle.cdx_json.specs.ByRows.{IsListOf, member_of, late_read, list_read};
 ghost use Rattle.cdx_json.specs.Gives.{Gives, stands, is_found, non_null};
@@ -49,6 +50,15 @@ pub fn has_value(map: &Map<String, Value>, name: &str) -> bool
     ensures { result ≡ is_found (seen (members_view map.now.entries) name.now) }
 {
     member_not_null(map, name).is_some()
+}
+
+/// The name of the member that a row is read from which old documents spell otherwise: its name where that member is
+/// there and not null, else its old name.
+pub fn first_or_old<'n>(map: &Map<String, Value>, name: &'n str, old_name: &'n str) -> &'n str
+    ensures { result.now
+        ≡ reading.first_or_old (seen (members_view map.now.entries) name.now) name.now old_name.now }
+{
+    if has_value(map, name) { name } else { old_name }
 }
 
 impl FromJson for Text {

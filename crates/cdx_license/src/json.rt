@@ -15,7 +15,7 @@ ghost use Rattle.cdx_json.specs.KeptRows.{put_own};
 
 use crate::license::{Expression, License, LicenseChoice, LicenseIdentifier, Licenses};
 use cdx_json::{
-    Depth, FromJson, JsonRecord, Kept, ToJson, has_member, here, keep_list, keep_row,
+    Depth, FromJson, JsonRecord, Kept, ToJson, first_or_old, has_member, here, keep_list, keep_row,
     keep_row_since, list_from_value, list_to_value, missing, optional_row, optional_row_since,
     put_required, put_row, put_row_since, required_row,
 };
@@ -31,7 +31,8 @@ impl JsonRecord for Expression {
         version: SpecVersion,
         depth: Depth,
     ) -> Result<Expression, JsonReadError> {
-        let bom_ref = optional_row(alloc, map, "bomRef", version, depth)?;
+        let reference = first_or_old(map, "bom-ref", "bomRef");
+        let bom_ref = optional_row(alloc, map, reference, version, depth)?;
         let expression = required_row(alloc, map, "expression", version, depth)?;
         Ok(Expression {
             bom_ref,
@@ -59,7 +60,7 @@ impl JsonRecord for Expression {
         map: &mut Map<String, Value>,
         version: SpecVersion,
     ) -> Result<(), AllocError> {
-        put_row(alloc, map, "bomRef", &self.bom_ref, version)?;
+        put_row(alloc, map, "bom-ref", &self.bom_ref, version)?;
         put_required(alloc, map, "expression", &self.expression, version)
     }
 }
@@ -72,7 +73,8 @@ impl JsonRecord for License {
         version: SpecVersion,
         depth: Depth,
     ) -> Result<License, JsonReadError> {
-        let bom_ref = optional_row_since(alloc, map, "bomRef", SpecVersion::V1_5, version, depth)?;
+        let reference = first_or_old(map, "bom-ref", "bomRef");
+        let bom_ref = optional_row_since(alloc, map, reference, SpecVersion::V1_5, version, depth)?;
         let license_identifier = identifier_from_members(alloc, map, version, depth)?;
         let text = optional_row(alloc, map, "text", version, depth)?;
         let url = optional_row(alloc, map, "url", version, depth)?;
@@ -119,7 +121,7 @@ impl JsonRecord for License {
         put_row_since(
             alloc,
             map,
-            "bomRef",
+            "bom-ref",
             &self.bom_ref,
             SpecVersion::V1_5,
             version,

@@ -6,7 +6,7 @@ ghost use Rattle.cdx_json.specs.Stays.{reference_stays, list_stays};
 
 use crate::composition::{BomReference, Composition, Compositions};
 use cdx_json::{
-    Depth, FromJson, JsonRecord, Kept, ToJson, here, keep_list, keep_optional_list,
+    Depth, FromJson, JsonRecord, Kept, ToJson, first_or_old, here, keep_list, keep_optional_list,
     keep_optional_list_since, keep_row_since, list_from_value, list_to_value, optional_list_row,
     optional_list_row_since, optional_row_since, put_optional_list, put_optional_list_since,
     put_required, put_row_since, required_row,
@@ -58,7 +58,8 @@ impl JsonRecord for Composition {
         version: SpecVersion,
         depth: Depth,
     ) -> Result<Composition, JsonReadError> {
-        let bom_ref = optional_row_since(alloc, map, "bomRef", SpecVersion::V1_5, version, depth)?;
+        let reference = first_or_old(map, "bom-ref", "bomRef");
+        let bom_ref = optional_row_since(alloc, map, reference, SpecVersion::V1_5, version, depth)?;
         let aggregate = required_row(alloc, map, "aggregate", version, depth)?;
         let assemblies = optional_list_row(alloc, map, "assemblies", version, depth)?;
         let dependencies = optional_list_row(alloc, map, "dependencies", version, depth)?;
@@ -121,7 +122,7 @@ impl JsonRecord for Composition {
         put_row_since(
             alloc,
             map,
-            "bomRef",
+            "bom-ref",
             &self.bom_ref,
             SpecVersion::V1_5,
             version,
