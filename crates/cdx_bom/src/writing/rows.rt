@@ -50,7 +50,6 @@ pub(crate) fn write_inventory_rows(
     put_child(alloc, writer, w, "services", &held.services)
 }
 
-// The signature isn't written.
 pub(crate) fn write_relations_rows(
     held: &Bom,
     alloc: Global,
@@ -76,5 +75,13 @@ pub(crate) fn write_relations_rows(
         SpecVersion::V1_5,
         "properties",
         &held.properties,
+    )?;
+    put_child_since(
+        alloc,
+        writer,
+        w,
+        SpecVersion::V1_4,
+        "signature",
+        &held.signature,
     )
 }

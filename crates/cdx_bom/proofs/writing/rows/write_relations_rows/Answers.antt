@@ -26,9 +26,19 @@ returns-in_err-put_child-3 c =
     (then_all c.put_child.new.writer c.put_child-2.new.writer c.put_child-3.new.writer _ _ (Err _) (c.in_ok-put_child-2.ensures)
     (first_fails c.put_child-2.new.writer c.put_child-3.new.writer _ _ _ (c.in_err-put_child-3.ensures))))
 
+pub returns-in_err-put_child_since : goal.returns-in_err-put_child_since
+unfolding rows_written rows list
+returns-in_err-put_child_since c =
+    let p = err_from_is_err_and c.from_residual-in_err-put_child_since.result c.from_residual-in_err-put_child_since.ensures.1 in
+    rw (p.1, p.2) (then_all c.args.writer.now c.put_child.new.writer c.put_child_since.new.writer _ _ (Err _) (c.in_ok-put_child.ensures)
+    (then_all c.put_child.new.writer c.put_child-2.new.writer c.put_child_since.new.writer _ _ (Err _) (c.in_ok-put_child-2.ensures)
+    (then_all c.put_child-2.new.writer c.put_child-3.new.writer c.put_child_since.new.writer _ _ (Err _) (c.in_ok-put_child-3.ensures)
+    (first_fails c.put_child-3.new.writer c.put_child_since.new.writer _ _ _ (c.in_err-put_child_since.ensures)))))
+
 pub returns : goal.returns
 unfolding rows_written rows list
-returns c = then_all c.args.writer.now c.put_child.new.writer c.put_child_since.new.writer _ _ c.put_child_since.result (c.in_ok-put_child.ensures)
-    (then_all c.put_child.new.writer c.put_child-2.new.writer c.put_child_since.new.writer _ _ c.put_child_since.result (c.in_ok-put_child-2.ensures)
-    (then_all c.put_child-2.new.writer c.put_child-3.new.writer c.put_child_since.new.writer _ _ c.put_child_since.result (c.in_ok-put_child-3.ensures)
-    (last_row c.put_child-3.new.writer c.put_child_since.new.writer _ c.put_child_since.result (c.put_child_since.ensures))))
+returns c = then_all c.args.writer.now c.put_child.new.writer c.put_child_since-2.new.writer _ _ c.put_child_since-2.result (c.in_ok-put_child.ensures)
+    (then_all c.put_child.new.writer c.put_child-2.new.writer c.put_child_since-2.new.writer _ _ c.put_child_since-2.result (c.in_ok-put_child-2.ensures)
+    (then_all c.put_child-2.new.writer c.put_child-3.new.writer c.put_child_since-2.new.writer _ _ c.put_child_since-2.result (c.in_ok-put_child-3.ensures)
+    (then_all c.put_child-3.new.writer c.put_child_since.new.writer c.put_child_since-2.new.writer _ _ c.put_child_since-2.result (c.in_ok-put_child_since.ensures)
+    (last_row c.put_child_since.new.writer c.put_child_since-2.new.writer _ c.put_child_since-2.result (c.put_child_since-2.ensures)))))
