@@ -318,7 +318,7 @@ const CARRIED: &str = r#"
     1.4 carries xml 1.4 <services|<service|<name|=s|>name|>service|>services| -> json 1.3 "services":[{"name":"s"}],
     1.3 carries json 1.5 "serialNumber":null,"services":[], -> xml 1.5 <services|>services|
     1.5 carries json 1.5 "metadata":{"tools":[{"name":"my_tool"}]}, -> xml 1.5 <metadata|<tools|<tool|<name|=my_tool|>name|>tool|>tools|>metadata| -> json 1.5 "metadata":{"tools":[{"name":"my_tool"}]},
-    1.5 carries json 1.5 "signature":[{"algorithm":"ES256","value":"a"}], -> json 1.5 "signature":{"signers":[{"algorithm":"ES256","value":"a"}]}, -> xml 1.5 -> json 1.5
+    1.5 carries json 1.5 "signature":[{"algorithm":"ES256","value":"a"}], -> json 1.5 "signature":{"signers":[{"algorithm":"ES256","value":"a"}]}, -> xml 1.5 <signature|<signers|<signer|<algorithm|=ES256|>algorithm|<value|=a|>value|>signer|>signers|>signature| -> json 1.5 "signature":{"signers":[{"algorithm":"ES256","value":"a"}]},
     1.5 carries json 1.5 "signature":{"chain":[{"algorithm":"ES256","value":"a"}]}, -> json 1.4 "signature":{"chain":[{"algorithm":"ES256","value":"a"}]}, -> json 1.3 -> json 1.4
     1.5 carries json 1.5 "components":[{"name":"a","supplier":{"url":[]},"type":"library"}], -> xml 1.5 <components|<component type=library|<supplier|>supplier|<name|=a|>name|>component|>components| -> xml 1.5 <components|<component type=library|<name|=a|>name|>component|>components| -> xml 1.5 <components|<component type=library|<name|=a|>name|>component|>components|
     1.5 carries json 1.5 "metadata":{"tools":[]}, -> xml 1.5 <metadata|<tools|>tools|>metadata| -> json 1.5 "metadata":{"tools":{}},

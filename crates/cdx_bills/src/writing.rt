@@ -17,14 +17,14 @@ use std::test::Fail;
 const EVERY: &str =
     r#"json 1.5 "components":[{"name":"a","type":"t","version":"1"}],"compositions":[{"aggregate":"complete"}],"dependencies":[{"ref":"a"}],"externalReferences":[{"type":"t","url":"u"}],"metadata":{"timestamp":"t"},"properties":[{"name":"n","value":"v"}],"services":[{"name":"s"}],"signature":{"algorithm":"ES256","value":"v"},"#;
 
-// The signature is known from 1.4 on and isn't written as XML, and properties are known from 1.5 on.
+// The signature is known from 1.4 on, and properties are known from 1.5 on.
 const EVERY_WRITTEN: &str = r#"
     json 1.3 "components":[{"name":"a","type":"t","version":"1"}],"compositions":[{"aggregate":"complete"}],"dependencies":[{"ref":"a"}],"externalReferences":[{"type":"t","url":"u"}],"metadata":{"timestamp":"t"},"services":[{"name":"s"}],
     json 1.4 "components":[{"name":"a","type":"t","version":"1"}],"compositions":[{"aggregate":"complete"}],"dependencies":[{"ref":"a"}],"externalReferences":[{"type":"t","url":"u"}],"metadata":{"timestamp":"t"},"services":[{"name":"s"}],"signature":{"algorithm":"ES256","value":"v"},
     json 1.5 "components":[{"name":"a","type":"t","version":"1"}],"compositions":[{"aggregate":"complete"}],"dependencies":[{"ref":"a"}],"externalReferences":[{"type":"t","url":"u"}],"metadata":{"timestamp":"t"},"properties":[{"name":"n","value":"v"}],"services":[{"name":"s"}],"signature":{"algorithm":"ES256","value":"v"},
     xml 1.3 <metadata|<timestamp|=t|>timestamp|>metadata|<components|<component type=t|<name|=a|>name|<version|=1|>version|>component|>components|<services|<service|<name|=s|>name|>service|>services|<externalReferences|<reference type=t|<url|=u|>url|>reference|>externalReferences|<dependencies|<dependency ref=a|>dependency|>dependencies|<compositions|<composition|<aggregate|=complete|>aggregate|>composition|>compositions|
-    xml 1.4 <metadata|<timestamp|=t|>timestamp|>metadata|<components|<component type=t|<name|=a|>name|<version|=1|>version|>component|>components|<services|<service|<name|=s|>name|>service|>services|<externalReferences|<reference type=t|<url|=u|>url|>reference|>externalReferences|<dependencies|<dependency ref=a|>dependency|>dependencies|<compositions|<composition|<aggregate|=complete|>aggregate|>composition|>compositions|
-    xml 1.5 <metadata|<timestamp|=t|>timestamp|>metadata|<components|<component type=t|<name|=a|>name|<version|=1|>version|>component|>components|<services|<service|<name|=s|>name|>service|>services|<externalReferences|<reference type=t|<url|=u|>url|>reference|>externalReferences|<dependencies|<dependency ref=a|>dependency|>dependencies|<compositions|<composition|<aggregate|=complete|>aggregate|>composition|>compositions|<properties|<property name=n|=v|>property|>properties|
+    xml 1.4 <metadata|<timestamp|=t|>timestamp|>metadata|<components|<component type=t|<name|=a|>name|<version|=1|>version|>component|>components|<services|<service|<name|=s|>name|>service|>services|<externalReferences|<reference type=t|<url|=u|>url|>reference|>externalReferences|<dependencies|<dependency ref=a|>dependency|>dependencies|<compositions|<composition|<aggregate|=complete|>aggregate|>composition|>compositions|<signature|<algorithm|=ES256|>algorithm|<value|=v|>value|>signature|
+    xml 1.5 <metadata|<timestamp|=t|>timestamp|>metadata|<components|<component type=t|<name|=a|>name|<version|=1|>version|>component|>components|<services|<service|<name|=s|>name|>service|>services|<externalReferences|<reference type=t|<url|=u|>url|>reference|>externalReferences|<dependencies|<dependency ref=a|>dependency|>dependencies|<compositions|<composition|<aggregate|=complete|>aggregate|>composition|>compositions|<properties|<property name=n|=v|>property|>properties|<signature|<algorithm|=ES256|>algorithm|<value|=v|>value|>signature|
 "#;
 
 fn is_written(rt: &impl Abort, alloc: Global, bill: &Bom) -> Result<(), Fail> {
@@ -57,7 +57,8 @@ fn into_writers(rt: HostRuntime) -> Result<(), Fail> {
     let alloc = rt.alloc();
     let bill = bill(alloc, r#"json 1.5 "serialNumber":"U","signature":[],"#)?;
     holds(&rt, bill.will_write());
-    let line = "start|<bom xmlns=1.4 serialNumber=U version=1|>bom|end";
+    let line =
+        "start|<bom xmlns=1.4 serialNumber=U version=1|<signature|<signers|>signers|>signature|>bom|end";
     text_is(&rt, appended(alloc, &bill, V4)?.as_str(), line);
     Ok(())
 }

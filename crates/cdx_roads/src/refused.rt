@@ -6,6 +6,8 @@ use std::test::Fail;
 
 const REFUSED: &str = r#"
     // In JSON:
+    // a reference that is a number, beside one under the old spelling
+    {"doc":{"json":{"bomFormat":"CycloneDX","components":[{"licenses":[{"bom-ref":1,"bomRef":"e","expression":"MIT"}],"name":"a","type":"library"}],"specVersion":"1.5","version":1}},"from":"1.5","hops":[{"form":"json","version":"1.5"}]} -> {"refused":{"cause":"wrong kind","path":"/components/0/licenses/0/bom-ref"}}
     // null for a list of references
     {"doc":{"json":{"bomFormat":"CycloneDX","dependencies":[{"dependsOn":null,"ref":"a"}],"specVersion":"1.5","version":1}},"from":"1.5","hops":[]} -> {"refused":{"cause":"wrong kind","path":"/dependencies/0/dependsOn"}}
     // a version missing

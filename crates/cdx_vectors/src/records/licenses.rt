@@ -6,11 +6,24 @@ use cdx_signature::{Signature, Signer};
 use std::test::Fail;
 
 const EXPRESSION: &str = r#"
-    1.5 reads,keeps {"bomRef":"r","expression":"e"}
+    1.5 reads,keeps {"bom-ref":"r","expression":"e"}
+    // the reference as old documents spell it, and under both spellings
+    1.5 reads,keeps {"expression":"e","bomRef":"r"} -> {"bom-ref":"r","expression":"e"}
+    1.5 reads {"expression":"e","bom-ref":null,"bomRef":"r"} -> {"bom-ref":"r","expression":"e"}
+    1.5 reads {"expression":"e","bom-ref":"r","bomRef":1} -> {"bom-ref":"r","expression":"e"}
+    1.5 reads {"expression":"e","bom-ref":1,"bomRef":"r"} -> WrongKind /bom-ref
+    1.5 reads {"expression":"e","bomRef":1} -> WrongKind /bomRef
 "#;
 
 const LICENSE: &str = r#"
-    1.5 reads,keeps {"bomRef":"r","id":"MIT","properties":[],"text":{"content":"c"},"url":"u"}
+    1.5 reads,keeps {"bom-ref":"r","id":"MIT","properties":[],"text":{"content":"c"},"url":"u"}
+    // the reference as old documents spell it, and under both spellings
+    1.5 reads,keeps {"id":"MIT","bomRef":"r"} -> {"bom-ref":"r","id":"MIT"}
+    1.5 reads {"id":"MIT","bom-ref":null,"bomRef":"r"} -> {"bom-ref":"r","id":"MIT"}
+    1.5 reads {"id":"MIT","bom-ref":"r","bomRef":1} -> {"bom-ref":"r","id":"MIT"}
+    1.5 reads {"id":"MIT","bom-ref":1,"bomRef":"r"} -> WrongKind /bom-ref
+    1.5 reads {"id":"MIT","bomRef":1} -> WrongKind /bomRef
+    1.4 reads {"bom-ref":1,"bomRef":1,"id":"MIT"} -> {"id":"MIT"}
     1.5 reads,keeps {"name":"M"}
     1.5 reads {"name":"M","id":"MIT"} -> {"id":"MIT"}
     1.5 parses <license|<id|=MIT|>id|<name|=M|>name|>license -> unexpected 5 license StartElement
@@ -18,7 +31,7 @@ const LICENSE: &str = r#"
     1.5 differs {"id":"MIT"}
     1.5 differs {"id":"ISC"}
     1.5 differs {"name":"MIT"}
-    1.5 differs {"id":"MIT","bomRef":"a"}
+    1.5 differs {"id":"MIT","bom-ref":"a"}
     1.5 differs {"id":"MIT","text":{"content":"a"}}
     1.5 differs {"id":"MIT","url":"a"}
     1.5 differs {"id":"MIT","properties":[]}
@@ -46,8 +59,8 @@ const LICENSES: &str = r#"
     1.5 reads,keeps [{"license":{"id":"MIT"}},{"expression":"e"}]
     1.5 parses <licenses|<license|<id|=MIT|>id|<text|=t|>text|>license|<expression|=MIT|>expression|>licenses -> [{"license":{"id":"MIT","text":{"content":"t"}}},{"expression":"MIT"}]
     // a license has a reference and properties from 1.5 on
-    1.4 writes [{"license":{"bomRef":"l","id":"MIT","properties":[{"name":"k","value":""}],"text":{"content":"t"},"url":"u"}},{"bomRef":"x","expression":"MIT OR Zlib"}] -> <licenses|<license|<id|=MIT|>id|<text|=t|>text|<url|=u|>url|>license|<expression bom-ref=x|=MIT OR Zlib|>expression|>licenses
-    1.5 writes [{"license":{"bomRef":"l","id":"MIT","properties":[{"name":"k","value":""}],"text":{"content":"t"},"url":"u"}},{"bomRef":"x","expression":"MIT OR Zlib"}] -> <licenses|<license bom-ref=l|<id|=MIT|>id|<text|=t|>text|<url|=u|>url|<properties|<property name=k|=|>property|>properties|>license|<expression bom-ref=x|=MIT OR Zlib|>expression|>licenses
+    1.4 writes [{"license":{"bom-ref":"l","id":"MIT","properties":[{"name":"k","value":""}],"text":{"content":"t"},"url":"u"}},{"bom-ref":"x","expression":"MIT OR Zlib"}] -> <licenses|<license|<id|=MIT|>id|<text|=t|>text|<url|=u|>url|>license|<expression bom-ref=x|=MIT OR Zlib|>expression|>licenses
+    1.5 writes [{"license":{"bom-ref":"l","id":"MIT","properties":[{"name":"k","value":""}],"text":{"content":"t"},"url":"u"}},{"bom-ref":"x","expression":"MIT OR Zlib"}] -> <licenses|<license bom-ref=l|<id|=MIT|>id|<text|=t|>text|<url|=u|>url|<properties|<property name=k|=|>property|>properties|>license|<expression bom-ref=x|=MIT OR Zlib|>expression|>licenses
     1.5 differs []
     1.5 differs [{"expression":"MIT"}]
 "#;

@@ -92,30 +92,42 @@ fn values_hashes_and_properties(rt: HostRuntime) -> Result<(), Fail> {
 
 const ORGANIZATIONAL_CONTACT: &str = r#"
     1.5 reads,keeps {}
-    1.5 reads,keeps {"bomRef":"r","email":"e","name":"n","phone":"p"}
+    1.5 reads,keeps {"bom-ref":"r","email":"e","name":"n","phone":"p"}
+    // the reference as old documents spell it, and under both spellings
+    1.3 reads,keeps {"name":"n","bomRef":"r"} -> {"bom-ref":"r","name":"n"}
+    1.3 reads {"name":"n","bom-ref":null,"bomRef":"r"} -> {"bom-ref":"r","name":"n"}
+    1.3 reads {"name":"n","bom-ref":"r","bomRef":1} -> {"bom-ref":"r","name":"n"}
+    1.3 reads {"name":"n","bom-ref":1,"bomRef":"r"} -> WrongKind /bom-ref
+    1.3 reads {"name":"n","bomRef":1} -> WrongKind /bomRef
     1.5 parses <author|<name|=A|>name|>author -> {"name":"A"}
-    1.5 names {"bomRef":"c","email":"a@b","name":"Ann","phone":"12"} -> <n bom-ref=c|<name|=Ann|>name|<email|=a@b|>email|<phone|=12|>phone|>n
+    1.5 names {"bom-ref":"c","email":"a@b","name":"Ann","phone":"12"} -> <n bom-ref=c|<name|=Ann|>name|<email|=a@b|>email|<phone|=12|>phone|>n
     // without name, email and phone it is written by itself, and passed over in a list
-    1.5 names {"bomRef":"c"} -> <n bom-ref=c|>n
+    1.5 names {"bom-ref":"c"} -> <n bom-ref=c|>n
     1.5 fills {"name":"a"} -> written
-    1.5 fills {"bomRef":"c"} -> passed over
-    1.5 differs {"bomRef":"a","name":"b","email":"c","phone":"d"}
-    1.5 differs {"bomRef":"x","name":"b","email":"c","phone":"d"}
-    1.5 differs {"bomRef":"a","name":"x","email":"c","phone":"d"}
-    1.5 differs {"bomRef":"a","name":"b","email":"x","phone":"d"}
-    1.5 differs {"bomRef":"a","name":"b","email":"c"}
+    1.5 fills {"bom-ref":"c"} -> passed over
+    1.5 differs {"bom-ref":"a","name":"b","email":"c","phone":"d"}
+    1.5 differs {"bom-ref":"x","name":"b","email":"c","phone":"d"}
+    1.5 differs {"bom-ref":"a","name":"x","email":"c","phone":"d"}
+    1.5 differs {"bom-ref":"a","name":"b","email":"x","phone":"d"}
+    1.5 differs {"bom-ref":"a","name":"b","email":"c"}
 "#;
 
 const ORGANIZATIONAL_ENTITY: &str = r#"
-    1.5 reads,keeps {"bomRef":"r","contact":[{"name":"n"}],"name":"n","url":["u","w"]}
+    1.5 reads,keeps {"bom-ref":"r","contact":[{"name":"n"}],"name":"n","url":["u","w"]}
+    // the reference as old documents spell it, and under both spellings
+    1.3 reads,keeps {"name":"n","bomRef":"r"} -> {"bom-ref":"r","name":"n"}
+    1.3 reads {"name":"n","bom-ref":null,"bomRef":"r"} -> {"bom-ref":"r","name":"n"}
+    1.3 reads {"name":"n","bom-ref":"r","bomRef":1} -> {"bom-ref":"r","name":"n"}
+    1.3 reads {"name":"n","bom-ref":1,"bomRef":"r"} -> WrongKind /bom-ref
+    1.3 reads {"name":"n","bomRef":1} -> WrongKind /bomRef
     1.5 reads,keeps {"contact":[],"url":[]}
-    1.5 parses <supplier bom-ref=r|<url|=a|>url|<note|>note|<url|=b|>url|>supplier -> {"bomRef":"r","url":["a","b"]}
-    1.5 names {"bomRef":"e","contact":[{"bomRef":"c"},{"bomRef":"d","name":"Ann"}],"name":"Acme","url":["u","v"]} -> <n bom-ref=e|<name|=Acme|>name|<url|=u|>url|<url|=v|>url|<contact bom-ref=d|<name|=Ann|>name|>contact|>n
-    1.5 names {"bomRef":"e","contact":[{"bomRef":"c"}],"url":[]} -> <n bom-ref=e|>n
+    1.5 parses <supplier bom-ref=r|<url|=a|>url|<note|>note|<url|=b|>url|>supplier -> {"bom-ref":"r","url":["a","b"]}
+    1.5 names {"bom-ref":"e","contact":[{"bom-ref":"c"},{"bom-ref":"d","name":"Ann"}],"name":"Acme","url":["u","v"]} -> <n bom-ref=e|<name|=Acme|>name|<url|=u|>url|<url|=v|>url|<contact bom-ref=d|<name|=Ann|>name|>contact|>n
+    1.5 names {"bom-ref":"e","contact":[{"bom-ref":"c"}],"url":[]} -> <n bom-ref=e|>n
     1.5 fills {"url":[]} -> written
-    1.5 fills {"bomRef":"e"} -> passed over
+    1.5 fills {"bom-ref":"e"} -> passed over
     1.5 differs {"name":"Acme"}
-    1.5 differs {"bomRef":"a","name":"Acme"}
+    1.5 differs {"bom-ref":"a","name":"Acme"}
     1.5 differs {}
     1.5 differs {"name":"Acme","url":["u"]}
     1.5 differs {"name":"Acme","contact":[{"name":"c"}]}

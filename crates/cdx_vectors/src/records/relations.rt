@@ -30,10 +30,17 @@ const DEPENDENCIES: &str = r#"
 
 const COMPOSITION: &str = r#"
     // a signature is known from 1.4 on, and a reference of its own and vulnerabilities from 1.5 on
-    1.3 reads,keeps {"aggregate":"complete","assemblies":["a"],"bomRef":"r","dependencies":["b"],"signature":{"signers":[]},"vulnerabilities":["c"]} -> {"aggregate":"complete","assemblies":["a"],"dependencies":["b"]}
-    1.4 reads,keeps {"aggregate":"complete","assemblies":["a"],"bomRef":"r","dependencies":["b"],"signature":{"signers":[]},"vulnerabilities":["c"]} -> {"aggregate":"complete","assemblies":["a"],"dependencies":["b"],"signature":{"signers":[]}}
-    1.5 reads,keeps {"aggregate":"complete","assemblies":["a"],"bomRef":"r","dependencies":["b"],"signature":{"signers":[]},"vulnerabilities":["c"]}
+    1.3 reads,keeps {"aggregate":"complete","assemblies":["a"],"bom-ref":"r","dependencies":["b"],"signature":{"signers":[]},"vulnerabilities":["c"]} -> {"aggregate":"complete","assemblies":["a"],"dependencies":["b"]}
+    1.4 reads,keeps {"aggregate":"complete","assemblies":["a"],"bom-ref":"r","dependencies":["b"],"signature":{"signers":[]},"vulnerabilities":["c"]} -> {"aggregate":"complete","assemblies":["a"],"dependencies":["b"],"signature":{"signers":[]}}
+    1.5 reads,keeps {"aggregate":"complete","assemblies":["a"],"bom-ref":"r","dependencies":["b"],"signature":{"signers":[]},"vulnerabilities":["c"]}
     1.3 reads {"aggregate":"complete","signature":1} -> {"aggregate":"complete"}
+    // the reference as old documents spell it, and under both spellings
+    1.5 reads,keeps {"aggregate":"a","bomRef":"r"} -> {"aggregate":"a","bom-ref":"r"}
+    1.5 reads {"aggregate":"a","bom-ref":null,"bomRef":"r"} -> {"aggregate":"a","bom-ref":"r"}
+    1.5 reads {"aggregate":"a","bom-ref":"r","bomRef":1} -> {"aggregate":"a","bom-ref":"r"}
+    1.5 reads {"aggregate":"a","bom-ref":1,"bomRef":"r"} -> WrongKind /bom-ref
+    1.5 reads {"aggregate":"a","bomRef":1} -> WrongKind /bomRef
+    1.4 reads {"aggregate":"a","bom-ref":1,"bomRef":1} -> {"aggregate":"a"}
     1.4 reads {"aggregate":"complete","signature":1} -> WrongKind /signature
     1.3 parses <composition|<aggregate|=complete|>aggregate|<signature|>signature|>composition -> unexpected 5 composition StartElement
     1.5 parses <composition|<aggregate|=complete|>aggregate|<signature|>signature|>composition -> missing 6 signature algorithm
@@ -42,14 +49,14 @@ const COMPOSITION: &str = r#"
 const COMPOSITIONS: &str = r#"
     1.5 reads,keeps [{"aggregate":"complete"}]
     1.3 parses <compositions|<composition bom-ref=r|<assemblies|<assembly ref=a|>assembly|>assemblies|<aggregate|=complete|>aggregate|>composition|>compositions -> [{"aggregate":"complete","assemblies":["a"]}]
-    1.5 parses <compositions|<composition bom-ref=r|<assemblies|<assembly ref=a|>assembly|>assemblies|<aggregate|=complete|>aggregate|>composition|>compositions -> [{"aggregate":"complete","assemblies":["a"],"bomRef":"r"}]
-    1.3 writes [{"aggregate":"complete","assemblies":["a"],"bomRef":"o","dependencies":["d"],"signature":{"algorithm":"ES256","value":"s"},"vulnerabilities":["v"]}] -> <compositions|<composition|<aggregate|=complete|>aggregate|<assemblies|<assembly ref=a|>assembly|>assemblies|<dependencies|<dependency ref=d|>dependency|>dependencies|>composition|>compositions
-    1.4 writes [{"aggregate":"complete","assemblies":["a"],"bomRef":"o","dependencies":["d"],"signature":{"algorithm":"ES256","value":"s"},"vulnerabilities":["v"]}] -> <compositions|<composition|<aggregate|=complete|>aggregate|<assemblies|<assembly ref=a|>assembly|>assemblies|<dependencies|<dependency ref=d|>dependency|>dependencies|<signature|<algorithm|=ES256|>algorithm|<value|=s|>value|>signature|>composition|>compositions
-    1.5 writes [{"aggregate":"complete","assemblies":["a"],"bomRef":"o","dependencies":["d"],"signature":{"algorithm":"ES256","value":"s"},"vulnerabilities":["v"]}] -> <compositions|<composition bom-ref=o|<aggregate|=complete|>aggregate|<assemblies|<assembly ref=a|>assembly|>assemblies|<dependencies|<dependency ref=d|>dependency|>dependencies|<vulnerabilities|<vulnerability ref=v|>vulnerability|>vulnerabilities|<signature|<algorithm|=ES256|>algorithm|<value|=s|>value|>signature|>composition|>compositions
+    1.5 parses <compositions|<composition bom-ref=r|<assemblies|<assembly ref=a|>assembly|>assemblies|<aggregate|=complete|>aggregate|>composition|>compositions -> [{"aggregate":"complete","assemblies":["a"],"bom-ref":"r"}]
+    1.3 writes [{"aggregate":"complete","assemblies":["a"],"bom-ref":"o","dependencies":["d"],"signature":{"algorithm":"ES256","value":"s"},"vulnerabilities":["v"]}] -> <compositions|<composition|<aggregate|=complete|>aggregate|<assemblies|<assembly ref=a|>assembly|>assemblies|<dependencies|<dependency ref=d|>dependency|>dependencies|>composition|>compositions
+    1.4 writes [{"aggregate":"complete","assemblies":["a"],"bom-ref":"o","dependencies":["d"],"signature":{"algorithm":"ES256","value":"s"},"vulnerabilities":["v"]}] -> <compositions|<composition|<aggregate|=complete|>aggregate|<assemblies|<assembly ref=a|>assembly|>assemblies|<dependencies|<dependency ref=d|>dependency|>dependencies|<signature|<algorithm|=ES256|>algorithm|<value|=s|>value|>signature|>composition|>compositions
+    1.5 writes [{"aggregate":"complete","assemblies":["a"],"bom-ref":"o","dependencies":["d"],"signature":{"algorithm":"ES256","value":"s"},"vulnerabilities":["v"]}] -> <compositions|<composition bom-ref=o|<aggregate|=complete|>aggregate|<assemblies|<assembly ref=a|>assembly|>assemblies|<dependencies|<dependency ref=d|>dependency|>dependencies|<vulnerabilities|<vulnerability ref=v|>vulnerability|>vulnerabilities|<signature|<algorithm|=ES256|>algorithm|<value|=s|>value|>signature|>composition|>compositions
     1.5 differs []
     1.5 differs [{"aggregate":"b"}]
     1.5 differs [{"aggregate":"x"}]
-    1.5 differs [{"aggregate":"b","bomRef":"a"}]
+    1.5 differs [{"aggregate":"b","bom-ref":"a"}]
     1.5 differs [{"aggregate":"b","assemblies":["c"]}]
     1.5 differs [{"aggregate":"b","dependencies":["c"]}]
     1.5 differs [{"aggregate":"b","vulnerabilities":["c"]}]

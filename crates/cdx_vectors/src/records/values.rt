@@ -165,7 +165,7 @@ fn option_named<T: ToInnerXml + Drop>(
 #[test]
 fn options(rt: HostRuntime) -> Result<(), Fail> {
     let alloc = rt.alloc();
-    let hollow = held::<OrganizationalEntity>(alloc, r#"{"bomRef":"e"}"#, V5)?;
+    let hollow = held::<OrganizationalEntity>(alloc, r#"{"bom-ref":"e"}"#, V5)?;
     let (will_write, line) = option_named(alloc, Some(hollow))?;
     text_is(&rt, line.as_str(), "<n bom-ref=e|>n");
     holds(&rt, will_write);
