@@ -5,7 +5,7 @@ use mathlib.Core.Path.{ap, sym, subst}
 use Rattle.cdx_models.specs.declared.bom.SpecVersion.{SpecVersion}
 use Rattle.cdx_models.specs.Trees.{Name, bill, Tree, absent, text, number, boolean, items, fields, Trees, none, more}
 use Rattle.cdx_schema.specs.Kinds.{a_text, a_number, a_version, a_bill}
-use Rattle.cdx_schema.specs.Table.{rows}
+use Rattle.cdx_schema.specs.Table.{rows, bill_children}
 use Rattle.cdx_schema.specs.Depth.{top}
 use Rattle.cdx_schema.specs.JsonReading.{json_denotes}
 use Rattle.cdx_schema.specs.JsonSpelling.{jspell}
@@ -18,7 +18,7 @@ use Rattle.cdx_schema.proofs.KeptTwice.{stays}
 use Rattle.cdx_schema.proofs.JsonBack.{Held}
 use Rattle.cdx_schema.proofs.HeldKept.{json_law, held_kept, fits_first, below}
 use Rattle.cdx_schema.proofs.XmlLaw.{tripped}
-use Rattle.cdx_schema.proofs.BillLaw.{bill_xback, bill_rest, IsSerial}
+use Rattle.cdx_schema.proofs.BillLaw.{bill_xback, IsSerial}
 
 pub reads_json : (b : Tree) (w : SpecVersion) → HasShape b a_bill → fits w b a_bill ≡ true → is_shallow b top ≡ true
     → json_denotes (jspell (keep w b a_bill) w a_bill) w ≡ Ok (keep w b a_bill)
@@ -60,7 +60,7 @@ of_three : (w : SpecVersion) (x : List ℕ) (m : ℕ) (s : Tree) (us : Trees) �
 unfolding rows kept
 of_three w x m s us lt serial held =
     subst (Reads w) (sym (stays w a_bill bill (rows_kept w w (more (text x) (more (number m) (more s us))) (rows bill)) refl))
-    (bill_xback w top m (rows_kept w w us bill_rest) (kept w w s a_text) lt serial (subst (λ t. Held w top t a_bill) (stays w a_bill bill (rows_kept w w (more (text x) (more (number m) (more s us))) (rows bill)) refl) held).2.1.1.1)
+    (bill_xback w top m (rows_kept w w us bill_children) (kept w w s a_text) lt serial (subst (λ t. Held w top t a_bill) (stays w a_bill bill (rows_kept w w (more (text x) (more (number m) (more s us))) (rows bill)) refl) held).2.1.1.1)
 
 of_fields : (w : SpecVersion) (ts : Trees) → FieldsHaveShape ts (rows bill) → Held w top (kept w w (fields bill ts) a_bill) a_bill → Reads w (kept w w (fields bill ts) a_bill)
 unfolding rows

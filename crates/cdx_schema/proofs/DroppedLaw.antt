@@ -1,5 +1,5 @@
 -- Dropping empty texts from a spelling.
-use Rattle.std.specs.Prelude.{◌≡◌, refl, [], ◌∷◌, ◌++◌, true, false, Option, Some, None, Err}
+use Rattle.std.specs.Prelude.{◌≡◌, refl, true, false, Option, Some, None, Err}
 use mathlib.Core.Path.{ap, sym, ◌∙◌}
 use Rattle.cdx_models.specs.declared.bom.SpecVersion.{SpecVersion}
 use Rattle.cdx_models.specs.Trees.{Tree}
@@ -16,7 +16,6 @@ use Rattle.cdx_schema.specs.Dropped.{hole, unless, has_empty, DropsTexts}
 use Rattle.cdx_schema.proofs.XmlLaw.{tripped}
 use Rattle.cdx_schema.proofs.BillRead.{reads_xml}
 use Rattle.cdx_schema.proofs.DroppedRead.{lean_denotes}
-use Rattle.cdx_events.specs.Nodes.{document}
 
 -- ---- the law, where it is read off the document without empty texts
 

@@ -8,7 +8,7 @@ use Rattle.cdx_models.specs.declared.bom.SpecVersion.TheVariants.{V1_3, V1_4, V1
 use Rattle.cdx_models.specs.Versions.{knows, is_label, is_first, label}
 use Rattle.cdx_models.specs.Trees.{Name, classification, service_data, tools_object, Tree, absent, text, number, boolean, items, fields, Trees, none, more, is_absent, field}
 use Rattle.cdx_schema.specs.Kinds.{Kind, a_text, a_boolean, a_number, a_version, a_list, a_record, a_reference, a_license_choice, a_license_identifier, a_tools, a_data, an_entry, a_signature, a_bill, Need, optional, required, required_first, else_empty, Row}
-use Rattle.cdx_schema.specs.Table.{rows}
+use Rattle.cdx_schema.specs.Table.{rows, class_row}
 use Rattle.cdx_schema.specs.Held.{held_kind}
 use Rattle.cdx_models.specs.Entries.{is_flow}
 use Rattle.cdx_schema.specs.Depth.{Depth, inside, name_too_deep}
@@ -17,7 +17,7 @@ use Rattle.cdx_schema.specs.JsonSpelling.{jspell, is_written}
 use Rattle.cdx_schema.specs.Keeping.{kept, items_kept, rows_kept, kept_text, kept_record, before_1_5, keep, fits, has_versions, items_have_versions, rows_have_versions, is_there, is_shallow, are_shallow}
 use Rattle.cdx_schema.specs.Membership.{HasShape, HaveShape, FieldsHaveShape, IsTextOf, AnyText, IsNumberOf, IsRecordOf, may_lack}
 use Rattle.cdx_schema.proofs.KeptTwice.{stays}
-use Rattle.cdx_schema.proofs.JsonBack.{required_held, class_row, IsNumberHeld, Held, AllHeld, FieldsHeld, RowHeld, json_back, and_true, not_true}
+use Rattle.cdx_schema.proofs.JsonBack.{required_held, IsNumberHeld, Held, AllHeld, FieldsHeld, RowHeld, json_back, and_true, not_true}
 
 pub label_is : (v : SpecVersion) → is_label (label v) ≡ true
 label_is V1_3 = refl

@@ -15,8 +15,8 @@ use Rattle.cdx_models.specs.declared.bom.SpecVersion.{SpecVersion}
 use Rattle.cdx_models.specs.declared.bom.SpecVersion.TheVariants.{V1_3, V1_4, V1_5}
 use Rattle.cdx_models.specs.Versions.{knows, is_label}
 use Rattle.cdx_models.specs.Trees.{Name, hash, property, attached_text, contact, entity, commit, action, patch, diff, issue, source, reference, dependency, composition, license, expression, spdx_id, license_name, tool, component, swid, pedigree, evidence, copyright, service, classification, service_data, tools_object, metadata, signer, signers, chain, bill, Tree, absent, text, number, boolean, items, fields, Trees, none, more, one, two}
-use Rattle.cdx_schema.specs.Kinds.{properties, signer_list, chain_list, Kind, a_text, a_boolean, a_number, a_version, a_list, a_record, a_reference, a_license_choice, a_license_identifier, a_tools, a_data, an_entry, a_signature, a_bill, Member, member, merged, Need, optional, required, required_first, else_empty, child, either_child, content, children, Row}
-use Rattle.cdx_schema.specs.Table.{rows, from, of, at, row, must, respelled_reference}
+use Rattle.cdx_schema.specs.Kinds.{properties, signer_list, chain_list, Kind, a_text, a_boolean, a_number, a_version, a_list, a_record, a_reference, a_license_choice, a_license_identifier, a_tools, a_data, an_entry, a_signature, a_bill, Member, member, merged, Need, optional, required, required_first, else_empty, content, children, Row}
+use Rattle.cdx_schema.specs.Table.{rows, from, of, at, row, must, respelled_reference, identifier_row, class_row}
 use Rattle.cdx_schema.specs.Results.{◌>>=◌}
 use Rattle.cdx_models.specs.declared.errors.Step.{Step}
 use Rattle.cdx_schema.specs.Faults.{JsonFault, to_member, under}
@@ -714,12 +714,6 @@ identifier_gets w d d' b i us h = by (identifier_of w d i h)
     by : ((s : List ℕ) × (i ≡ fields spdx_id (one (text s)))) ⊎ ((s : List ℕ) × (i ≡ fields license_name (one (text s)))) → IdGets w d' b us i
     by (inl e) = subst (IdGets w d' b us) (sym e.1) (id_gets w d' b e.0 us)
     by (inr e) = subst (IdGets w d' b us) (sym e.1) (name_gets w d' b e.0 us)
-
-abbrev pub identifier_row : Row
-identifier_row = record { kind = a_license_identifier; xml = either_child (codes "id") (codes "name"); json = merged; old_name = None; since = V1_3; need = required }
-
-abbrev pub class_row : Row
-class_row = record { kind = a_record classification; xml = child (codes "classification"); json = merged; old_name = None; since = V1_3; need = required }
 
 pub own_back_license : (w : SpecVersion) (d d' : Depth) (ts : Trees) → FieldsHeld w d ts (rows license) → AreOwn ts (rows license)
     → OwnBack (own_read (seen (spelled license ts w)) w d') w ts (rows license)

@@ -1,21 +1,19 @@
 -- Worked rows on references that old documents spell otherwise in JSON, and on a bill's signature in XML.
 use Prim.Native.String.{String}
-use Rattle.std.specs.Prelude.{◌≡◌, refl, List, [], ◌∷◌, codes, Result, Ok, Err}
-use Rattle.serde_json.specs.Data.{Data, Members, no_items, no_members, null}
+use Rattle.std.specs.Prelude.{◌≡◌, refl, [], ◌∷◌, codes, Ok}
+use Rattle.serde_json.specs.Data.{Members, no_members, null}
 use Rattle.cdx_models.specs.declared.bom.SpecVersion.{SpecVersion}
 use Rattle.cdx_models.specs.declared.bom.SpecVersion.TheVariants.{V1_3, V1_4, V1_5}
 use Rattle.cdx_models.specs.Trees as name
 use Rattle.cdx_models.specs.Trees.{Tree, absent, number}
-use Rattle.cdx_events.specs.declared.event.EventKind.TheVariants as kinds
 use Rattle.cdx_events.specs.Nodes.{Node, Nodes, no_nodes}
 use Rattle.cdx_schema.specs.Kinds as kind
-use Rattle.cdx_schema.specs.Depth.{top}
-use Rattle.cdx_schema.specs.Faults.{to_member, missing, wrong_kind, unexpected}
+use Rattle.cdx_schema.specs.Faults.{to_member, wrong_kind}
 use Rattle.cdx_schema.specs.JsonSpelling.{jspell}
 use Rattle.cdx_schema.specs.XmlReading.{xml_denotes}
 use Rattle.cdx_schema.specs.XmlSpelling.{root}
-use Rattle.cdx_schema.proofs.Literals.{str, num, obj, arr, ◌↪◌⨟◌, ◌⨠◌, ◌⊳◌, at, bom, t', reading_on_literals}
-use Rattle.cdx_schema.proofs.RecordRows.{of_fields, list_of, id_tree, signer_tree, signer_xml}
+use Rattle.cdx_schema.proofs.Literals.{str, num, obj, ◌↪◌⨟◌, ◌⊳◌, at, bom, t', reading_on_literals}
+use Rattle.cdx_schema.proofs.RecordRows.{of_fields, id_tree, signer_tree, signer_xml}
 use Rattle.cdx_schema.proofs.RuleRows.{Values, wrong}
 
 -- ---- both spellings, in each of the five records

@@ -9,7 +9,7 @@ use Rattle.cdx_models.specs.declared.bom.SpecVersion.TheVariants.{V1_3, V1_4, V1
 use Rattle.cdx_models.specs.Versions.{knows, label}
 use Rattle.cdx_models.specs.Trees.{Name, hash, property, attached_text, contact, entity, commit, action, patch, diff, issue, source, reference, dependency, composition, license, expression, tool, component, swid, pedigree, evidence, copyright, service, classification, service_data, tools_object, metadata, signer, signers, chain, bill, Tree, absent, text, number, boolean, items, fields, Trees, none, more, one, two, ◌⧺◌, is_absent, field, with_field}
 use Rattle.cdx_schema.specs.Kinds.{Lists, hashes, properties, urls, contacts, commits, patches, resolved, links, external_references, dependencies, depended, compositions, assemblies, composed, vulnerabilities, licenses, components, services, copyright_texts, endpoints, authors, tool_list, signer_list, chain_list, classifications, flows, Kind, strict, a_reference, a_signature, a_version, an_entry, a_bill, a_text, a_boolean, a_number, a_list, a_record, a_tools, a_data, a_license_choice, a_license_identifier, Need, optional, required, required_first, else_empty, Spelled, attribute, attribute_or, content, one_text, as_cdata, child, filled_child, children, either_child, the_version, Row}
-use Rattle.cdx_schema.specs.Table.{rows, list, row, must, from, at, of, each, respelled_reference}
+use Rattle.cdx_schema.specs.Table.{rows, list, row, must, from, at, of, each, respelled_reference, class_row}
 use Rattle.cdx_schema.specs.Results.{◌>>=◌}
 use Rattle.cdx_schema.specs.Faults.{lacking}
 use Rattle.cdx_schema.specs.Depth.{Depth, inside, name_too_deep}
@@ -21,7 +21,7 @@ use Rattle.cdx_schema.specs.XmlSpelling.{nodes_of, fields_nodes, row_nodes, wrap
 use Rattle.cdx_schema.specs.Trips.{is_hollow, is_passed_over, field_after, none_is_absent}
 use Rattle.cdx_schema.specs.JsonReading.{is_required, when_nothing}
 use Rattle.cdx_schema.specs.JsonSpelling.{is_written}
-use Rattle.cdx_schema.proofs.JsonBack.{is_in, distinct, same_itself, or_false, if_true, if_false, not_in_append, apart, apart_first, is_in_first, is_in_later, distinct_later, Held, IsRecordHeld, IsTextHeld, IsNumberHeld, AllHeld, FieldsHeld, RowHeld, same_name, err_ok, identifier_of, and_true, held_text, one_text_of, two_texts_of, class_of, required_held, class_row}
+use Rattle.cdx_schema.proofs.JsonBack.{is_in, distinct, same_itself, or_false, if_true, if_false, not_in_append, apart, apart_first, is_in_first, is_in_later, distinct_later, Held, IsRecordHeld, IsTextHeld, IsNumberHeld, AllHeld, FieldsHeld, RowHeld, same_name, err_ok, identifier_of, and_true, held_text, one_text_of, two_texts_of, class_of, required_held}
 use Rattle.cdx_schema.proofs.HeldKept.{held_there, held_kept, fits_first}
 use Rattle.cdx_schema.specs.Keeping.{keep, fits, is_shallow}
 use Rattle.cdx_models.specs.Trees.{spdx_id, license_name}

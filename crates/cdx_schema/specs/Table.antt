@@ -34,6 +34,25 @@ respelled_reference = record (at a_text "bom-ref") { old_name = Some (codes "bom
 abbrev pub signature_row : Row
 signature_row = from V1_4 (of a_signature "signature")
 
+-- a license's id or name, and a flow's classification: their members stand among those of the license and the flow
+abbrev pub identifier_row : Row
+identifier_row = record { kind = a_license_identifier; xml = either_child (codes "id") (codes "name"); json = merged; old_name = None; since = V1_3; need = required }
+
+abbrev pub class_row : Row
+class_row = record { kind = a_record classification; xml = child (codes "classification"); json = merged; old_name = None; since = V1_3; need = required }
+
+-- the rows of a bill that are children of the root
+abbrev pub bill_children : List Row
+bill_children = of (a_record metadata) "metadata"
+    ∷ of (a_list components) "components"
+    ∷ of (a_list services) "services"
+    ∷ of (a_list external_references) "externalReferences"
+    ∷ of (a_list dependencies) "dependencies"
+    ∷ of (a_list compositions) "compositions"
+    ∷ from V1_5 (of (a_list properties) "properties")
+    ∷ signature_row
+    ∷ []
+
 -- ---- the records
 
 unfoldable pub rows : Name → List Row
@@ -81,7 +100,7 @@ rows composition = from V1_5 respelled_reference
     ∷ signature_row
     ∷ []
 rows license = from V1_5 respelled_reference
-    ∷ record { kind = a_license_identifier; xml = either_child (codes "id") (codes "name"); json = merged; old_name = None; since = V1_3; need = required }
+    ∷ identifier_row
     ∷ of (a_record attached_text) "text"
     ∷ of a_text "url"
     ∷ from V1_5 (of (a_list properties) "properties")
@@ -157,7 +176,7 @@ rows service = at a_text "bom-ref"
 rows classification = must (at a_text "flow") ∷ must (row a_text content "classification") ∷ []
 rows service_data = at a_text "name"
     ∷ at a_text "description"
-    ∷ record { kind = a_record classification; xml = child (codes "classification"); json = merged; old_name = None; since = V1_3; need = required }
+    ∷ class_row
     ∷ []
 rows tools_object = of (a_list services) "services" ∷ of (a_list components) "components" ∷ []
 rows metadata = of a_text "timestamp"
@@ -175,15 +194,7 @@ rows chain = must (row (a_list chain_list) (children (codes "chain")) "chain") �
 rows bill = must (row a_version the_version "specVersion")
     ∷ must (row a_number (attribute_or (codes "version") 1) "version")
     ∷ at a_text "serialNumber"
-    ∷ of (a_record metadata) "metadata"
-    ∷ of (a_list components) "components"
-    ∷ of (a_list services) "services"
-    ∷ of (a_list external_references) "externalReferences"
-    ∷ of (a_list dependencies) "dependencies"
-    ∷ of (a_list compositions) "compositions"
-    ∷ from V1_5 (of (a_list properties) "properties")
-    ∷ signature_row
-    ∷ []
+    ∷ bill_children
 
 -- what a record is to what it doesn't know
 unfoldable pub rule : Name → Rule
