@@ -56,8 +56,8 @@ module _ (as' : List OwnedAttribute) (v : SpecVersion) (el : List ℕ) (p : ℕ)
   must_row_fails name j e q h = subst (λ x. Fails e q x) (sym (required_text (text_row name j None V1_3 required) refl refl name v el p (find_attribute name as'))) (first_fails e q (or_fault (find_attribute name as') (lacking p el name)) (λ s. Ok (text s)) h)
 
   -- a text that may be there, where the version knows it
-  pub maybe_row : {old : Option (List ℕ)} (name : List ℕ) (j : Member) (since : SpecVersion) (x : Option (List ℕ)) → x ≡ known since v (find_attribute name as') → row_attribute (text_row name j old since optional) as' v el p ≡ Ok (present text x)
-  maybe_row {old} name j since x e = go (knows since v) ∙ ap (λ o. Ok (present text o)) (sym e)
+  pub maybe_row : (name : List ℕ) (j : Member) (old : Option (List ℕ)) (since : SpecVersion) (x : Option (List ℕ)) → x ≡ known since v (find_attribute name as') → row_attribute (text_row name j old since optional) as' v el p ≡ Ok (present text x)
+  maybe_row name j old since x e = go (knows since v) ∙ ap (λ o. Ok (present text o)) (sym e)
     where
       go : (b : Bool) → (if b then attribute_read (find_attribute name as') name (text_row name j old since optional) v el p else Ok absent) ≡ Ok (present text (if b then find_attribute name as' else None))
       go true = optional_text_is (text_row name j old since optional) refl refl name v el p (find_attribute name as')

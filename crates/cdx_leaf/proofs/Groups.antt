@@ -12,7 +12,7 @@ use Rattle.cdx_models.specs.Trees.{Tree, Trees, none, more, field, with_field, �
 use Rattle.cdx_schema.specs.Results.{◌>>=◌}
 use Rattle.cdx_schema.specs.Depth.{Depth, top}
 use Rattle.cdx_schema.specs.Kinds as sorts
-use Rattle.cdx_schema.specs.Kinds.{Kind, Row, Spelled, attribute, attribute_or, content, one_text, as_cdata, child, filled_child, read_child, children, either_child, the_version}
+use Rattle.cdx_schema.specs.Kinds.{Kind, Row, Spelled, attribute, attribute_or, content, one_text, as_cdata, child, filled_child, children, either_child, the_version}
 use Rattle.cdx_schema.specs.XmlReading.{Plan, Child, Place, last, once, all, find_child, row_children, children_from, is_second, stored, appended, attributes_read, row_attribute, ended, lacks, owed, lacking_row, filled, xread}
 use Rattle.cdx_schema.proofs.XmlBack.{children_append}
 use Rattle.cdx_leaf.specs.declared.taken.Taken.{Taken}
@@ -78,7 +78,6 @@ row_moved k i r = by r.xml
     by as_cdata = refl
     by (child name) = refl
     by (filled_child name) = refl
-    by (read_child name) = refl
     by (children name) = refl
     by (either_child m n) = refl
     by the_version = refl
@@ -145,7 +144,6 @@ row_below n i r h = by r.xml
     by as_cdata = tt
     by (child name) = (h, tt)
     by (filled_child name) = (h, tt)
-    by (read_child name) = (h, tt)
     by (children name) = (h, tt)
     by (either_child l m) = (h, (h, tt))
     by the_version = tt

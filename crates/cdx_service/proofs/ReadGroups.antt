@@ -89,7 +89,7 @@ pub service_begins : (as' : List OwnedAttribute) (v : SpecVersion) (el : List â„
 unfolding rows
 service_begins as' v el p x e =
     let first = text_row (codes "bom-ref") (member (codes "bom-ref")) None V1_3 optional in
-    row_ok as' v el p first (rows_after (rows service)) (present text x) _ (maybe_row as' v el p (codes "bom-ref") (member (codes "bom-ref")) V1_3 x e) (others_absent as' v el p)
+    row_ok as' v el p first (rows_after (rows service)) (present text x) _ (maybe_row as' v el p (codes "bom-ref") (member (codes "bom-ref")) _ V1_3 x e) (others_absent as' v el p)
 
 -- ---- the groups, one after the other
 

@@ -16,4 +16,4 @@ returns-in_err-component_type c = λ v.
 
 pub returns : goal.returns
 unfolding rows
-returns c = λ v. rw c.mime_type_of.ensures (row_ok c.args.attributes.now v c.args.element.now.local_name c.args.place _ _ _ _ (must_row c.args.attributes.now v c.args.element.now.local_name c.args.place (codes "type") (member (codes "type")) _ c.in_ok-component_type.ensures) (row_ok c.args.attributes.now v c.args.element.now.local_name c.args.place _ _ _ _ (maybe_row c.args.attributes.now v c.args.element.now.local_name c.args.place (codes "mime-type") (member (codes "mime-type")) V1_3 _ c.in_ok-mime_type.ensures) (row_ok c.args.attributes.now v c.args.element.now.local_name c.args.place _ _ _ _ (maybe_row c.args.attributes.now v c.args.element.now.local_name c.args.place (codes "bom-ref") (member (codes "bom-ref")) V1_3 _ c.in_ok-bom_ref.ensures) (row_ok c.args.attributes.now v c.args.element.now.local_name c.args.place _ _ _ _ refl (row_ok c.args.attributes.now v c.args.element.now.local_name c.args.place _ _ _ _ refl (row_ok c.args.attributes.now v c.args.element.now.local_name c.args.place _ _ _ _ refl (rows_end c.args.attributes.now v c.args.element.now.local_name c.args.place)))))))
+returns c = λ v. rw c.mime_type_of.ensures (row_ok c.args.attributes.now v c.args.element.now.local_name c.args.place _ _ _ _ (must_row c.args.attributes.now v c.args.element.now.local_name c.args.place (codes "type") (member (codes "type")) _ c.in_ok-component_type.ensures) (row_ok c.args.attributes.now v c.args.element.now.local_name c.args.place _ _ _ _ (maybe_row c.args.attributes.now v c.args.element.now.local_name c.args.place (codes "mime-type") (member (codes "mime-type")) _ V1_3 _ c.in_ok-mime_type.ensures) (row_ok c.args.attributes.now v c.args.element.now.local_name c.args.place _ _ _ _ (maybe_row c.args.attributes.now v c.args.element.now.local_name c.args.place (codes "bom-ref") (member (codes "bom-ref")) _ V1_3 _ c.in_ok-bom_ref.ensures) (row_ok c.args.attributes.now v c.args.element.now.local_name c.args.place _ _ _ _ refl (row_ok c.args.attributes.now v c.args.element.now.local_name c.args.place _ _ _ _ refl (row_ok c.args.attributes.now v c.args.element.now.local_name c.args.place _ _ _ _ refl (rows_end c.args.attributes.now v c.args.element.now.local_name c.args.place)))))))
