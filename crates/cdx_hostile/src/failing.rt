@@ -48,18 +48,15 @@ fn each_put_fails(rt: HostRuntime) -> Result<(), Fail> {
 fn each_event_put_fails(rt: HostRuntime) -> Result<(), Fail> {
     let alloc = rt.alloc();
     for put in 0..13usize {
+        let call = put as u64 + 1;
         let events = Events::from_list(alloc, list_of(alloc, LINE)?)?;
-        let fails = only(alloc, put as u64 + 1)?;
-        let mut sink = MemoryEventSink::new(alloc, 13, fails)?;
+        let mut sink = MemoryEventSink::new(alloc, 13, only(alloc, call)?)?;
         let sent = send(events, &mut sink);
-        holds(
-            &rt,
-            put as u64,
-            matches!(sent, Err(SendError { put: found }) if found == put),
-        );
+        let is_told = matches!(sent, Err(SendError { put: found }) if found == put);
+        holds(&rt, call, is_told && sink.calls() == call);
         let line = line_of(alloc, sink.events())?;
-        holds(&rt, put as u64, sink.events().len() == put);
-        holds(&rt, put as u64, LINE.starts_with(line.as_str()));
+        holds(&rt, call, sink.events().len() == put);
+        holds(&rt, call, LINE.starts_with(line.as_str()));
     }
     Ok(())
 }
