@@ -17,4 +17,5 @@ pub mod BillStart
 pub mod BillRows
 pub mod BillWhole
 pub mod BillWritten
+pub mod EmptyTexts
 pub mod Carried

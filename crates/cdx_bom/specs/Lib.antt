@@ -13,4 +13,5 @@ pub mod Reading
 pub mod RootChecks
 pub mod BillReading
 pub mod BillWriting
+pub mod EmptyTexts
 pub mod Hops

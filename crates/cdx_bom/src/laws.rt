@@ -1,5 +1,6 @@
-//! The laws of roads. Each is the contract of a function that does nothing.
+//! The laws of roads, and of documents without their empty texts. Each is the contract of a function that does nothing.
 
+ghost use Rattle.cdx_bom.specs.EmptyTexts.{ReadsAsWhole, MissesText};
 ghost use Rattle.cdx_bom.specs.Laws.{RoadsSettle, PartsJoin, FirstMisses, SecondMisses, NoThird};
 
 /// Roads settle. Take two roads from one document, or one road twice, and a hop of each, such that these hops have the
@@ -18,4 +19,13 @@ pub fn roads_join()
     ensures first { FirstMisses }
     ensures second { SecondMisses }
     ensures only { NoThird }
+{}
+
+/// The document that a version writes of a shallow bill that fits it is read without its empty texts, as by
+/// `Bom::parse_from_xml_v1_5` of what `without_empty_texts` gives. Where no attached text, license id or license name is
+/// empty, the answer is the bill that the whole document denotes. Where one is, it is `UnexpectedElementReadError` at the
+/// end of the first of these elements. Want of memory may come in place of either.
+pub fn reads_without_empty_texts()
+    ensures whole { ReadsAsWhole }
+    ensures missing { MissesText }
 {}

@@ -1,5 +1,5 @@
-//! Whole bills: their type and tree, copies, `==`, the versions that they fit, and JSON; documents and the laws of roads;
-//! texts into sinks.
+//! Whole bills: their type and tree, copies, `==`, the versions that they fit, and JSON; documents and the laws of roads
+//! and of documents without their empty texts; texts into sinks.
 #![tactic(auto)]
 
 pub mod bom;
@@ -14,6 +14,6 @@ mod writing;
 pub use bom::Bom;
 pub use bom::settled::same;
 pub use doc::{Doc, Form, Hop, RoadError};
-pub use laws::{roads_join, roads_settle};
+pub use laws::{reads_without_empty_texts, roads_join, roads_settle};
 pub use putting::{PutError, put_text};
 pub use roads::{into_bill, into_road, is_document, one_document, recode, road};
