@@ -2,10 +2,18 @@
 
 use crate::expect::holds;
 use crate::tool::{ANSWER, LINE, REQUEST, STEP, only, run_road};
+use cdx_bom::Bom;
 use cdx_cases::documents::{line_of, list_of};
-use cdx_events::{Events, Failed, MemoryEventSink, SendError, Sink, WriteSink, send};
+use cdx_events::{
+    Events, Failed, MemoryEventSink, MemorySink, SendError, Sink, Text, WriteSink, send,
+};
+use cdx_models::SpecVersion;
+use cdx_tool::put_answer;
 use std::io::{Error, ErrorKind, Write};
 use std::test::Fail;
+
+/// A bill of 1.4 with its version alone.
+const BARE_BILL: &str = "{\"bomFormat\":\"CycloneDX\",\"specVersion\":\"1.4\",\"version\":1}";
 
 // Nothing is written where the request can't be taken in.
 #[test]
@@ -31,7 +39,6 @@ fn each_put_fails(rt: HostRuntime) -> Result<(), Fail> {
     let alloc = rt.alloc();
     let answer = ANSWER.as_bytes();
     let calls = run_road(alloc, REQUEST.as_bytes(), 0, 0)?.sink.calls();
-    holds(&rt, 0, calls > answer.len().div_ceil(STEP) as u64);
     for before in 0..calls {
         let call = before + 1;
         let ended = run_road(alloc, REQUEST.as_bytes(), 0, call)?;
@@ -41,6 +48,37 @@ fn each_put_fails(rt: HostRuntime) -> Result<(), Fail> {
         holds(&rt, call, (written == answer) == (call == calls));
         holds(&rt, call, ended.sink.flushed() == 0);
     }
+    Ok(())
+}
+
+// Whether the sink got the bytes, each call as many as it takes, and then one flush.
+fn is_flushed_once(sink: &MemorySink, bytes: &[u8]) -> bool {
+    let puts = bytes.len().div_ceil(STEP) as u64;
+    sink.written() == bytes
+        && sink.flushed() == bytes.len()
+        && sink.calls().checked_sub(1) == Some(puts)
+}
+
+#[test]
+fn one_flush_at_the_end(rt: HostRuntime) -> Result<(), Fail> {
+    let alloc = rt.alloc();
+    let ended = run_road(alloc, REQUEST.as_bytes(), 0, 0)?;
+    holds(&rt, 0, is_flushed_once(&ended.sink, ANSWER.as_bytes()));
+    let mut sink = MemorySink::new(alloc, 4096, STEP, only(alloc, 0)?)?;
+    holds(
+        &rt,
+        1,
+        put_answer(&Text::new(alloc, ANSWER)?, &mut sink).is_ok(),
+    );
+    holds(&rt, 1, is_flushed_once(&sink, ANSWER.as_bytes()));
+    let mut sink = MemorySink::new(alloc, 4096, STEP, only(alloc, 0)?)?;
+    let bill = Bom::new(SpecVersion::V1_4);
+    holds(
+        &rt,
+        2,
+        bill.write_json(alloc, SpecVersion::V1_4, &mut sink).is_ok(),
+    );
+    holds(&rt, 2, is_flushed_once(&sink, BARE_BILL.as_bytes()));
     Ok(())
 }
 
