@@ -4,3 +4,4 @@ pub mod Listed
 pub mod Stays
 pub mod Walks
 pub mod Made
+pub mod Owed

@@ -6,4 +6,6 @@ mod expect;
 #[cfg(test)]
 mod inventory;
 #[cfg(test)]
+mod stock;
+#[cfg(test)]
 mod texts;
