@@ -1,3 +1,5 @@
+//! The law of the lines of bytes. It is the contract of a function that does nothing.
+
 ghost use Rattle.cdx_gate.specs.Lines.{ArePieces, GoesOnBehind};
 
 /// What makes the lines of bytes their lines: the pieces between the line feeds, joined by line feeds, are the bytes,
