@@ -1,5 +1,5 @@
 -- The replies to questions about one bill and about two: their statuses, and what status 0 says.
-use Rattle.std.proofs.Common.{◌≡◌, ℕ, suc, nat_lt, List, [], ◌∷◌, ◌++◌, length, codes, true, false, Bool, ◌&&◌, cond, Option, Some, None, Result, Ok, Err, IfOk, ◌⊎◌, inl, inr, refl, sym, ap, ◌∙◌, subst, arith}
+use Rattle.std.proofs.Common.{◌≡◌, ℕ, suc, nat_lt, List, [], ◌∷◌, ◌++◌, length, codes, true, false, Bool, ◌&&◌, cond, Option, Some, None, Result, Ok, Err, IfOk, inl, inr, refl, sym, ap, ◌∙◌, subst, arith}
 use Rattle.std.specs.Io.KnownBytes.{Appends, IsAtEnd}
 use Rattle.std.proofs.lemmas.Bool.{false≢true}
 use Rattle.std.specs.declared.alloc.AllocError.{AllocError}
@@ -16,7 +16,7 @@ use Rattle.cdx_tool.specs.Shows.{reply_of}
 use Rattle.cdx_tool.specs.declared.answer.Answer.{Answer}
 use Rattle.cdx_ask.specs.Asks.{Asked, asked_of, Lack, misread, refused, bill_of, bill_in, reply_to_lack, reply_to_bill, AsksFor}
 use Rattle.cdx_canon.specs.Canon.{plain, canon}
-use Rattle.cdx_canon.specs.Answers.{text_answer, is_equal, equal_answer, refused_on, Pair, pair_of, reply_on, reply_beside, reply_to_bills, is_shaped, reply_to_sides, reply_to_pair, reply_to_value, reply_if_value, owed, AsksForBoth, TellsEqual}
+use Rattle.cdx_canon.specs.Answers.{text_answer, is_equal, equal_answer, refused_on, Pair, pair_of, reply_on, reply_beside, reply_to_bills, is_shaped, reply_to_sides, reply_to_pair, reply_if_value, owed, AsksForBoth, TellsEqual}
 use Rattle.cdx_canon.specs.Plain.{with_part}
 use Rattle.cdx_canon.specs.Sides.{IsSide}
 use Rattle.cdx_canon.specs.declared.comparing.Side.{Side}

@@ -39,9 +39,9 @@ pub taken_is : (name : List ℕ) (m : BTreeMap (String Global) Value) (r : Optio
 taken_is name m r e = ap (option_map view) e ∙ (view-lookup name m.entries ∙ sym (ap (get name) (view-Object m)))
 
 -- and so is one that is taken out after another
-pub taken_next : (taken name : List ℕ) (m n : BTreeMap (String Global) Value) (r : Option Value) → bytes_eq name taken ≡ false → n.entries ≡ remove_entry (is_named taken) m.entries → r ≡ lookup (is_named name) n.entries
+pub taken_next : (taken name : List ℕ) (m : BTreeMap (String Global) Value) (rest : List Entry) (r : Option Value) → bytes_eq name taken ≡ false → rest ≡ remove_entry (is_named taken) m.entries → r ≡ lookup (is_named name) rest
     → option_map view r ≡ get name (view (Object m))
-taken_next taken name m n r differ left e =
+taken_next taken name m rest r differ left e =
     taken_is name m r (e ∙ (ap (lookup (is_named name)) left ∙ found_beside (is_named taken) (is_named name) (named_apart taken name differ) m.entries))
 
 -- ---- the pair of an object

@@ -1,5 +1,5 @@
 -- What the program of canonical texts answers.
-use Rattle.std.specs.Prelude.{◌≡◌, ◌==◌, ◌⊎◌, ◌&&◌, ◌++◌, ℕ, List, [], ◌∷◌, codes, Bool, true, false, if◌then◌else◌, Option, Some, None, Result, Ok, Err, String}
+use Rattle.std.specs.Prelude.{◌≡◌, ◌==◌, ◌⊎◌, ◌&&◌, ℕ, List, codes, Bool, true, false, if◌then◌else◌, Option, Some, None, Result, Ok, Err, String}
 use Rattle.std.specs.declared.alloc.Global.{Global}
 use Rattle.std.specs.Io.KnownBytes.{Appends}
 use Rattle.serde_json.specs.Data.{Data, boolean, object, Members, no_members, member}
@@ -15,7 +15,7 @@ use Rattle.cdx_request.specs.Requests.{Misread, not_json, shape, unbalanced, jso
 use Rattle.cdx_request.specs.Replies.{Reply, line_of, reply, reply_to_misread}
 use Rattle.cdx_tool.specs.Owed.{reply_by}
 use Rattle.cdx_ask.specs.Asks.{Asked, asked_of, Lack, misread, refused, bill_of, bill_in, reply_to_bill}
-use Rattle.cdx_canon.specs.Canon.{plain, canon}
+use Rattle.cdx_canon.specs.Canon.{plain}
 use Rattle.cdx_canon.specs.Words.{command_of}
 use Rattle.cdx_canon.specs.declared.words.Command.{Command}
 use Rattle.cdx_canon.specs.declared.words.Command.TheVariants.{Text, Equal}
