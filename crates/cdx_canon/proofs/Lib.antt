@@ -5,3 +5,5 @@ pub mod Roads
 pub mod Respelled
 pub mod HeldBill
 pub mod Values
+pub mod Replied
+pub mod Taken
