@@ -2,12 +2,8 @@
 #![tactic(auto)]
 
 #[cfg(test)]
-mod canonical;
-#[cfg(test)]
 mod expect;
 #[cfg(test)]
 mod inventory;
-#[cfg(test)]
-mod stock;
 #[cfg(test)]
 mod texts;
