@@ -6,6 +6,8 @@ mod failing;
 #[cfg(test)]
 mod limits;
 #[cfg(test)]
+mod recording;
+#[cfg(test)]
 mod stream;
 #[cfg(test)]
 mod streams;

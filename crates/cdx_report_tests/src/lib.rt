@@ -2,8 +2,12 @@
 #![tactic(auto)]
 
 #[cfg(test)]
+mod canonical;
+#[cfg(test)]
 mod expect;
 #[cfg(test)]
 mod inventory;
+#[cfg(test)]
+mod stock;
 #[cfg(test)]
 mod texts;
