@@ -4,7 +4,7 @@ use crate::calls::in_json;
 use crate::expect::{holds, text_is};
 use cdx_bom::Bom;
 use cdx_cases::documents::{document, line_of};
-use cdx_cases::forms::{V3, V4, V5, held};
+use cdx_cases::forms::{V3, V4, V5, held, shown};
 use cdx_events::EventWriter;
 use cdx_leaf::FromXmlDocument;
 use cdx_write::ToXml;
@@ -39,8 +39,17 @@ fn bills(rt: HostRuntime) -> Result<(), Fail> {
     holds(&rt, bill.will_write());
     text_is(&rt, written(alloc, &bill)?.as_str(), LINE);
     holds(&rt, bill.fits(V4) && !bill.fits(V3));
-    let some = Some(bill);
+    Ok(())
+}
+
+#[test]
+fn bills_that_may_be_absent(rt: HostRuntime) -> Result<(), Fail> {
+    let alloc = rt.alloc();
+    let some = Some(held::<Bom>(alloc, BILL, V5)?);
     text_is(&rt, written(alloc, &some)?.as_str(), LINE);
     holds(&rt, some.will_write());
+    let none: Option<Bom> = None;
+    text_is(&rt, shown(alloc, &none, V5)?.as_str(), "");
+    holds(&rt, !none.will_write());
     Ok(())
 }

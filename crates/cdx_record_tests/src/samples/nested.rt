@@ -60,6 +60,8 @@ fn tools_and_metadata(rt: HostRuntime) -> Result<(), Fail> {
     record::<Metadata>(&rt, alloc, METADATA)
 }
 
+const ONE: &str = r#"{"name":"n","type":"file"}"#;
+
 const BARE: &str = r#"[{"name":"n","type":"file"}]"#;
 
 const MAIN: &str = r#"{"component":{"name":"n","type":"file"}}"#;
@@ -70,6 +72,8 @@ const VARIANTS: &str = r#"{"variants":[{"name":"n","type":"file"}]}"#;
 #[test]
 fn fitting(rt: HostRuntime) -> Result<(), Fail> {
     let alloc = rt.alloc();
+    let component = held::<Component>(alloc, ONE, V5)?;
+    row_holds(&rt, ONE, component.fits(V4) && !component.fits(V3));
     let components = held::<Components>(alloc, BARE, V5)?;
     row_holds(&rt, BARE, components.fits(V4) && !components.fits(V3));
     let pedigree = held::<Pedigree>(alloc, VARIANTS, V5)?;
