@@ -1,0 +1,52 @@
+//! The leaf records of components, and the data of services.
+
+use crate::calls::{in_json, lone, record};
+use cdx_data::{Data, DataClassification, ServiceData};
+use cdx_parts::{ComponentEvidence, Copyright, CopyrightTexts, Cpe, MimeType, Swid};
+use std::test::Fail;
+
+const SWID: &str =
+    r#"{"name":"n","patch":true,"tagId":"t","tagVersion":7,"text":{"content":"c"},"url":"u","version":"1"} -> <swid tagId=t name=n version=1 tagVersion=7 patch=true|<text|=c|>text|<url|=u|>url|>swid"#;
+
+#[test]
+fn names_and_tags(rt: HostRuntime) -> Result<(), Fail> {
+    let alloc = rt.alloc();
+    in_json::<MimeType>(&rt, alloc, r#""text/plain""#)?;
+    lone::<MimeType>(&rt, alloc, r#""text/plain" -> text/plain"#)?;
+    lone::<Cpe>(&rt, alloc, r#""cpe:/a:b" -> cpe:/a:b"#)?;
+    record::<Cpe>(&rt, alloc, r#""cpe:/a:b" -> <cpe|=cpe:/a:b|>cpe"#)?;
+    record::<Swid>(&rt, alloc, SWID)
+}
+
+const EVIDENCE: &str =
+    r#"{"copyright":[{"text":"c"}],"licenses":[{"expression":"X"}]} -> <evidence|<licenses|<expression|=X|>expression|>licenses|<copyright|<text|!c|>text|>copyright|>evidence"#;
+
+const COPYRIGHT: &str = r#"{"text":"c"} -> <text|!c|>text"#;
+
+const COPYRIGHT_TEXTS: &str = r#"[{"text":"c"}] -> <copyright|<text|!c|>text|>copyright"#;
+
+#[test]
+fn evidence(rt: HostRuntime) -> Result<(), Fail> {
+    let alloc = rt.alloc();
+    record::<ComponentEvidence>(&rt, alloc, EVIDENCE)?;
+    record::<Copyright>(&rt, alloc, COPYRIGHT)?;
+    record::<CopyrightTexts>(&rt, alloc, COPYRIGHT_TEXTS)
+}
+
+const CLASSIFICATION: &str =
+    r#"{"classification":"PII","flow":"inbound"} -> <classification flow=inbound|=PII|>classification"#;
+
+const FLOW: &str =
+    r#"{"classification":"c","description":"d","flow":"f","name":"n"} -> <dataflow name=n description=d|<classification flow=f|=c|>classification|>dataflow"#;
+
+// By itself a service's data has no element of its own.
+const DATA: &str =
+    r#"[{"classification":"c","flow":"f","name":"n"}] -> <dataflow name=n|<classification flow=f|=c|>classification|>dataflow -> <data|<dataflow name=n|<classification flow=f|=c|>classification|>dataflow|>data"#;
+
+#[test]
+fn data(rt: HostRuntime) -> Result<(), Fail> {
+    let alloc = rt.alloc();
+    record::<DataClassification>(&rt, alloc, CLASSIFICATION)?;
+    record::<ServiceData>(&rt, alloc, FLOW)?;
+    record::<Data>(&rt, alloc, DATA)
+}
