@@ -1,5 +1,16 @@
 //! Losses.
 
+use cdx_models::Path;
+
+/// Something that a road takes of a bill.
+#[derive(Debug, Drop)]
+pub struct Loss {
+    /// Where it stands in the bill, by the JSON names of members and the numbers of items.
+    pub path: Path,
+    /// Why the road takes it.
+    pub reason: Reason,
+}
+
 /// Why a road takes something of a bill. Of several reasons the first counts.
 #[derive(Clone, Copy, Debug, PartialEq, Eq)]
 pub enum Reason {

@@ -1,9 +1,12 @@
-//! Worked examples of questions about a bill, of its inventory and of its canonical text, as tests.
+//! Worked examples of questions about a bill, of its inventory, of its canonical text and of what
+//! roads take of it, as tests.
 #![tactic(auto)]
 
 #[cfg(test)]
 mod expect;
 #[cfg(test)]
 mod inventory;
+#[cfg(test)]
+mod losses;
 #[cfg(test)]
 mod texts;
