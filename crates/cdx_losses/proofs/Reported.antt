@@ -1,35 +1,37 @@
 -- What the program of losses owes to the bytes of a request and to words.
-use Rattle.std.proofs.Common.{◌≡◌, ℕ, suc, ◌≤◌, List, [], ◌∷◌, length, map, codes, Bool, true, false, cond, ltb, Option, Some, None, Result, Ok, Err, IfOk, ◌⊎◌, inl, inr, refl, sym, ap, subst, ◌∙◌, arith}
-use Rattle.std.specs.Prelude.{not, ◌||◌}
+use Rattle.std.proofs.Common.{◌≡◌, ℕ, suc, ◌≤◌, List, [], ◌∷◌, length, map, codes, Bool, true, false, cond, ltb, Option, Some, Result, Ok, Err, IfOk, ◌⊎◌, inl, inr, refl, sym, ap, subst, ◌∙◌, arith}
 use Rattle.std.specs.Io.KnownBytes.{Appends, IsAtEnd}
 use Rattle.std.proofs.lemmas.Bool.{le-ltb}
 use Rattle.std.specs.declared.alloc.AllocError.{AllocError}
+use Rattle.serde_json.specs.Data.{Data}
 use Rattle.serde_json.specs.View.{items_of}
 use Rattle.serde_json.specs.Written.{has_float, items_have_float}
+use Rattle.cdx_models.specs.declared.bom.SpecVersion.{SpecVersion}
 use Rattle.cdx_models.specs.Trees.{Tree}
 use Rattle.cdx_schema.proofs.Clear.{neither}
+use Rattle.cdx_schema.specs.Results.{◌>>=◌}
 use Rattle.cdx_schema.specs.Trips.{Hop}
 use Rattle.cdx_schema.specs.Roads.{Refusal, version_missing, denotes, fits_all}
 use Rattle.cdx_bom.specs.declared.bom.Bom.{Bom}
 use Rattle.cdx_bom.specs.declared.doc.RoadError.{RoadError}
 use Rattle.cdx_bom.specs.declared.doc.RoadError.TheVariants as error
 use Rattle.cdx_bom.specs.Docs.{Refuses, refusal_of}
+use Rattle.cdx_bom.specs.Hops.{Denotes}
 use Rattle.cdx_request.specs.Requests.{Misread, not_json, shape, unbalanced, Request, request_in}
 use Rattle.cdx_request.specs.Replies.{Reply, reply, line_of, no_request, limit, reply_to_misread}
 use Rattle.cdx_request.specs.Served.{IsValid}
 use Rattle.cdx_tool.specs.Reads.{Reads, IsRequest}
 use Rattle.cdx_tool.specs.declared.answer.Answer.{Answer}
-use Rattle.cdx_tool.specs.declared.request.Request as tool
 use Rattle.cdx_tool.specs.declared.request.RequestError.{RequestError}
 use Rattle.cdx_tool.specs.declared.request.RequestError.TheVariants as misreading
 use Rattle.cdx_tool.specs.Shows.{reply_of}
 use Rattle.cdx_tool.specs.Owed.{reply_by, IsSettled}
 use Rattle.cdx_tool.specs.Run.{Tells, Ends}
-use Rattle.cdx_ask.specs.Asks.{Lack, misread, refused, Lacks, reply_to_bill}
+use Rattle.cdx_ask.specs.Asks.{Lack, misread, billed, Lacks, reply_to_bill}
 use Rattle.cdx_ask.specs.declared.NoBill.TheVariants as lack
 use Rattle.cdx_ways.specs.Ways.{At}
 use Rattle.cdx_losses.specs.Answers.{loss_value, losses_answer}
-use Rattle.cdx_losses.specs.Report.{fitting, bill_carried, answer_to, reply_to_request, owed}
+use Rattle.cdx_losses.specs.Report.{if_fit, carried, answer_to, reply_to_request, owed}
 use Rattle.cdx_losses.specs.Told.{told, all_told}
 use Rattle.cdx_losses.specs.declared.loss.Loss.{Loss}
 use Rattle.cdx_losses.specs.declared.loss.Reason.{Reason}
@@ -52,18 +54,52 @@ losses_clear xs = neither _ false (entries_clear xs) refl
 
 -- ---- the bill
 
--- what is refused of a document is refused of a road
-pub refused_first : (hops : List Hop) (denoted : Result Tree Refusal) (e : RoadError) → Refuses denoted e → Lacks (fitting hops denoted) (lack.Refused e)
-refused_first hops denoted (error.Memory m) h = tt
-refused_first hops denoted (error.Json f) h = (h.0, h.1, ap (fitting hops) h.2)
-refused_first hops denoted (error.Xml f) h = (h.0, h.1, ap (fitting hops) h.2)
-refused_first hops denoted (error.Bom f) h = (h.0, h.1, ap (fitting hops) h.2)
+pub fitted : (hops : List Hop) (b : Tree) → fits_all hops b ≡ true → if_fit hops b ≡ Ok b
+fitted hops b fit = rw fit refl
 
-pub fitted : (hops : List Hop) (denoted : Result Tree Refusal) (b : Tree) → denoted ≡ Ok b → true ≡ fits_all hops b → fitting hops denoted ≡ Ok b
-fitted hops denoted b is fit = rw (is, sym fit) refl
+pub unfitted : (hops : List Hop) (b : Tree) (e : RoadError) → fits_all hops b ≡ false → refusal_of e ≡ Some version_missing → Refuses (if_fit hops b) e
+unfitted hops b (error.Memory m) unfit h = tt
+unfitted hops b (error.Json f) unfit h = (version_missing, h, rw unfit refl)
+unfitted hops b (error.Xml f) unfit h = (version_missing, h, rw unfit refl)
+unfitted hops b (error.Bom f) unfit h = (version_missing, h, rw unfit refl)
 
-pub unfitted : (hops : List Hop) (denoted : Result Tree Refusal) (b : Tree) → denoted ≡ Ok b → false ≡ fits_all hops b → fitting hops denoted ≡ Err (refused version_missing)
-unfitted hops denoted b is fit = rw (is, sym fit) refl
+-- what fits of the bill that is denoted is what is carried
+pub carried_on : (hops : List Hop) (denoted : Result Tree Refusal) (b : Tree) (r : Result Bom RoadError) → denoted ≡ Ok b → Denotes (if_fit hops b) r → Denotes (denoted >>= λ b. if_fit hops b) r
+carried_on hops denoted b r is h = subst (λ (d : Result Tree Refusal). Denotes (d >>= λ b. if_fit hops b) r) (sym is) h
+
+-- ---- the answers
+
+-- a refusal is why there is no bill
+pub lacks : (owed : Result Tree Refusal) (e : RoadError) → Refuses owed e → Lacks (billed owed) (lack.Refused e)
+lacks owed (error.Memory m) h = tt
+lacks owed (error.Json f) h = (h.0, h.1, ap billed h.2)
+lacks owed (error.Xml f) h = (h.0, h.1, ap billed h.2)
+lacks owed (error.Bom f) h = (h.0, h.1, ap billed h.2)
+
+-- what is carried along these hops is what is asked for
+pub same_bill : (q : Request) (v : SpecVersion) (hops : List Hop) → v ≡ q.from → hops ≡ q.hops → reply_to_bill (answer_to hops) (billed (carried q.doc v hops)) ≡ reply_to_request (Ok q)
+same_bill q v hops i j = rw (i, j) refl
+
+pub bill_reply : (hops : List Hop) (owed : Result Tree Refusal) (b : Tree) → owed ≡ Ok b → reply 0 (answer_to hops b) ≡ reply_to_bill (answer_to hops) (billed owed)
+bill_reply hops owed b is = rw is refl
+
+-- what is asked for, and the hops
+pub asked_for : Result Request Misread → Result Tree Lack
+asked_for (Ok q) = billed (carried q.doc q.from q.hops)
+asked_for (Err e) = Err (misread e)
+
+pub answer_in : Result Request Misread → Tree → Data
+answer_in (Ok q) = answer_to q.hops
+answer_in (Err e) = answer_to []
+
+pub reply_in : (o : Result Request Misread) → reply_to_bill (answer_in o) (asked_for o) ≡ reply_to_request o
+reply_in (Ok q) = refl
+reply_in (Err e) = refl
+
+pub misreads : (o : Result Request Misread) (e : RequestError) → Reads IsRequest o (Err e) → Lacks (asked_for o) (lack.Misread e)
+misreads o misreading.Shape h = ap asked_for h
+misreads o (misreading.Unbalanced place) h = ap asked_for h
+misreads o (misreading.Memory m) h = tt
 
 -- ---- the reply
 
@@ -72,13 +108,12 @@ misread_settled not_json = inr (inr refl)
 misread_settled shape = inr (inr refl)
 misread_settled (unbalanced place) = inr (inl refl)
 
-carried_settled : (hops : List Hop) (r : Result Tree Lack) → IsSettled (reply_to_bill (answer_to hops) r).status
-carried_settled hops (Ok b) = inl refl
-carried_settled hops (Err (misread e)) = misread_settled e
-carried_settled hops (Err (refused r)) = inr (inl refl)
+carried_settled : (f : Tree → Data) (r : Result Tree Refusal) → IsSettled (reply_to_bill f (billed r)).status
+carried_settled f (Ok b) = inl refl
+carried_settled f (Err r) = inr (inl refl)
 
 request_settled : (r : Result Request Misread) → IsSettled (reply_to_request r).status
-request_settled (Ok q) = carried_settled q.hops (bill_carried q)
+request_settled (Ok q) = carried_settled (answer_to q.hops) (carried q.doc q.from q.hops)
 request_settled (Err e) = misread_settled e
 
 pub settled : (bytes : List ℕ) (r : Result Answer AllocError) → IfOk r (λ a. reply_of a ≡ owed bytes) → IfOk r (λ a. IsSettled a.status)
@@ -96,22 +131,25 @@ misread_unserved shape h = no_0 1 h
 misread_unserved (unbalanced place) h = no_0 0 h
 
 -- the bill that a served request carries
-carried : (hops : List Hop) (r : Result Tree Lack) → (reply_to_bill (answer_to hops) r).status ≡ 0 → (b : Tree) × (r ≡ Ok b) × ((reply_to_bill (answer_to hops) r).text ≡ line_of (answer_to hops b))
-carried hops (Ok b) h = (b, refl, refl)
-carried hops (Err (misread e)) h = absurd (misread_unserved e h)
-carried hops (Err (refused r)) h = absurd (no_0 0 h)
+served_bill : (f : Tree → Data) (r : Result Tree Refusal) → (reply_to_bill f (billed r)).status ≡ 0 → (b : Tree) × (r ≡ Ok b) × ((reply_to_bill f (billed r)).text ≡ line_of (f b))
+served_bill f (Ok b) h = (b, refl, refl)
+served_bill f (Err r) h = absurd (no_0 0 h)
 
-fits_hops : (hops : List Hop) (denoted : Result Tree Refusal) (b : Tree) → fitting hops denoted ≡ Ok b → (denoted ≡ Ok b) × (fits_all hops b ≡ true)
-fits_hops hops (Err r) b h = cc
+-- is denoted, and fits every hop
+fits_hops : (hops : List Hop) (denoted : Result Tree Refusal) (b : Tree) → (denoted >>= λ c. if_fit hops c) ≡ Ok b → (denoted ≡ Ok b) × (fits_all hops b ≡ true)
+fits_hops hops (Err r) b h = absurd (err_ok r b h)
+  where
+    err_ok : (r : Refusal) (b : Tree) → Err {A = Tree} r ≡ Ok b → ⊥
+    err_ok r b h = cc
 fits_hops hops (Ok c) b h = by (fits_all hops c) refl h
   where
-    by : (fit : Bool) → fits_all hops c ≡ fit → cond fit (Ok c) (Err (refused version_missing)) ≡ Ok b → (Ok {E = Refusal} c ≡ Ok b) × (fits_all hops b ≡ true)
-    by true e h = let same : c ≡ b = cc in (ap (λ x. Ok x) same, subst (λ x. fits_all hops x ≡ true) same e)
-    by false e h = cc
+    by : (fit : Bool) → fits_all hops c ≡ fit → cond fit (Ok c) (Err version_missing) ≡ Ok b → (Ok {E = Refusal} c ≡ Ok b) × (fits_all hops b ≡ true)
+    by true e i = let same : c ≡ b = cc in (i, subst (λ (x : Tree). fits_all hops x ≡ true) same e)
+    by false e i = absurd cc
 
 requested : (r : Result Request Misread) → (reply_to_request r).status ≡ 0 → (q : Request) × (r ≡ Ok q) × ((v : IsValid q) × ((reply_to_request r).text ≡ line_of (answer_to q.hops v.the_bill)))
 requested (Ok q) h =
-    let c = carried q.hops (bill_carried q) h in
+    let c = served_bill (answer_to q.hops) (carried q.doc q.from q.hops) h in
     let f = fits_hops q.hops (denotes q.doc q.from) c.0 c.1 in
     (q, refl, (record { the_bill = c.0; denoted = f.0; fit = f.1 }, c.2))
 requested (Err e) h = absurd (misread_unserved e h)
@@ -143,7 +181,7 @@ served o left before now words c bytes status flushed is zero_is tells end ends 
     (bytes, q.0, tells, end, q.1, (q.2.0, subst (Appends before now) (ap (λ (r : Reply). r.text) same ∙ q.2.1) w.1))
 
 -- a valid request is owed status 0
-valid_carried : (q : Request) (v : IsValid q) → bill_carried q ≡ Ok v.the_bill
+valid_carried : (q : Request) (v : IsValid q) → carried q.doc q.from q.hops ≡ Ok v.the_bill
 valid_carried q v = rw (v.denoted, v.fit) refl
 
 pub valid : (words : Option Command) (c : Command) (bytes : List ℕ) (q : Request) (status : ℕ) → words ≡ Some c → length bytes ≤ limit → request_in bytes ≡ Ok q → IsValid q

@@ -2,28 +2,32 @@
 use Rattle.std.specs.Prelude.{ℕ, List, [], ◌∷◌, codes, if◌then◌else◌, Option, Some, None, Result, Ok, Err, String, string_bytes, bytes_eq}
 use Rattle.std.specs.declared.alloc.Global.{Global}
 use Rattle.serde_json.specs.Data.{Data}
+use Rattle.cdx_models.specs.declared.bom.SpecVersion.{SpecVersion}
 use Rattle.cdx_models.specs.Trees.{Tree}
+use Rattle.cdx_schema.specs.Results.{◌>>=◌}
 use Rattle.cdx_schema.specs.Trips.{Hop}
-use Rattle.cdx_schema.specs.Roads.{Refusal, version_missing, denotes, fits_all}
+use Rattle.cdx_schema.specs.Roads.{Doc, Refusal, version_missing, denotes, fits_all}
 use Rattle.cdx_request.specs.Requests.{Misread, Request, request_in}
 use Rattle.cdx_request.specs.Replies.{Reply, reply_to_misread}
 use Rattle.cdx_tool.specs.Owed.{reply_by}
-use Rattle.cdx_ask.specs.Asks.{Lack, refused, reply_to_bill}
+use Rattle.cdx_ask.specs.Asks.{billed, reply_to_bill}
 use Rattle.cdx_losses.specs.Losses.{taken}
 use Rattle.cdx_losses.specs.Answers.{losses_answer}
 use Rattle.cdx_losses.specs.declared.serving.Command.{Command}
 use Rattle.cdx_losses.specs.declared.serving.Command.TheVariants.{Losses}
 
--- ---- the bill of a request
+-- ---- the bill
 
--- a bill that fits every hop, or why a road along them is refused
-abbrev pub fitting : List Hop → Result Tree Refusal → Result Tree Lack
-fitting hops (Ok b) = if fits_all hops b then Ok b else Err (refused version_missing)
-fitting hops (Err r) = Err (refused r)
+-- a bill that fits every hop, or that a version is missing
+abbrev pub if_fit : List Hop → Tree → Result Tree Refusal
+if_fit hops b = if fits_all hops b then Ok b else Err version_missing
 
--- The bill that the road of a request carries. Its document's first fault comes before a missing version.
-abbrev pub bill_carried : Request → Result Tree Lack
-bill_carried r = fitting r.hops (denotes r.doc r.from)
+-- The bill that the road of a document carries, or why that is refused: the document's first fault comes before a missing
+-- version.
+abbrev pub carried : Doc → SpecVersion → List Hop → Result Tree Refusal
+carried x v hops = do
+  b ← denotes x v
+  if_fit hops b
 
 -- ---- the answer
 
@@ -32,7 +36,7 @@ abbrev pub answer_to : List Hop → Tree → Data
 answer_to hops b = losses_answer (taken b hops)
 
 abbrev pub reply_to_request : Result Request Misread → Reply
-reply_to_request (Ok r) = reply_to_bill (answer_to r.hops) (bill_carried r)
+reply_to_request (Ok r) = reply_to_bill (answer_to r.hops) (billed (carried r.doc r.from r.hops))
 reply_to_request (Err e) = reply_to_misread e
 
 -- to bytes that are no more than the limit

@@ -1,17 +1,17 @@
 //! What is answered to a request: what its road takes of its bill, as JSON.
 
-ghost use Rattle.std.specs.Prelude.{◌≡◌, Some, IfOk};
+ghost use Rattle.std.specs.Prelude.{◌≡◌, Some, Ok, IfOk};
 ghost use Rattle.serde_json.specs.View.{view};
 ghost use Rattle.cdx_schema.specs.Roads as roads;
 ghost use Rattle.cdx_bom.specs.Trees.{bom_tree};
 ghost use Rattle.cdx_bom.specs.Docs.{IsDoc, hops_of, refusal_of};
+ghost use Rattle.cdx_bom.specs.Hops.{any_first, Denotes};
 ghost use Rattle.cdx_request.specs.Requests.{Request as Asked, request_of};
 ghost use Rattle.cdx_request.specs.Replies.{reply};
-ghost use Rattle.cdx_tool.specs.Reads.{IsRequest};
+ghost use Rattle.cdx_tool.specs.Reads.{Reads, IsRequest};
 ghost use Rattle.cdx_tool.specs.Shows.{reply_of};
-ghost use Rattle.cdx_ask.specs.Asks.{GivesBill, reply_to_bill};
 ghost use Rattle.cdx_losses.specs.Answers.{reason_word, losses_answer as losses_in};
-ghost use Rattle.cdx_losses.specs.Report.{fitting, bill_carried, answer_to, reply_to_request, owed};
+ghost use Rattle.cdx_losses.specs.Report.{if_fit as bill_if_fit, carried as bill_carried, answer_to, reply_to_request, owed};
 ghost use Rattle.cdx_losses.specs.Told.{all_told};
 
 use crate::loss::{Loss, Reason};
@@ -21,8 +21,8 @@ use cdx_bom::{Bom, Doc, Hop, RoadError, into_bill};
 use cdx_events::List as Items;
 use cdx_models::{BomError, Lack, SpecVersion};
 use cdx_tool::{
-    Answer, Request, SERVED, Shown, UNUSABLE, answer_value, items_to_json, only, read_json,
-    read_request, refuse,
+    Answer, Request, RequestError, SERVED, Shown, UNUSABLE, answer_value, items_to_json, only,
+    read_json, read_request, refuse,
 };
 use serde_json::{Value, json};
 use std::alloc::{AllocError, Global};
@@ -71,43 +71,49 @@ fn answer_bill(alloc: Global, bill: &Bom, hops: &[Hop]) -> Result<Answer, AllocE
 
 // ---- the bill
 
-// The first hop to 1.3 decides: no other version asks for what a bill may lack.
-fn fits_all(bill: &Bom, hops: &[Hop]) -> bool
-    ensures { result ≡ roads.fits_all (hops_of hops.now) (bom_tree bill.now) }
+// Whether a hop is written in 1.3, which asks each component for a version.
+fn asks_versions(hops: &[Hop]) -> bool
+    ensures { result ≡ any_first (hops_of hops.now) }
 {
     for hop in hops {
         if hop.version == SpecVersion::V1_3 {
-            return bill.fits(SpecVersion::V1_3);
+            return true;
         }
     }
-    true
+    false
+}
+
+#[tactic(auto, using(cdx_bom::proofs::Carried::asked))]
+fn fits_all(bill: &Bom, hops: &[Hop]) -> bool
+    ensures { result ≡ roads.fits_all (hops_of hops.now) (bom_tree bill.now) }
+{
+    !asks_versions(hops) || bill.fits(SpecVersion::V1_3)
 }
 
 fn version_missing() -> RoadError
     ensures { refusal_of result ≡ Some roads.version_missing }
 {
-    RoadError::Bom(BomError::BomSerializationError(
-        SpecVersion::V1_3,
-        Lack::VersionMissing,
-    ))
+    RoadError::Bom(BomError::BomSerializationError(SpecVersion::V1_3, Lack::VersionMissing))
 }
 
-// The bill of a document, where it fits every hop.
-fn read_fitting(
-    alloc: Global,
-    doc: Doc,
-    from: SpecVersion,
-    hops: &[Hop],
-) -> Result<Bom, NoBill>
-    ensures { (x : roads.Doc) → IsDoc doc x
-        → GivesBill (fitting (hops_of hops.now) (roads.denotes x from)) result }
+// The bill, unless a hop's version can't hold it.
+fn if_fit(bill: Bom, hops: &[Hop]) -> Result<Bom, RoadError>
+    ensures { Denotes (bill_if_fit (hops_of hops.now) (bom_tree bill)) result }
 {
-    let bill = into_bill(alloc, doc, from)?;
     if fits_all(&bill, hops) {
         return Ok(bill);
     }
     drop(bill);
-    Err(NoBill::Refused(version_missing()))
+    Err(version_missing())
+}
+
+// The bill that a road of the document along the hops carries.
+fn carried(alloc: Global, doc: Doc, from: SpecVersion, hops: &[Hop]) -> Result<Bom, RoadError>
+    ensures { (x : roads.Doc) → IsDoc doc x
+        → Denotes (bill_carried x from (hops_of hops.now)) result }
+{
+    let bill = into_bill(alloc, doc, from)?;
+    if_fit(bill, hops)
 }
 
 // ---- the request
@@ -115,22 +121,27 @@ fn read_fitting(
 fn answer_request(alloc: Global, request: Request) -> Result<Answer, AllocError>
     requires { (q : Asked) × IsRequest request q }
     ensures { (q : Asked) → IsRequest request q
-        → IfOk result (λ a. reply_of a ≡ reply_to_bill (answer_to q.hops) (bill_carried q)) }
+        → IfOk result (λ a. reply_of a ≡ reply_to_request (Ok q)) }
 {
     let Request { from, doc, hops } = request;
-    match read_fitting(alloc, doc, from, hops.as_slice()) {
-        Ok(bill) => answer_bill(alloc, &bill, hops.as_slice()),
-        Err(lack) => answer_lack(alloc, lack),
+    let road = hops.as_slice();
+    match carried(alloc, doc, from, road) {
+        Ok(bill) => answer_bill(alloc, &bill, road),
+        Err(error) => answer_lack(alloc, NoBill::Refused(error)),
     }
 }
 
-// The value is freed once the request is read, which holds a copy of its document.
+// The request of a value that is freed with the call, so that it isn't held beside the copy of its document.
+fn into_request(alloc: Global, value: Value) -> Result<Request, RequestError>
+    ensures { Reads IsRequest (request_of (view value)) result }
+{
+    read_request(alloc, &value)
+}
+
 fn answer_asked(alloc: Global, value: Value) -> Result<Answer, AllocError>
     ensures { IfOk result (λ a. reply_of a ≡ reply_to_request (request_of (view value))) }
 {
-    let read = read_request(alloc, &value);
-    drop(value);
-    match read {
+    match into_request(alloc, value) {
         Ok(request) => answer_request(alloc, request),
         Err(error) => answer_lack(alloc, NoBill::Misread(error)),
     }

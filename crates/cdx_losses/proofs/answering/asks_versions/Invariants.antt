@@ -1,7 +1,7 @@
 use Rattle.std.proofs.Common.{◌≡◌, drop}
 use Rattle.cdx_bom.specs.Docs.{hops_of}
 use Rattle.cdx_bom.specs.Hops.{any_first}
-use Rattle.cdx_losses.proofs.answering.fits_all.Given as goal
+use Rattle.cdx_losses.proofs.answering.asks_versions.Given as goal
 
 -- none of the hops so far
 abbrev pub invariant-loop-hop : goal.invariant-loop-hop
