@@ -78,10 +78,10 @@ lacks owed (error.Bom f) h = (h.0, h.1, ap billed h.2)
 
 -- what is carried along these hops is what is asked for
 pub same_bill : (q : Request) (v : SpecVersion) (hops : List Hop) → v ≡ q.from → hops ≡ q.hops → reply_to_bill (answer_to hops) (billed (carried q.doc v hops)) ≡ reply_to_request (Ok q)
-same_bill q v hops i j = rw (i, j) refl
+same_bill q v hops i j = ap (λ (u : SpecVersion). reply_to_bill (answer_to hops) (billed (carried q.doc u hops))) i ∙ ap (λ (hs : List Hop). reply_to_bill (answer_to hs) (billed (carried q.doc q.from hs))) j
 
 pub bill_reply : (hops : List Hop) (owed : Result Tree Refusal) (b : Tree) → owed ≡ Ok b → reply 0 (answer_to hops b) ≡ reply_to_bill (answer_to hops) (billed owed)
-bill_reply hops owed b is = rw is refl
+bill_reply hops owed b is = ap (λ (o : Result Tree Refusal). reply_to_bill (answer_to hops) (billed o)) (sym is)
 
 -- what is asked for, and the hops
 pub asked_for : Result Request Misread → Result Tree Lack
@@ -137,10 +137,7 @@ served_bill f (Err r) h = absurd (no_0 0 h)
 
 -- is denoted, and fits every hop
 fits_hops : (hops : List Hop) (denoted : Result Tree Refusal) (b : Tree) → (denoted >>= λ c. if_fit hops c) ≡ Ok b → (denoted ≡ Ok b) × (fits_all hops b ≡ true)
-fits_hops hops (Err r) b h = absurd (err_ok r b h)
-  where
-    err_ok : (r : Refusal) (b : Tree) → Err {A = Tree} r ≡ Ok b → ⊥
-    err_ok r b h = cc
+fits_hops hops (Err r) b h = cc
 fits_hops hops (Ok c) b h = by (fits_all hops c) refl h
   where
     by : (fit : Bool) → fits_all hops c ≡ fit → cond fit (Ok c) (Err version_missing) ≡ Ok b → (Ok {E = Refusal} c ≡ Ok b) × (fits_all hops b ≡ true)
