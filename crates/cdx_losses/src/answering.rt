@@ -5,7 +5,7 @@ ghost use Rattle.serde_json.specs.View.{view};
 ghost use Rattle.cdx_schema.specs.Roads as roads;
 ghost use Rattle.cdx_bom.specs.Trees.{bom_tree};
 ghost use Rattle.cdx_bom.specs.Docs.{IsDoc, hops_of, refusal_of};
-ghost use Rattle.cdx_bom.specs.Hops.{any_first, Denotes};
+ghost use Rattle.cdx_bom.specs.Hops.{Denotes};
 ghost use Rattle.cdx_request.specs.Requests.{Request as Asked, request_of};
 ghost use Rattle.cdx_request.specs.Replies.{reply};
 ghost use Rattle.cdx_tool.specs.Reads.{Reads, IsRequest};
@@ -15,6 +15,7 @@ ghost use Rattle.cdx_losses.specs.Report.{if_fit as bill_if_fit, carried as bill
 ghost use Rattle.cdx_losses.specs.Told.{all_told};
 
 use crate::loss::{Loss, Reason};
+use crate::road::lowest_version;
 use crate::walking::losses;
 use cdx_ask::{NoBill, answer_lack};
 use cdx_bom::{Bom, Doc, Hop, RoadError, into_bill};
@@ -71,23 +72,14 @@ fn answer_bill(alloc: Global, bill: &Bom, hops: &[Hop]) -> Result<Answer, AllocE
 
 // ---- the bill
 
-// Whether a hop is written in 1.3, which asks each component for a version.
-fn asks_versions(hops: &[Hop]) -> bool
-    ensures { result ≡ any_first (hops_of hops.now) }
-{
-    for hop in hops {
-        if hop.version == SpecVersion::V1_3 {
-            return true;
-        }
-    }
-    false
-}
-
-#[tactic(auto, using(cdx_bom::proofs::Carried::asked))]
+// What the lowest version of the hops can hold, each of them can.
 fn fits_all(bill: &Bom, hops: &[Hop]) -> bool
     ensures { result ≡ roads.fits_all (hops_of hops.now) (bom_tree bill.now) }
 {
-    !asks_versions(hops) || bill.fits(SpecVersion::V1_3)
+    match hops.split_first() {
+        None => true,
+        Some((first, rest)) => bill.fits(lowest_version(first.version, rest)),
+    }
 }
 
 fn version_missing() -> RoadError

@@ -4,6 +4,7 @@
 mod answering;
 mod laws;
 mod loss;
+mod road;
 mod serving;
 mod walking;
 
