@@ -50,8 +50,8 @@ def no_constant(name):
     raise Refused(f"{name} is no JSON: numbers of JSON have digits")
 
 
-def short(text):
-    return text if len(text) <= 40 else text[:37] + "..."
+def short(text, longest=40):
+    return text if len(text) <= longest else text[: longest - 3] + "..."
 
 
 KINDS = {dict: "an object", list: "an array", str: "a text", bool: "a boolean", int: "a number", Literal: "a number", type(None): "null"}
@@ -76,6 +76,12 @@ def walk(value):
             left += [((*path, name), item) for name, item in reversed(part.items())]
         elif isinstance(part, list):
             left += [((*path, at), part[at]) for at in range(len(part) - 1, -1, -1)]
+
+
+def parts_at(value, paths):
+    """The parts of a value at these printed paths, by their paths."""
+    found = ((pointer(path), part) for path, part in walk(value))
+    return {path: part for path, part in found if path in paths}
 
 
 def decoded(data):

@@ -1,3 +1,5 @@
 pub mod Losses
 pub mod Laws
 pub mod Answers
+pub mod Told
+pub mod Report

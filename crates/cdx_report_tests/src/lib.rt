@@ -1,4 +1,5 @@
-//! Worked examples of questions about a bill, of its inventory and of its canonical text, as tests.
+//! Worked examples of questions about a bill, of its inventory, of its canonical text and of what
+//! roads take of it, as tests.
 #![tactic(auto)]
 
 #[cfg(test)]
@@ -7,6 +8,8 @@ mod canonical;
 mod expect;
 #[cfg(test)]
 mod inventory;
+#[cfg(test)]
+mod losses;
 #[cfg(test)]
 mod stock;
 #[cfg(test)]

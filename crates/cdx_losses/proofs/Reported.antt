@@ -1,0 +1,219 @@
+-- What the program of losses owes to the bytes of a request and to words.
+use Rattle.std.proofs.Common.{◌≡◌, ℕ, suc, ◌≤◌, List, [], ◌∷◌, length, map, codes, Bool, true, false, cond, ltb, Option, Some, Result, Ok, Err, IfOk, ◌⊎◌, inl, inr, refl, sym, ap, subst, ◌∙◌, arith}
+use Rattle.std.specs.Prelude.{not, ◌||◌}
+use Rattle.std.specs.Io.KnownBytes.{Appends, IsAtEnd}
+use Rattle.std.proofs.lemmas.Bool.{le-ltb}
+use Rattle.std.specs.declared.alloc.AllocError.{AllocError}
+use Rattle.serde_json.specs.Data.{Data, string, no_members}
+use Rattle.serde_json.specs.View.{items_of}
+use Rattle.serde_json.specs.Written.{has_float, items_have_float}
+use Rattle.cdx_models.specs.declared.bom.SpecVersion.{SpecVersion}
+use Rattle.cdx_models.specs.declared.bom.SpecVersion.TheVariants.{V1_3, V1_4, V1_5}
+use Rattle.cdx_models.specs.Versions.{lowest, is_first}
+use Rattle.cdx_models.specs.Path.{pointer}
+use Rattle.cdx_models.specs.Trees.{Tree}
+use Rattle.cdx_schema.proofs.Clear.{neither}
+use Rattle.cdx_schema.specs.Results.{◌>>=◌}
+use Rattle.cdx_schema.specs.Kinds.{a_bill}
+use Rattle.cdx_schema.specs.Keeping.{fits, has_versions}
+use Rattle.cdx_schema.specs.Trips.{Hop, lowest_of}
+use Rattle.cdx_schema.specs.Roads.{Refusal, version_missing, denotes, fits_all}
+use Rattle.cdx_bom.specs.declared.bom.Bom.{Bom}
+use Rattle.cdx_bom.specs.declared.doc.RoadError.{RoadError}
+use Rattle.cdx_bom.specs.declared.doc.RoadError.TheVariants as error
+use Rattle.cdx_bom.specs.Docs.{Refuses, refusal_of}
+use Rattle.cdx_bom.specs.Hops.{any_first, Denotes}
+use Rattle.cdx_bom.proofs.Carried.{asked}
+use Rattle.cdx_request.specs.Requests.{Misread, not_json, shape, unbalanced, Request, request_in}
+use Rattle.cdx_request.specs.Replies.{Reply, reply, line_of, no_request, limit, reply_to_misread}
+use Rattle.cdx_request.specs.Served.{IsValid}
+use Rattle.cdx_request.proofs.AnswerFloats.{put_clear}
+use Rattle.cdx_tool.specs.Reads.{Reads, IsRequest}
+use Rattle.cdx_tool.specs.declared.answer.Answer.{Answer}
+use Rattle.cdx_tool.specs.declared.request.RequestError.{RequestError}
+use Rattle.cdx_tool.specs.declared.request.RequestError.TheVariants as misreading
+use Rattle.cdx_tool.specs.Shows.{reply_of}
+use Rattle.cdx_tool.specs.Owed.{reply_by, IsSettled}
+use Rattle.cdx_tool.specs.Run.{Tells, Ends}
+use Rattle.cdx_ask.specs.Asks.{Lack, misread, billed, Lacks, reply_to_bill}
+use Rattle.cdx_ask.specs.declared.NoBill.TheVariants as lack
+use Rattle.cdx_ways.specs.Ways.{At}
+use Rattle.cdx_losses.specs.Answers.{reason_word, loss_value, losses_answer}
+use Rattle.cdx_losses.specs.Report.{if_fit, carried, answer_to, reply_to_request, owed}
+use Rattle.cdx_losses.specs.Told.{told, all_told}
+use Rattle.cdx_losses.specs.declared.loss.Loss.{Loss}
+use Rattle.cdx_losses.specs.declared.loss.Reason.{Reason}
+use Rattle.cdx_losses.specs.declared.serving.Command.{Command}
+
+-- ---- the answer
+
+-- the values of the losses are those of what they tell
+pub values_are : (ls : List Loss) → map (λ l. loss_value (told l)) ls ≡ map loss_value (all_told ls)
+values_are [] = refl
+values_are (l ∷ ls) = ap (λ ds. loss_value (told l) ∷ ds) (values_are ls)
+
+-- No answer holds a float.
+entries_clear : (xs : List (At Reason)) → items_have_float (items_of (map loss_value xs)) ≡ false
+entries_clear [] = refl
+entries_clear (x ∷ xs) = neither (has_float (loss_value x)) _ (put_clear (codes "path") (string (pointer x.0)) _ refl (put_clear (codes "reason") (string (reason_word x.1)) no_members refl refl)) (entries_clear xs)
+
+pub losses_clear : (xs : List (At Reason)) → has_float (losses_answer xs) ≡ false
+losses_clear xs = neither _ false (entries_clear xs) refl
+
+-- ---- the bill
+
+is_first_lowest : (v w : SpecVersion) → is_first (lowest v w) ≡ (is_first v || is_first w)
+is_first_lowest V1_3 w = refl
+is_first_lowest V1_4 V1_3 = refl
+is_first_lowest V1_4 V1_4 = refl
+is_first_lowest V1_4 V1_5 = refl
+is_first_lowest V1_5 w = refl
+
+or_joins : (a b c : Bool) → ((a || b) || c) ≡ (a || (b || c))
+or_joins true b c = refl
+or_joins false b c = refl
+
+or_false : (a : Bool) → a ≡ (a || false)
+or_false true = refl
+or_false false = refl
+
+-- the lowest version is 1.3 where one is
+first_lowest : (v : SpecVersion) (hs : List Hop) → is_first (lowest_of v hs) ≡ (is_first v || any_first hs)
+first_lowest v [] = or_false (is_first v)
+first_lowest v (h ∷ hs) = first_lowest (lowest v h.version) hs ∙ (ap (λ (x : Bool). x || any_first hs) (is_first_lowest v h.version) ∙ or_joins (is_first v) (is_first h.version) (any_first hs))
+
+-- What the lowest version can hold, each can.
+pub fits_lowest : (h : Hop) (hs : List Hop) (b : Tree) → fits (lowest_of h.version hs) b a_bill ≡ fits_all (h ∷ hs) b
+fits_lowest h hs b = ap (λ (x : Bool). not x || has_versions b a_bill) (first_lowest h.version hs) ∙ sym (asked (h ∷ hs) b)
+
+pub fitted : (hops : List Hop) (b : Tree) → fits_all hops b ≡ true → if_fit hops b ≡ Ok b
+fitted hops b fit = rw fit refl
+
+pub unfitted : (hops : List Hop) (b : Tree) (e : RoadError) → fits_all hops b ≡ false → refusal_of e ≡ Some version_missing → Refuses (if_fit hops b) e
+unfitted hops b (error.Memory m) unfit h = tt
+unfitted hops b (error.Json f) unfit h = (version_missing, h, rw unfit refl)
+unfitted hops b (error.Xml f) unfit h = (version_missing, h, rw unfit refl)
+unfitted hops b (error.Bom f) unfit h = (version_missing, h, rw unfit refl)
+
+-- what fits of the bill that is denoted is what is carried
+pub carried_on : (hops : List Hop) (denoted : Result Tree Refusal) (b : Tree) (r : Result Bom RoadError) → denoted ≡ Ok b → Denotes (if_fit hops b) r → Denotes (denoted >>= λ b. if_fit hops b) r
+carried_on hops denoted b r is h = subst (λ (d : Result Tree Refusal). Denotes (d >>= λ b. if_fit hops b) r) (sym is) h
+
+-- ---- the answers
+
+-- a refusal is why there is no bill
+pub lacks : (owed : Result Tree Refusal) (e : RoadError) → Refuses owed e → Lacks (billed owed) (lack.Refused e)
+lacks owed (error.Memory m) h = tt
+lacks owed (error.Json f) h = (h.0, h.1, ap billed h.2)
+lacks owed (error.Xml f) h = (h.0, h.1, ap billed h.2)
+lacks owed (error.Bom f) h = (h.0, h.1, ap billed h.2)
+
+-- what is carried along these hops is what is asked for
+pub same_bill : (q : Request) (v : SpecVersion) (hops : List Hop) → v ≡ q.from → hops ≡ q.hops → reply_to_bill (answer_to hops) (billed (carried q.doc v hops)) ≡ reply_to_request (Ok q)
+same_bill q v hops i j = ap (λ (u : SpecVersion). reply_to_bill (answer_to hops) (billed (carried q.doc u hops))) i ∙ ap (λ (hs : List Hop). reply_to_bill (answer_to hs) (billed (carried q.doc q.from hs))) j
+
+pub bill_reply : (hops : List Hop) (owed : Result Tree Refusal) (b : Tree) → owed ≡ Ok b → reply 0 (answer_to hops b) ≡ reply_to_bill (answer_to hops) (billed owed)
+bill_reply hops owed b is = ap (λ (o : Result Tree Refusal). reply_to_bill (answer_to hops) (billed o)) (sym is)
+
+-- what is asked for, and the hops
+pub asked_for : Result Request Misread → Result Tree Lack
+asked_for (Ok q) = billed (carried q.doc q.from q.hops)
+asked_for (Err e) = Err (misread e)
+
+pub answer_in : Result Request Misread → Tree → Data
+answer_in (Ok q) = answer_to q.hops
+answer_in (Err e) = answer_to []
+
+pub reply_in : (o : Result Request Misread) → reply_to_bill (answer_in o) (asked_for o) ≡ reply_to_request o
+reply_in (Ok q) = refl
+reply_in (Err e) = refl
+
+pub misreads : (o : Result Request Misread) (e : RequestError) → Reads IsRequest o (Err e) → Lacks (asked_for o) (lack.Misread e)
+misreads o misreading.Shape h = ap asked_for h
+misreads o (misreading.Unbalanced place) h = ap asked_for h
+misreads o (misreading.Memory m) h = tt
+
+-- ---- the reply
+
+misread_settled : (e : Misread) → IsSettled (reply_to_misread e).status
+misread_settled not_json = inr (inr refl)
+misread_settled shape = inr (inr refl)
+misread_settled (unbalanced place) = inr (inl refl)
+
+carried_settled : (f : Tree → Data) (r : Result Tree Refusal) → IsSettled (reply_to_bill f (billed r)).status
+carried_settled f (Ok b) = inl refl
+carried_settled f (Err r) = inr (inl refl)
+
+request_settled : (r : Result Request Misread) → IsSettled (reply_to_request r).status
+request_settled (Ok q) = carried_settled (answer_to q.hops) (carried q.doc q.from q.hops)
+request_settled (Err e) = misread_settled e
+
+pub settled : (bytes : List ℕ) (r : Result Answer AllocError) → IfOk r (λ a. reply_of a ≡ owed bytes) → IfOk r (λ a. IsSettled a.status)
+settled bytes (Ok a) is = subst IsSettled (ap (λ (r : Reply). r.status) (sym is)) (request_settled (request_in bytes))
+settled bytes (Err e) is = tt
+
+-- ---- status 0
+
+no_0 : (n : ℕ) → suc n ≡ 0 → ⊥
+no_0 n h = omega (arith, h)
+
+misread_unserved : (e : Misread) → (reply_to_misread e).status ≡ 0 → ⊥
+misread_unserved not_json h = no_0 1 h
+misread_unserved shape h = no_0 1 h
+misread_unserved (unbalanced place) h = no_0 0 h
+
+-- the bill that a served request carries
+served_bill : (f : Tree → Data) (r : Result Tree Refusal) → (reply_to_bill f (billed r)).status ≡ 0 → (b : Tree) × (r ≡ Ok b) × ((reply_to_bill f (billed r)).text ≡ line_of (f b))
+served_bill f (Ok b) h = (b, refl, refl)
+served_bill f (Err r) h = absurd (no_0 0 h)
+
+-- is denoted, and fits every hop
+fits_hops : (hops : List Hop) (denoted : Result Tree Refusal) (b : Tree) → (denoted >>= λ c. if_fit hops c) ≡ Ok b → (denoted ≡ Ok b) × (fits_all hops b ≡ true)
+fits_hops hops (Err r) b h = cc
+fits_hops hops (Ok c) b h = by (fits_all hops c) refl h
+  where
+    by : (fit : Bool) → fits_all hops c ≡ fit → cond fit (Ok c) (Err version_missing) ≡ Ok b → (Ok {E = Refusal} c ≡ Ok b) × (fits_all hops b ≡ true)
+    by true e i = let same : c ≡ b = cc in (i, subst (λ (x : Tree). fits_all hops x ≡ true) same e)
+    by false e i = absurd cc
+
+requested : (r : Result Request Misread) → (reply_to_request r).status ≡ 0 → (q : Request) × (r ≡ Ok q) × ((v : IsValid q) × ((reply_to_request r).text ≡ line_of (answer_to q.hops v.the_bill)))
+requested (Ok q) h =
+    let c = served_bill (answer_to q.hops) (carried q.doc q.from q.hops) h in
+    let f = fits_hops q.hops (denotes q.doc q.from) c.0 c.1 in
+    (q, refl, (record { the_bill = c.0; denoted = f.0; fit = f.1 }, c.2))
+requested (Err e) h = absurd (misread_unserved e h)
+
+-- ---- how a run of status 0 ends
+
+-- the reply went out whole
+whole : (r : Reply) (status : ℕ) (before now : Option (List ℕ)) (flushed : Option ℕ) → Ends r status before now flushed → status ≡ 0 → (r.status ≡ 0) × Appends before now r.text
+whole r status before now flushed (inl h) zero_is = (sym h.0 ∙ zero_is, h.1)
+whole r status before now flushed (inr (inl h)) zero_is = absurd (no_0 3 (sym h.0 ∙ zero_is))
+whole r status before now flushed (inr (inr (inl h, kept))) zero_is = absurd (no_0 2 (sym h ∙ zero_is))
+whole r status before now flushed (inr (inr (inr h, kept))) zero_is = absurd (no_0 4 (sym h ∙ zero_is))
+
+-- what is owed to bytes that aren't too many
+within : (bytes : List ℕ) (long : Bool) → (cond long (reply 6 (no_request (codes "too long"))) (owed bytes)).status ≡ 0 → cond long (reply 6 (no_request (codes "too long"))) (owed bytes) ≡ owed bytes
+within bytes true h = absurd (no_0 5 h)
+within bytes false h = refl
+
+abbrev reply_by_words : Option Command → List ℕ → Reply
+reply_by_words o bytes = reply_by (λ c bs. owed bs) o bytes
+
+pub served : (o left before now : Option (List ℕ)) (words : Option Command) (c : Command) (bytes : List ℕ) (status : ℕ) (flushed : Option ℕ) → words ≡ Some c → status ≡ 0 → Tells o bytes → IsAtEnd left
+    → Ends (reply_by (λ c bs. owed bs) words bytes) status before now flushed
+    → (bytes : List ℕ) × (request : Request) × Tells o bytes × IsAtEnd left × (request_in bytes ≡ Ok request) × ((valid : IsValid request) × Appends before now (line_of (answer_to request.hops valid.the_bill)))
+served o left before now words c bytes status flushed is zero_is tells end ends =
+    let w = whole (reply_by_words (Some c) bytes) status before now flushed (subst (λ (o : Option Command). Ends (reply_by_words o bytes) status before now flushed) is ends) zero_is in
+    let same = within bytes (ltb limit (length bytes)) w.0 in
+    let q = requested (request_in bytes) (subst (λ (r : Reply). r.status ≡ 0) same w.0) in
+    (bytes, q.0, tells, end, q.1, (q.2.0, subst (Appends before now) (ap (λ (r : Reply). r.text) same ∙ q.2.1) w.1))
+
+-- a valid request is owed status 0
+valid_carried : (q : Request) (v : IsValid q) → carried q.doc q.from q.hops ≡ Ok v.the_bill
+valid_carried q v = rw (v.denoted, v.fit) refl
+
+pub valid : (words : Option Command) (c : Command) (bytes : List ℕ) (q : Request) (status : ℕ) → words ≡ Some c → length bytes ≤ limit → request_in bytes ≡ Ok q → IsValid q
+    → (status ≡ (reply_by (λ c bs. owed bs) words bytes).status) ⊎ (status ≡ 5) → (status ≡ 0) ⊎ (status ≡ 5)
+valid words c bytes q status is le asks v (inl own) = inl (own ∙ rw (is, le-ltb limit (length bytes) le, asks, valid_carried q v) refl)
+valid words c bytes q status is le asks v (inr five) = inr five

@@ -1,0 +1,24 @@
+use Rattle.std.proofs.Common.{◌≡◌, IfOk, ap, sym, subst}
+use Rattle.serde_json.specs.View.{view}
+use Rattle.cdx_request.specs.Replies.{Reply}
+use Rattle.cdx_request.specs.Requests.{request_of}
+use Rattle.cdx_tool.specs.Shows.{reply_of}
+use Rattle.cdx_losses.specs.Report.{reply_to_request}
+use Rattle.cdx_losses.proofs.Reported.{asked_for, answer_in, reply_in, misreads}
+use Rattle.cdx_losses.proofs.answering.answer_asked.Goals as goal
+
+pub answer_request-requires : goal.answer_request-requires
+answer_request-requires c = let q = c.in-Ok.ensures in (q.0, q.2)
+
+pub answer_lack-requires : goal.answer_lack-requires
+answer_lack-requires c = let o = request_of (view c.args.value) in (asked_for o, misreads o c.in-Err.error c.in-Err.ensures)
+
+pub returns-in-Ok : goal.returns-in-Ok
+returns-in-Ok c =
+    let q = c.in-Ok.ensures in
+    subst (λ (r : Reply). IfOk c.answer_request.result (λ a. reply_of a ≡ r)) (ap reply_to_request (sym q.1)) (c.answer_request.ensures q.0 q.2)
+
+pub returns-in-Err : goal.returns-in-Err
+returns-in-Err c =
+    let o = request_of (view c.args.value) in
+    subst (λ (r : Reply). IfOk c.answer_lack.result (λ a. reply_of a ≡ r)) (reply_in o) (c.answer_lack.ensures (asked_for o) (answer_in o) (misreads o c.in-Err.error c.in-Err.ensures))
