@@ -31,5 +31,4 @@ one_more_told f k xs i x there is told before =
 
 pub all_told : {A : Type 0} (f : A → Tree) (k : Kind) (xs ys : List A) (i : ℕ) → length xs ≤ i → xs ≡ ys → ToldTo f k xs i → AreOf (each f ys) k
 all_told f k xs ys i end is told =
-    let P = λ x. IsOf (f x) k in
-    subst (λ zs. AreOf (each f zs) k) is (are_of f k xs (All-from_all_within P xs (AllWithin-upto P xs 0 i (length xs) end told)))
+    subst (λ zs. AreOf (each f zs) k) is (are_of f k xs (All-from_all_within (λ x. IsOf (f x) k) xs (AllWithin-upto (λ x. IsOf (f x) k) xs 0 i (length xs) end told)))

@@ -33,8 +33,8 @@ fn written(alloc: Global, bill: &Bom) -> Result<Value, AllocError>
     }
 }
 
-/// What 1.5 keeps of a bill, written as a JSON document and read again: the bill with the label 1.5. Whoever made the
-/// bill, only want of memory refuses. `Bom::shallow` tells whether a bill is shallow.
+/// What 1.5 keeps of a bill, written as a JSON document and read again. Whoever made the bill, only want of memory
+/// refuses. `Bom::shallow` tells whether a bill is shallow.
 pub fn read_again(alloc: Global, bill: &Bom) -> Result<Bom, AllocError>
     requires { IsShallow (bom_tree bill.now) }
     ensures { IfOk result

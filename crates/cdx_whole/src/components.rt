@@ -1,9 +1,8 @@
 //! Components with their pedigrees, in groups of six rows.
 
-ghost use Rattle.cdx_models.specs.Trees.{component as a_component, present};
+ghost use Rattle.cdx_models.specs.Trees.{component, pedigree, present};
 ghost use Rattle.cdx_schema.specs.Kinds.{components, optional, a_list, a_record};
 ghost use Rattle.cdx_schema.specs.Membership.{IsOf};
-ghost use Rattle.cdx_models.specs.Trees.{pedigree as a_pedigree};
 ghost use Rattle.cdx_json.specs.Groups.{group};
 ghost use Rattle.cdx_component.specs.Trees.{origin, naming, marks, contents, component_tree, components_tree, pedigree_tree};
 ghost use Rattle.cdx_component.specs.declared.component.Component.{out-Component};
@@ -13,7 +12,7 @@ use crate::of_kind::{OfKind, tell_row};
 use cdx_nest::{Component, Components, Pedigree};
 
 fn tell_origin(held: &Component)
-    ensures { AreFields (origin (out-Component held.now)) (group 0 a_component) }
+    ensures { AreFields (origin (out-Component held.now)) (group 0 component) }
 {
     held.component_type.tell();
     tell_row(&held.mime_type);
@@ -24,7 +23,7 @@ fn tell_origin(held: &Component)
 }
 
 fn tell_naming(held: &Component)
-    ensures { AreFields (naming (out-Component held.now)) (group 1 a_component) }
+    ensures { AreFields (naming (out-Component held.now)) (group 1 component) }
 {
     tell_row(&held.group);
     held.name.tell();
@@ -35,7 +34,7 @@ fn tell_naming(held: &Component)
 }
 
 fn tell_marks(held: &Component)
-    ensures { AreFields (marks (out-Component held.now)) (group 2 a_component) }
+    ensures { AreFields (marks (out-Component held.now)) (group 2 component) }
 {
     tell_row(&held.licenses);
     tell_row(&held.copyright);
@@ -48,7 +47,7 @@ fn tell_marks(held: &Component)
 #[cycle(component_told)]
 fn tell_contents(held: &Component)
     ensures { AreFields (contents components_tree pedigree_tree (out-Component held.now))
-        (group 3 a_component) }
+        (group 3 component) }
 {
     tell_pedigree_row(&held.pedigree);
     tell_row(&held.external_references);
@@ -60,7 +59,7 @@ fn tell_contents(held: &Component)
 
 #[cycle(component_told)]
 fn tell_component(held: &Component)
-    ensures { IsOf (component_tree held.now) (a_record a_component) }
+    ensures { IsOf (component_tree held.now) (a_record component) }
 {
     tell_origin(held);
     tell_naming(held);
@@ -70,7 +69,7 @@ fn tell_component(held: &Component)
 
 #[cycle(component_told)]
 fn tell_pedigree(held: &Pedigree)
-    ensures { IsOf (pedigree_tree held.now) (a_record a_pedigree) }
+    ensures { IsOf (pedigree_tree held.now) (a_record pedigree) }
 {
     tell_components_row(&held.ancestors);
     tell_components_row(&held.descendants);
@@ -91,7 +90,7 @@ fn tell_components(held: &Components)
 
 #[cycle(component_told)]
 fn tell_pedigree_row(held: &Option<Pedigree>)
-    ensures { IsField (present pedigree_tree held.now) optional (a_record a_pedigree) }
+    ensures { IsField (present pedigree_tree held.now) optional (a_record pedigree) }
 {
     match held {
         None => {}

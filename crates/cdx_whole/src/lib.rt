@@ -6,6 +6,8 @@ mod bill;
 mod changes;
 mod components;
 mod data;
+#[cfg(test)]
+mod expect;
 mod leaves;
 mod licenses;
 mod nest;
@@ -15,6 +17,8 @@ mod parts;
 mod relations;
 mod services;
 mod signatures;
+#[cfg(test)]
+mod tests;
 
 pub use again::read_again;
 pub use bill::is_a_bill;

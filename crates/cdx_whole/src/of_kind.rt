@@ -1,9 +1,9 @@
 //! Values whose trees are of their kinds. Contracts see a text as its bytes alone and a number as any, so a value is gone
 //! through once to tell them.
 
-ghost use Rattle.std.specs.List.{All};
 ghost use Rattle.cdx_models.specs.Trees.{present, list_tree, each};
 ghost use Rattle.cdx_schema.specs.Kinds.{optional};
+ghost use Rattle.cdx_schema.specs.Membership.{IsOf};
 ghost use Rattle.cdx_whole.specs.Fields.{AreOf, IsField, IsListField};
 
 use cdx_events::{List, Text};
@@ -11,8 +11,6 @@ use cdx_schema::Kinded;
 
 /// A value whose tree is of its kind.
 pub(crate) trait OfKind: Kinded {
-    ghost use Rattle.cdx_schema.specs.Membership.{IsOf};
-
     /// Tells contracts that its tree is of its kind, texts in UTF-8 included. It does nothing else.
     fn tell(&self)
         ensures { IsOf (Self.tree self.now) Self.kind };

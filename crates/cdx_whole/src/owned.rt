@@ -100,12 +100,7 @@ fn listed(alloc: Global, component: Component) -> Result<Components, AllocError>
 
 /// The bill of 1.5 with one library of this name, which stands under the license with this SPDX identifier and tells
 /// this owner. Only want of memory refuses.
-pub fn owned_bill(
-    alloc: Global,
-    name: &str,
-    id: &str,
-    owner: &str,
-) -> Result<Bom, AllocError>
+pub fn owned_bill(alloc: Global, name: &str, id: &str, owner: &str) -> Result<Bom, AllocError>
     ensures { IfOk result (λ bill. bom_tree bill ≡ bill_of name.now id.now owner.now) }
 {
     let component_type = Text::new(alloc, "library")?;
@@ -119,12 +114,7 @@ pub fn owned_bill(
 }
 
 /// That bill, as it is read again from the JSON document that is written of it. Only want of memory refuses.
-pub fn owned_bill_again(
-    alloc: Global,
-    name: &str,
-    id: &str,
-    owner: &str,
-) -> Result<Bom, AllocError>
+pub fn owned_bill_again(alloc: Global, name: &str, id: &str, owner: &str) -> Result<Bom, AllocError>
     ensures { IfOk result (λ again. bom_tree again ≡ bill_of name.now id.now owner.now) }
 {
     let bill = owned_bill(alloc, name, id, owner)?;

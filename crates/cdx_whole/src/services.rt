@@ -1,6 +1,6 @@
 //! Services, in groups of six rows.
 
-ghost use Rattle.cdx_models.specs.Trees.{service as a_service, present};
+ghost use Rattle.cdx_models.specs.Trees.{service, present};
 ghost use Rattle.cdx_schema.specs.Kinds.{services, optional, a_list, a_record};
 ghost use Rattle.cdx_schema.specs.Membership.{IsOf};
 ghost use Rattle.cdx_json.specs.Groups.{group};
@@ -12,7 +12,7 @@ use crate::of_kind::{OfKind, tell_list_row, tell_row};
 use cdx_nest::{Service, Services};
 
 fn tell_naming(held: &Service)
-    ensures { AreFields (service_naming (out-Service held.now)) (group 0 a_service) }
+    ensures { AreFields (service_naming (out-Service held.now)) (group 0 service) }
 {
     tell_row(&held.bom_ref);
     tell_row(&held.provider);
@@ -23,7 +23,7 @@ fn tell_naming(held: &Service)
 }
 
 fn tell_access(held: &Service)
-    ensures { AreFields (service_access (out-Service held.now)) (group 1 a_service) }
+    ensures { AreFields (service_access (out-Service held.now)) (group 1 service) }
 {
     tell_list_row(&held.endpoints);
     tell_row(&held.authenticated);
@@ -36,7 +36,7 @@ fn tell_access(held: &Service)
 #[cycle(service_told)]
 fn tell_contents(held: &Service)
     ensures { AreFields (service_contents services_tree (out-Service held.now))
-        (group 2 a_service) }
+        (group 2 service) }
 {
     tell_row(&held.properties);
     tell_services_row(&held.services);
@@ -46,7 +46,7 @@ fn tell_contents(held: &Service)
 
 #[cycle(service_told)]
 fn tell_service(held: &Service)
-    ensures { IsOf (service_tree held.now) (a_record a_service) }
+    ensures { IsOf (service_tree held.now) (a_record service) }
 {
     tell_naming(held);
     tell_access(held);
