@@ -1,0 +1,7 @@
+use Rattle.std.proofs.Common.{inr}
+use Rattle.cdx_schema.specs.Table.{rows}
+use Rattle.cdx_whole.proofs.services.tell_naming.Goals as goal
+
+pub returns : goal.returns
+unfolding rows
+returns c = (c.tell_row.ensures, (c.tell_row-2.ensures, (c.tell_row-3.ensures, (inr c.tell.ensures, (c.tell_row-4.ensures, (c.tell_row-5.ensures, tt))))))

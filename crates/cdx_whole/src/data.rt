@@ -1,0 +1,28 @@
+//! The data of services.
+
+use crate::of_kind::{OfKind, tell_list, tell_row};
+use cdx_data::{Data, DataClassification, ServiceData};
+
+impl OfKind for DataClassification {
+    fn tell(&self) {
+        self.flow.tell();
+        self.classification.tell();
+    }
+}
+
+impl OfKind for ServiceData {
+    fn tell(&self) {
+        tell_row(&self.name);
+        tell_row(&self.description);
+        self.classification.tell();
+    }
+}
+
+impl OfKind for Data {
+    fn tell(&self) {
+        match self {
+            Data::Classification(classifications) => tell_list(classifications),
+            Data::ServiceData(flows) => tell_list(flows),
+        }
+    }
+}

@@ -1,0 +1,27 @@
+//! Signatures.
+
+use crate::of_kind::{OfKind, tell_list};
+use cdx_signature::{Algorithm, Signature, Signer};
+
+impl OfKind for Algorithm {
+    fn tell(&self) {
+        let _name = self.as_str();
+    }
+}
+
+impl OfKind for Signer {
+    fn tell(&self) {
+        self.algorithm.tell();
+        self.value.tell();
+    }
+}
+
+impl OfKind for Signature {
+    fn tell(&self) {
+        match self {
+            Signature::Signers(signers) => tell_list(signers),
+            Signature::Chain(chain) => tell_list(chain),
+            Signature::Single(signer) => signer.tell(),
+        }
+    }
+}
