@@ -3,5 +3,9 @@ pub mod Members
 pub mod Apart
 pub mod Cut
 pub mod Strikes
+pub mod Spared
+pub mod Levels
+pub mod Walks
+pub mod Gone
 mod Shown
 mod LossRows

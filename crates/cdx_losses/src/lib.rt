@@ -1,8 +1,15 @@
 //! What a road takes from a bill: the losses, and their laws.
 #![tactic(auto)]
 
+mod bill;
 mod laws;
+mod leaves;
+mod losing;
 mod loss;
+mod nested;
+mod road;
+mod walk;
 
+pub use bill::losses;
 pub use laws::{losses_are_all, losses_lead, losses_lie_apart};
-pub use loss::Reason;
+pub use loss::{Loss, Reason};
