@@ -16,7 +16,7 @@ use Rattle.cdx_patch.specs.declared.code.Diff.{Diff}
 use Rattle.cdx_patch.specs.declared.code.Source.{Source}
 use Rattle.cdx_parts.specs.Records.{copyrights_tree, evidence_tree}
 use Rattle.cdx_parts.specs.declared.component.ComponentEvidence.{ComponentEvidence}
-use Rattle.cdx_schema.specs.Kinds.{Lists, Kind, a_list, a_record, a_tools, an_entry, Spelled, filled_child, optional, Row}
+use Rattle.cdx_schema.specs.Kinds.{Lists, Kind, a_list, a_record, a_tools, an_entry, Spelled, filled_child, children, optional, Row}
 use Rattle.cdx_schema.specs.Table as table
 use Rattle.cdx_schema.specs.Table.{rows}
 use Rattle.cdx_schema.specs.Trips.{bare, items_bare, is_hollow, none_is_absent}
@@ -63,7 +63,7 @@ listed_tripped (suc zero) l s t = refl
 listed_tripped (suc (suc n)) l s t = or_end (is_left_out t)
 
 pub listed_reason : (u : SpecVersion) (n : ℕ) (l : Lists) (s : String) (t : Tree) → is_absent t ≡ false → field_reason u n (table.each l s) t ≡ if_so (after_a_trip n (is_left_out t)) Xml
-listed_reason u n l s t h = trip_reason u n (a_list l) _ s t refl h ∙ ap (λ b. if_so b Xml) (listed_tripped n l s t)
+listed_reason u n l s t h = trip_reason u n (a_list l) (children (codes s)) s t refl h ∙ ap (λ b. if_so b Xml) (listed_tripped n l s t)
 
 filled_gone : (t : Tree) → is_absent t ≡ false → is_absent (if is_hollow t then absent else bare t) ≡ is_hollow t
 filled_gone t h = by (is_hollow t)
@@ -88,7 +88,7 @@ supplier_tripped (suc zero) t h = filled_gone t h ∙ sym (or_end (is_hollow t))
 supplier_tripped (suc (suc n)) t h = ap (λ b. b || is_hollow (bare t)) (filled_gone t h)
 
 pub supplier_reason : (u : SpecVersion) (n : ℕ) (t : Tree) → is_absent t ≡ false → field_reason u n supplier_row t ≡ if_so (after_a_trip n (is_hollow t || after_two_trips n (is_hollow (bare t)))) Xml
-supplier_reason u n t h = trip_reason u n (a_record entity) _ "supplier" t refl h ∙ ap (λ b. if_so b Xml) (supplier_tripped n t h)
+supplier_reason u n t h = trip_reason u n (a_record entity) (filled_child (codes "supplier")) "supplier" t refl h ∙ ap (λ b. if_so b Xml) (supplier_tripped n t h)
 
 -- ---- hollow records
 

@@ -81,7 +81,7 @@ Spared {A} f = (x : A) → lacks is_losing (f x) ≡ true
 maybe : {A : Type 0} (f : A → Tree) → Spared f → (o : Option A) → lacks is_losing (present f o) ≡ true
 maybe f h o = row_lacks is_losing f h o
 
-line : (o : Option (List ℕ)) → lacks is_losing (present text o) ≡ true
+pub line : (o : Option (List ℕ)) → lacks is_losing (present text o) ≡ true
 line o = texts_lack is_losing o
 
 pub text_spared : Spared text
@@ -167,6 +167,9 @@ copyrights_spared x = list_lacks is_losing copyright_tree copyright_spared x.0
 pub classification_spared : Spared classification_tree
 unfolding lacks rows
 classification_spared x = refl
+
+pub classifications_spared : Spared (list_tree classification_tree)
+classifications_spared xs = list_lacks is_losing classification_tree classification_spared xs
 
 dependency_spared : Spared dependency_tree
 unfolding lacks rows

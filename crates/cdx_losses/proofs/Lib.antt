@@ -7,5 +7,7 @@ pub mod Spared
 pub mod Levels
 pub mod Walks
 pub mod Gone
+pub mod Roads
+pub mod Values
 mod Shown
 mod LossRows

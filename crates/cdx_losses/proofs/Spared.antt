@@ -156,7 +156,9 @@ no_item_reason u n k t c h = ap (λ o. or_else o (if_so (is_skipped n t) Xml)) c
 
 before_changes : (k : Kind) (m : Name) (ts : Trees) → is_losing m ≡ false → reason_before_1_5 k m ts ≡ None
 before_changes a_tools tools_object ts h = absurd (true≢false h)
+before_changes a_tools _ ts h = refl
 before_changes an_entry service_data ts h = absurd (true≢false h)
+before_changes an_entry _ ts h = refl
 before_changes _ m ts h = refl
 
 spared_changes : (u : SpecVersion) (k : Kind) (m : Name) (ts : Trees) → is_losing m ≡ false → reason_in u k m ts ≡ None

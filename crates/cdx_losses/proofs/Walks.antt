@@ -1,7 +1,8 @@
 -- How the steps of a walk add up.
-use Rattle.std.specs.Prelude.{◌≡◌, refl, ℕ, suc, ◌+◌, ◌<◌, ◌≤◌, List, [], ◌∷◌, ◌++◌, map, length, take, drop, Bool, true, false, not, ◌&&◌, Option, Some, None, is_some}
+use Rattle.std.specs.Prelude.{◌≡◌, refl, ℕ, suc, ◌+◌, ◌<◌, ◌≤◌, List, [], ◌∷◌, ◌++◌, map, length, take, drop, Bool, true, false, not, ◌&&◌, Option, Some, None, is_some, Result, OnOk}
 use Rattle.std.proofs.Common.{get_or}
 use Rattle.std.proofs.lemmas.List.{map-append, append-nil, append_assoc, at_drop_more, at_drop_all}
+use Rattle.std.proofs.lemmas.Result.{IfOk-weaker}
 use Rattle.std.proofs.Math.Seq.{take-append_seam}
 use mathlib.Core.Path.{ap, sym, ◌∙◌, subst}
 use native.Mathlib.Omega.{arith}
@@ -41,6 +42,10 @@ below_step p s (x ∷ xs) = ap (λ q. (q, x.1) ∷ below (p ++ s ∷ []) xs) (ap
 pub adds_same : (xs ys : Entries) (a b : Walk) → ys ≡ xs → Adds xs a b → Adds ys a b
 adds_same xs ys a b h e = subst (λ (zs : Entries). Adds zs a b) (sym h) e
 
+-- the same of the result of a last call
+pub ok_same : {T E : Type 0} (r : Result T E) (xs ys : Entries) (a b : Walk) → ys ≡ xs → OnOk r (Adds xs a b) → OnOk r (Adds ys a b)
+ok_same r xs ys a b h e = IfOk-weaker r (λ z. Adds xs a b) (λ z. Adds ys a b) (λ z f. adds_same xs ys a b h f) e
+
 pub adds_none : (a : Walk) → Adds [] a a
 adds_none a = (refl, sym (append-nil (all_told a.losses)))
 
@@ -68,15 +73,34 @@ adds_behind s xs a b c d n is same e long cut kept = (
   ap all_told kept ∙ (e.1 ∙ (ap (λ z. all_told z ++ below b.path.items xs) same ∙ ap (λ z. all_told a.losses ++ z) (ap (λ z. below z xs) is ∙ below_step a.path.items s xs))),
 )
 
+whole : (xs : Entries) → below [] xs ≡ xs
+whole [] = refl
+whole (x ∷ xs) = ap (λ ys. x ∷ ys) (whole xs)
+
+-- what is added from the root on, where nothing was found before
+pub adds_root : (xs : Entries) (a b : Walk) → a.path.items ≡ [] → a.losses ≡ [] → Adds xs a b → all_told b.losses ≡ xs
+adds_root xs a b start empty e = e.1 ∙ (ap (λ z. all_told z ++ below a.path.items xs) empty ∙ (ap (λ z. below z xs) start ∙ whole xs))
+
 -- ---- values
 
--- of what isn't there nothing is taken
+-- Of what isn't there nothing is taken.
+pub nothing_there : (u : SpecVersion) (n : ℕ) (k : Kind) → lost u n absent k ≡ []
+unfolding lost
+nothing_there u n k = refl
+
 pub absent_lost : (road : Road) (k : Kind) → value_lost road absent k ≡ []
 unfolding lost
 absent_lost road k = ap (λ b. entry_or (if_so b Xml) []) (not_skipped road.trips absent refl)
 
-pub adds_absent : {A : Type 0} (f : A → Tree) (road : Road) (k : Kind) (s : Step) (o : Option A) (a : Walk) → o ≡ None → Adds (behind_step s (value_lost road (present f o) k)) a a
-adds_absent f road k s o a is = adds_same [] (behind_step s (value_lost road (present f o) k)) a a (ap (λ z. behind_step s (value_lost road (present f z) k)) is ∙ ap (behind_step s) (absent_lost road k)) (adds_none a)
+-- a member that isn't there
+pub adds_absent : {A : Type 0} (f : A → Tree) (g : Tree → Entries) (s : Step) (o : Option A) (a : Walk) → g absent ≡ [] → o ≡ None → Adds (behind_step s (g (present f o))) a a
+adds_absent f g s o a none is = adds_same [] (behind_step s (g (present f o))) a a (ap (λ z. behind_step s (g (present f z))) is ∙ ap (behind_step s) none) (adds_none a)
+
+-- a member that is there: a enters it at b, adds up to c, and goes back to d
+pub adds_row : {A : Type 0} (f : A → Tree) (g : Tree → Entries) (s : Step) (x : A) (o : Option A) (a b c d : Walk) (n : ℕ) → o ≡ Some x → b.path.items ≡ a.path.items ++ s ∷ [] → b.losses ≡ a.losses → Adds (g (f x)) b c
+    → n ≡ length a.path.items → d.path.items ≡ take n c.path.items → d.losses ≡ c.losses → Adds (behind_step s (g (present f o))) a d
+adds_row f g s x o a b c d n is entered same added long cut kept =
+    adds_same (behind_step s (g (f x))) (behind_step s (g (present f o))) a d (ap (λ z. behind_step s (g (present f z))) is) (adds_behind s (g (f x)) a b c d n entered same added long cut kept)
 
 -- ---- rows
 
