@@ -108,8 +108,14 @@ fn lose_bill(road: Road, bill: &Bom, walk: &mut Walk) -> Result<(), AllocError>
     lose_row(road, "components", &bill.components, walk)?;
     lose_row(road, "services", &bill.services, walk)?;
     lose_row(road, "compositions", &bill.compositions, walk)?;
-    walk.record_member("properties", road.unknown(SpecVersion::V1_5, &bill.properties))?;
-    walk.record_member("signature", road.unknown(SpecVersion::V1_4, &bill.signature))?;
+    walk.record_member(
+        "properties",
+        road.unknown(SpecVersion::V1_5, &bill.properties),
+    )?;
+    walk.record_member(
+        "signature",
+        road.unknown(SpecVersion::V1_4, &bill.signature),
+    )?;
     Ok(())
 }
 

@@ -14,8 +14,8 @@ ghost use Rattle.cdx_losses.specs.Walks.{Adds};
 
 mod hollow;
 
-use crate::loss::Reason;
 use crate::losing::{Losing, lose_items, lose_row, lose_row_or};
+use crate::loss::Reason;
 use crate::road::Road;
 use crate::walk::Walk;
 use cdx_data::{Data, ServiceData};
@@ -37,7 +37,10 @@ fn lose_license(road: Road, license: &License, walk: &mut Walk) -> Result<(), Al
         walk.old walk.new) }
 {
     walk.record_member("bom-ref", road.unknown(SpecVersion::V1_5, &license.bom_ref))?;
-    walk.record_member("properties", road.unknown(SpecVersion::V1_5, &license.properties))?;
+    walk.record_member(
+        "properties",
+        road.unknown(SpecVersion::V1_5, &license.properties),
+    )?;
     Ok(())
 }
 
@@ -132,7 +135,10 @@ impl Losing for Composition {
         walk.record_member("bom-ref", road.unknown(SpecVersion::V1_5, &self.bom_ref))?;
         let unknown = road.unknown(SpecVersion::V1_5, &self.vulnerabilities);
         walk.record_member("vulnerabilities", unknown)?;
-        walk.record_member("signature", road.unknown(SpecVersion::V1_4, &self.signature))?;
+        walk.record_member(
+            "signature",
+            road.unknown(SpecVersion::V1_4, &self.signature),
+        )?;
         Ok(())
     }
 }

@@ -33,7 +33,10 @@ fn lose_component(road: Road, held: &Component, walk: &mut Walk) -> Result<(), A
     lose_components_row(road, "components", &held.components, walk)?;
     let evidence = evidence_reason(road, &held.evidence);
     lose_row_or(road, "evidence", evidence, &held.evidence, walk)?;
-    walk.record_member("signature", road.unknown(SpecVersion::V1_4, &held.signature))?;
+    walk.record_member(
+        "signature",
+        road.unknown(SpecVersion::V1_4, &held.signature),
+    )?;
     Ok(())
 }
 
@@ -66,11 +69,7 @@ fn lose_components(road: Road, held: &Components, walk: &mut Walk) -> Result<(),
 }
 
 #[cycle(components)]
-fn lose_pedigree_row(
-    road: Road,
-    held: &Option<Pedigree>,
-    walk: &mut Walk,
-) -> Result<(), AllocError>
+fn lose_pedigree_row(road: Road, held: &Option<Pedigree>, walk: &mut Walk) -> Result<(), AllocError>
     ensures { OnOk result (Adds (behind_step (to_member (codes "pedigree"))
         (lost road.version road.trips (present pedigree_tree held.now) (a_record pedigree)))
         walk.old walk.new) }
@@ -142,8 +141,14 @@ fn lose_service(road: Road, held: &Service, walk: &mut Walk) -> Result<(), Alloc
     lose_row(road, "data", &held.data_items, walk)?;
     lose_row(road, "licenses", &held.licenses, walk)?;
     lose_services_row(road, &held.services, walk)?;
-    walk.record_member("signature", road.unknown(SpecVersion::V1_4, &held.signature))?;
-    walk.record_member("trustZone", road.unknown(SpecVersion::V1_5, &held.trust_zone))?;
+    walk.record_member(
+        "signature",
+        road.unknown(SpecVersion::V1_4, &held.signature),
+    )?;
+    walk.record_member(
+        "trustZone",
+        road.unknown(SpecVersion::V1_5, &held.trust_zone),
+    )?;
     Ok(())
 }
 
@@ -163,11 +168,7 @@ fn lose_services(road: Road, held: &Services, walk: &mut Walk) -> Result<(), All
 }
 
 #[cycle(services)]
-fn lose_services_row(
-    road: Road,
-    held: &Option<Services>,
-    walk: &mut Walk,
-) -> Result<(), AllocError>
+fn lose_services_row(road: Road, held: &Option<Services>, walk: &mut Walk) -> Result<(), AllocError>
     ensures { OnOk result (Adds (behind_step (to_member (codes "services"))
         (lost road.version road.trips (present services_tree held.now) (a_list services)))
         walk.old walk.new) }
