@@ -1,7 +1,6 @@
 //! What a road takes from a bill: the losses, and their laws.
 #![tactic(auto)]
 
-mod bill;
 mod laws;
 mod leaves;
 mod losing;
@@ -9,7 +8,8 @@ mod loss;
 mod nested;
 mod road;
 mod walk;
+mod walking;
 
-pub use bill::losses;
 pub use laws::{losses_are_all, losses_lead, losses_lie_apart};
 pub use loss::{Loss, Reason};
+pub use walking::losses;

@@ -14,7 +14,7 @@ use Rattle.cdx_losses.proofs.Spared.{row_lost}
 use Rattle.cdx_losses.proofs.Levels.{properties_spared, signature_spared, properties_row, bill_lost}
 use Rattle.cdx_losses.proofs.Walks.{adds_same, adds_both, adds_end, adds_unknown, adds_value}
 use Rattle.cdx_losses.proofs.Values.{row_written, components_written, services_written}
-use Rattle.cdx_losses.proofs.bill.lose_bill.Goals as goal
+use Rattle.cdx_losses.proofs.walking.lose_bill.Goals as goal
 
 pub returns : goal.returns
 returns c =

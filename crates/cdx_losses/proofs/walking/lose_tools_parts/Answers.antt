@@ -10,7 +10,7 @@ use Rattle.cdx_losses.proofs.Spared.{row_lost}
 use Rattle.cdx_losses.proofs.Levels.{object_lost}
 use Rattle.cdx_losses.proofs.Walks.{adds_same, adds_both, adds_end, adds_value}
 use Rattle.cdx_losses.proofs.Values.{row_written, components_written, services_written}
-use Rattle.cdx_losses.proofs.bill.lose_tools_parts.Goals as goal
+use Rattle.cdx_losses.proofs.walking.lose_tools_parts.Goals as goal
 
 pub returns : goal.returns
 returns c =

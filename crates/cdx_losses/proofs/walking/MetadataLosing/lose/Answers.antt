@@ -11,7 +11,7 @@ use Rattle.cdx_losses.proofs.Spared.{row_lost}
 use Rattle.cdx_losses.proofs.Levels.{licenses_row, metadata_lost}
 use Rattle.cdx_losses.proofs.Walks.{adds_same, adds_both, adds_end, adds_value}
 use Rattle.cdx_losses.proofs.Values.{row_written, value_inside, component_written, tools_written}
-use Rattle.cdx_losses.proofs.bill.MetadataLosing.lose.Goals as goal
+use Rattle.cdx_losses.proofs.walking.MetadataLosing.lose.Goals as goal
 
 pub returns : goal.returns
 returns c =

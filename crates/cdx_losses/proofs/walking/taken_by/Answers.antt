@@ -4,7 +4,7 @@ use Rattle.cdx_schema.specs.Kinds.{a_bill}
 use Rattle.cdx_losses.specs.Losses.{lost}
 use Rattle.cdx_losses.proofs.Walks.{adds_root}
 use Rattle.cdx_losses.specs.Told.{all_told}
-use Rattle.cdx_losses.proofs.bill.taken_by.Goals as goal
+use Rattle.cdx_losses.proofs.walking.taken_by.Goals as goal
 
 pub returns : goal.returns
 returns c =

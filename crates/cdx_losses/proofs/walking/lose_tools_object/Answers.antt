@@ -5,7 +5,7 @@ use Rattle.cdx_losses.specs.Losses.{lost, entry_or}
 use Rattle.cdx_losses.specs.Walks.{value_lost}
 use Rattle.cdx_losses.proofs.Walks.{ok_same}
 use Rattle.cdx_losses.proofs.Values.{none_entry, some_entry}
-use Rattle.cdx_losses.proofs.bill.lose_tools_object.Goals as goal
+use Rattle.cdx_losses.proofs.walking.lose_tools_object.Goals as goal
 
 pub returns-in-Some : goal.returns-in-Some
 returns-in-Some c =

@@ -7,7 +7,7 @@ use Rattle.cdx_losses.specs.Losses.{items_lost}
 use Rattle.cdx_losses.specs.Walks.{value_lost}
 use Rattle.cdx_losses.proofs.Walks.{ok_same}
 use Rattle.cdx_losses.proofs.Values.{list_is, tools_held}
-use Rattle.cdx_losses.proofs.bill.ToolsLosing.lose.Goals as goal
+use Rattle.cdx_losses.proofs.walking.ToolsLosing.lose.Goals as goal
 
 pub returns-in-List : goal.returns-in-List
 returns-in-List c =
