@@ -3,9 +3,13 @@
 
 mod answering;
 mod laws;
+mod leaves;
+mod losing;
 mod loss;
+mod nested;
 mod road;
 mod serving;
+mod walk;
 mod walking;
 
 pub use laws::{losses_are_all, losses_lead, losses_lie_apart};

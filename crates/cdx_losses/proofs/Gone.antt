@@ -1,0 +1,173 @@
+-- What trips through XML leave out of records and lists.
+use Prim.Native.String.{String}
+use Rattle.std.specs.Prelude.{◌≡◌, refl, ℕ, zero, suc, ◌+◌, ◌<◌, ◌≤◌, List, [], ◌∷◌, length, drop, Bool, true, false, not, ◌&&◌, ◌||◌, if◌then◌else◌, Option, Some, None, is_some, codes}
+use Rattle.std.proofs.Common.{true≢false, get_or}
+use Rattle.std.proofs.lemmas.List.{at_drop_more, at_drop_all}
+use mathlib.Core.Path.{ap, sym, ◌∙◌}
+use Rattle.cdx_models.specs.declared.bom.SpecVersion.{SpecVersion}
+use Rattle.cdx_models.specs.declared.bom.SpecVersion.TheVariants.{V1_3, V1_4, V1_5}
+use Rattle.cdx_models.specs.Trees.{Name, entity, Tree, absent, text, number, boolean, items, fields, Trees, present, list_tree, is_absent}
+use Rattle.cdx_models.specs.Records.{contact_tree, entity_tree, attached_text_tree}
+use Rattle.cdx_models.specs.declared.organization.OrganizationalContact.{OrganizationalContact}
+use Rattle.cdx_models.specs.declared.organization.OrganizationalEntity.{OrganizationalEntity}
+use Rattle.cdx_license.specs.Records.{licenses_tree}
+use Rattle.cdx_patch.specs.Records.{diff_tree, source_tree}
+use Rattle.cdx_patch.specs.declared.code.Diff.{Diff}
+use Rattle.cdx_patch.specs.declared.code.Source.{Source}
+use Rattle.cdx_parts.specs.Records.{copyrights_tree, evidence_tree}
+use Rattle.cdx_parts.specs.declared.component.ComponentEvidence.{ComponentEvidence}
+use Rattle.cdx_schema.specs.Kinds.{Lists, Kind, a_list, a_record, a_tools, an_entry, Spelled, filled_child, children, optional, Row}
+use Rattle.cdx_schema.specs.Table as table
+use Rattle.cdx_schema.specs.Table.{rows}
+use Rattle.cdx_schema.specs.Trips.{bare, items_bare, is_hollow, none_is_absent}
+use Rattle.cdx_schema.specs.Suppliers.{is_entity}
+use Rattle.cdx_schema.specs.JsonReading.{or_else}
+use Rattle.cdx_losses.specs.declared.loss.Reason.{Reason}
+use Rattle.cdx_losses.specs.declared.loss.Reason.TheVariants.{Xml}
+use Rattle.cdx_losses.specs.Losses.{reason_in, changed_by, is_tripped, if_so, field_reason}
+use Rattle.cdx_losses.specs.LeftOut.{after_a_trip, after_two_trips, is_left_out, supplier_row}
+use Rattle.cdx_losses.proofs.Members.{bare_there}
+use Rattle.cdx_losses.proofs.Spared.{or_end, reason_there}
+
+-- ---- kinds that no version changes
+
+abbrev pub is_fixed : Kind → Bool
+is_fixed a_tools = false
+is_fixed an_entry = false
+is_fixed _ = true
+
+fixed_record : (u : SpecVersion) (k : Kind) (m : Name) (ts : Trees) → is_fixed k ≡ true → reason_in u k m ts ≡ None
+fixed_record u a_tools m ts h = absurd (true≢false (sym h))
+fixed_record u an_entry m ts h = absurd (true≢false (sym h))
+fixed_record V1_3 _ m ts h = refl
+fixed_record V1_4 _ m ts h = refl
+fixed_record V1_5 _ m ts h = refl
+
+pub unchanged : (u : SpecVersion) (k : Kind) (t : Tree) → is_fixed k ≡ true → changed_by u k t ≡ None
+unchanged u k absent h = refl
+unchanged u k (text s) h = refl
+unchanged u k (number m) h = refl
+unchanged u k (boolean b) h = refl
+unchanged u k (items ts) h = refl
+unchanged u k (fields m ts) h = fixed_record u k m ts h
+
+-- ---- rows that trips may take
+
+-- a row that every version knows, of a kind that none changes
+trip_reason : (u : SpecVersion) (n : ℕ) (k : Kind) (x : Spelled) (s : String) (t : Tree) → is_fixed k ≡ true → is_absent t ≡ false → field_reason u n (table.row k x s) t ≡ if_so (is_tripped n (table.row k x s) t) Xml
+trip_reason u n k x s t f h = reason_there u n (table.row k x s) t h ∙ ap (λ o. or_else o (if_so (is_tripped n (table.row k x s) t) Xml)) (unchanged u k t f)
+
+listed_tripped : (n : ℕ) (l : Lists) (s : String) (t : Tree) → is_tripped n (table.each l s) t ≡ after_a_trip n (is_left_out t)
+listed_tripped zero l s t = refl
+listed_tripped (suc zero) l s t = refl
+listed_tripped (suc (suc n)) l s t = or_end (is_left_out t)
+
+pub listed_reason : (u : SpecVersion) (n : ℕ) (l : Lists) (s : String) (t : Tree) → is_absent t ≡ false → field_reason u n (table.each l s) t ≡ if_so (after_a_trip n (is_left_out t)) Xml
+listed_reason u n l s t h = trip_reason u n (a_list l) (children (codes s)) s t refl h ∙ ap (λ b. if_so b Xml) (listed_tripped n l s t)
+
+filled_gone : (t : Tree) → is_absent t ≡ false → is_absent (if is_hollow t then absent else bare t) ≡ is_hollow t
+filled_gone t h = by (is_hollow t)
+  where
+    by : (b : Bool) → is_absent (if b then absent else bare t) ≡ b
+    by true = refl
+    by false = bare_there t ∙ h
+
+filled_tripped : (n : ℕ) (m : Name) (q : List ℕ) (s : String) (t : Tree) → is_entity m ≡ false → is_absent t ≡ false → is_tripped n (table.row (a_record m) (filled_child q) s) t ≡ after_a_trip n (is_hollow t)
+filled_tripped zero m q s t e h = refl
+filled_tripped (suc zero) m q s t e h = filled_gone t h
+filled_tripped (suc (suc n)) m q s t e h =
+    ap (λ b. is_absent (if is_hollow t then absent else bare t) || (b && is_hollow (bare t))) e ∙ (or_end (is_absent (if is_hollow t then absent else bare t)) ∙ filled_gone t h)
+
+pub filled_reason : (u : SpecVersion) (n : ℕ) (m : Name) (q : List ℕ) (s : String) (t : Tree) → is_entity m ≡ false → is_absent t ≡ false
+    → field_reason u n (table.row (a_record m) (filled_child q) s) t ≡ if_so (after_a_trip n (is_hollow t)) Xml
+filled_reason u n m q s t e h = trip_reason u n (a_record m) (filled_child q) s t refl h ∙ ap (λ b. if_so b Xml) (filled_tripped n m q s t e h)
+
+supplier_tripped : (n : ℕ) (t : Tree) → is_absent t ≡ false → is_tripped n supplier_row t ≡ after_a_trip n (is_hollow t || after_two_trips n (is_hollow (bare t)))
+supplier_tripped zero t h = refl
+supplier_tripped (suc zero) t h = filled_gone t h ∙ sym (or_end (is_hollow t))
+supplier_tripped (suc (suc n)) t h = ap (λ b. b || is_hollow (bare t)) (filled_gone t h)
+
+pub supplier_reason : (u : SpecVersion) (n : ℕ) (t : Tree) → is_absent t ≡ false → field_reason u n supplier_row t ≡ if_so (after_a_trip n (is_hollow t || after_two_trips n (is_hollow (bare t)))) Xml
+supplier_reason u n t h = trip_reason u n (a_record entity) (filled_child (codes "supplier")) "supplier" t refl h ∙ ap (λ b. if_so b Xml) (supplier_tripped n t h)
+
+-- ---- hollow records
+
+-- what a test for nothing says
+pub absent_row : {A : Type 0} (f : A → Tree) (o : Option A) (b : Bool) → ((x : A) → is_absent (f x) ≡ false) → is_some o ≡ not b → is_absent (present f o) ≡ b
+absent_row f None true h e = refl
+absent_row f None false h e = absurd (true≢false (sym e))
+absent_row f (Some x) true h e = absurd (true≢false e)
+absent_row f (Some x) false h e = h x
+
+pub two_gone : (a b : Bool) → (a && (b && true)) ≡ (a && b)
+two_gone true true = refl
+two_gone true false = refl
+two_gone false b = refl
+
+pub three_gone : (a b c : Bool) → (a && (b && (c && true))) ≡ (a && (b && c))
+three_gone true b c = two_gone b c
+three_gone false b c = refl
+
+pub diff_hollow : (x : Diff) (a b : Bool) → is_some x.text ≡ not a → is_some x.url ≡ not b → is_hollow (diff_tree x) ≡ (a && b)
+unfolding is_hollow rows
+diff_hollow x a b h g = rw (absent_row attached_text_tree x.text a (λ y. refl) h, absent_row text x.url b (λ y. refl) g) (two_gone a b)
+
+pub source_hollow : (x : Source) (a b : Bool) → is_some x.name ≡ not a → is_some x.url ≡ not b → is_hollow (source_tree x) ≡ (a && b)
+unfolding is_hollow rows
+source_hollow x a b h g = rw (absent_row text x.name a (λ y. refl) h, absent_row text x.url b (λ y. refl) g) (two_gone a b)
+
+pub evidence_hollow : (x : ComponentEvidence) (a b : Bool) → is_some x.licenses ≡ not a → is_some x.copyright ≡ not b → is_hollow (evidence_tree x) ≡ (a && b)
+unfolding is_hollow rows
+evidence_hollow x a b h g = rw (absent_row licenses_tree x.licenses a (λ y. refl) h, absent_row copyrights_tree x.copyright b (λ y. refl) g) (two_gone a b)
+
+pub contact_hollow : (x : OrganizationalContact) (a b c : Bool) → is_some x.name ≡ not a → is_some x.email ≡ not b → is_some x.phone ≡ not c → is_hollow (contact_tree x) ≡ (a && (b && c))
+unfolding is_hollow rows
+contact_hollow x a b c h g i = rw (absent_row text x.name a (λ y. refl) h, absent_row text x.email b (λ y. refl) g, absent_row text x.phone c (λ y. refl) i) (three_gone a b c)
+
+pub entity_hollow : (x : OrganizationalEntity) (a b c : Bool) → is_some x.name ≡ not a → is_some x.url ≡ not b → is_some x.contact ≡ not c → is_hollow (entity_tree x) ≡ (a && (b && c))
+unfolding is_hollow rows
+entity_hollow x a b c h g i = rw (absent_row text x.name a (λ y. refl) h, absent_row (list_tree text) x.url b (λ y. refl) g, absent_row (list_tree contact_tree) x.contact c (λ y. refl) i) (three_gone a b c)
+
+-- after a trip
+pub entity_hollow_after : (x : OrganizationalEntity) (a : Bool) → is_some x.name ≡ not a → is_hollow (bare (entity_tree x)) ≡ (a && (is_left_out (present (list_tree text) x.url) && is_left_out (present (list_tree contact_tree) x.contact)))
+unfolding is_hollow bare rows
+entity_hollow_after x a h =
+    ap (λ b. b && (is_left_out (present (list_tree text) x.url) && (is_left_out (present (list_tree contact_tree) x.contact) && true))) (bare_there (present text x.name) ∙ absent_row text x.name a (λ y. refl) h)
+    ∙ three_gone a (is_left_out (present (list_tree text) x.url)) (is_left_out (present (list_tree contact_tree) x.contact))
+
+-- ---- lists
+
+pub no_urls : is_left_out (list_tree text []) ≡ true
+unfolding bare
+no_urls = refl
+
+pub some_urls : (x : List ℕ) (xs : List (List ℕ)) → is_left_out (list_tree text (x ∷ xs)) ≡ false
+unfolding bare
+some_urls x xs = refl
+
+no_contacts : is_left_out (list_tree contact_tree []) ≡ true
+unfolding bare
+no_contacts = refl
+
+contact_passed : (x : OrganizationalContact) (xs : List OrganizationalContact) → is_hollow (contact_tree x) ≡ true → is_left_out (list_tree contact_tree (x ∷ xs)) ≡ is_left_out (list_tree contact_tree xs)
+unfolding bare
+contact_passed x xs h = rw h refl
+
+contact_stays : (x : OrganizationalContact) (xs : List OrganizationalContact) → is_hollow (contact_tree x) ≡ false → is_left_out (list_tree contact_tree (x ∷ xs)) ≡ false
+unfolding bare
+contact_stays x xs h = rw h refl
+
+-- from an item on as from the first
+abbrev pub SoFar : List OrganizationalContact → ℕ → Type 0
+SoFar xs i = is_left_out (list_tree contact_tree (drop i xs)) ≡ is_left_out (list_tree contact_tree xs)
+
+pub blank_next : (xs : List OrganizationalContact) (i : ℕ) (x : OrganizationalContact) → i < length xs → x ≡ get_or xs i x → is_hollow (contact_tree x) ≡ true → SoFar xs i → SoFar xs (i + 1)
+blank_next xs i x h is b r =
+    sym (at_drop_more (λ zs. is_left_out (list_tree contact_tree zs)) xs i x h ∙ contact_passed (get_or xs i x) (drop (i + 1) xs) (ap (λ z. is_hollow (contact_tree z)) (sym is) ∙ b)) ∙ r
+
+pub blank_not : (xs : List OrganizationalContact) (i : ℕ) (x : OrganizationalContact) → i < length xs → x ≡ get_or xs i x → is_hollow (contact_tree x) ≡ false → SoFar xs i → false ≡ is_left_out (list_tree contact_tree xs)
+blank_not xs i x h is b r =
+    sym (at_drop_more (λ zs. is_left_out (list_tree contact_tree zs)) xs i x h ∙ contact_stays (get_or xs i x) (drop (i + 1) xs) (ap (λ z. is_hollow (contact_tree z)) (sym is) ∙ b)) ∙ r
+
+pub blank_all : (xs : List OrganizationalContact) (i : ℕ) → length xs ≤ i → SoFar xs i → true ≡ is_left_out (list_tree contact_tree xs)
+blank_all xs i h r = sym (at_drop_all (λ zs. is_left_out (list_tree contact_tree zs)) xs i h ∙ no_contacts) ∙ r
