@@ -1,2 +1,6 @@
-//! Paths into bills, and what stands at them: definitions alone.
+//! Paths into bills: what stands at them, as definitions, and their copies.
 #![tactic(auto)]
+
+mod path;
+
+pub use path::copy_path;

@@ -11,27 +11,9 @@ use super::Entry;
 use cdx_component::Component;
 use cdx_events::{List as Items, Text};
 use cdx_license::{LicenseChoice, LicenseIdentifier, Licenses};
-use cdx_models::{HasTree, Path, Step, copy_row};
+use cdx_models::{HasTree, Step, copy_row};
+use cdx_ways::copy_path;
 use std::alloc::{AllocError, Global};
-
-fn copy_step(alloc: Global, step: &Step) -> Result<Step, AllocError>
-    ensures { IfOk result (λ s. s ≡ step.now) }
-{
-    match step {
-        Step::Member(name) => Ok(Step::Member(name.copy(alloc)?)),
-        Step::Item(number) => Ok(Step::Item(*number)),
-    }
-}
-
-fn copy_path(alloc: Global, steps: &[Step]) -> Result<Path, AllocError>
-    ensures { IfOk result (λ p. p.0 ≡ steps.now) }
-{
-    let mut copies = Items::with_capacity(alloc, steps.len())?;
-    for step in steps {
-        copies.push(copy_step(alloc, step)?)?;
-    }
-    Ok(Path(copies))
-}
 
 // Of a license its id or name, of an expression its text.
 fn license_text(choice: &LicenseChoice) -> &Text

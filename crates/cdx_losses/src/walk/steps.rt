@@ -1,6 +1,6 @@
 //! The steps of a walk.
 
-ghost use Rattle.std.specs.Prelude.{◌≡◌, ◌∷◌, ◌++◌, [], length, take, IfOk, OnOk};
+ghost use Rattle.std.specs.Prelude.{◌≡◌, ◌∷◌, ◌++◌, [], length, take, OnOk};
 ghost use Rattle.cdx_schema.specs.Faults.{to_member, to_item};
 ghost use Rattle.cdx_ways.specs.Ways.{behind_step};
 ghost use Rattle.cdx_losses.specs.Losses.{entry_or};
@@ -9,27 +9,9 @@ ghost use Rattle.cdx_losses.specs.Walks.{Adds};
 use super::Walk;
 use crate::loss::{Loss, Reason};
 use cdx_events::{List as Items, Text};
-use cdx_models::{Path, Step};
+use cdx_models::Step;
+use cdx_ways::copy_path;
 use std::alloc::{AllocError, Global};
-
-fn copy_step(alloc: Global, step: &Step) -> Result<Step, AllocError>
-    ensures { IfOk result (λ s. s ≡ step.now) }
-{
-    match step {
-        Step::Member(name) => Ok(Step::Member(name.copy(alloc)?)),
-        Step::Item(number) => Ok(Step::Item(*number)),
-    }
-}
-
-fn copy_path(alloc: Global, steps: &[Step]) -> Result<Path, AllocError>
-    ensures { IfOk result (λ p. p.0 ≡ steps.now) }
-{
-    let mut copies = Items::with_capacity(alloc, steps.len())?;
-    for step in steps {
-        copies.push(copy_step(alloc, step)?)?;
-    }
-    Ok(Path(copies))
-}
 
 impl Walk {
     /// At the root, with nothing found. It takes no memory.

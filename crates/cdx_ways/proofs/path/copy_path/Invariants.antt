@@ -1,5 +1,5 @@
 use Rattle.std.proofs.Common.{◌≡◌, take}
-use Rattle.cdx_inventory.proofs.entry.made.copy_path.Given as goal
+use Rattle.cdx_ways.proofs.path.copy_path.Given as goal
 
 abbrev pub invariant-loop-step : goal.invariant-loop-step
 invariant-loop-step l = l.copies ≡ take l.step-index l.steps
