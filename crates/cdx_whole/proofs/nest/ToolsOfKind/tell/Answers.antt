@@ -8,4 +8,4 @@ returns-in-List c = rw c.in-List.is (tt, c.tell_list.ensures)
 
 pub returns-in-Object : goal.returns-in-Object
 unfolding rows
-returns-in-Object c = rw c.in-Object.is (refl, (c.tell_row.ensures, (c.tell_row-2.ensures, tt)))
+returns-in-Object c = rw c.in-Object.is (refl, (c.tell_row.ensures, (c.tell_row-in-Object.ensures, tt)))
