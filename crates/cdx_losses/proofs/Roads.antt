@@ -30,7 +30,7 @@ lowest_done first v xs i h r = sym (at_drop_all (λ zs. lowest_of v (hops_of zs)
 -- ---- trips
 
 -- the trips so far and those of further hops, counted to two
-abbrev counted : ℕ → List trips.Hop → ℕ
+abbrev pub counted : ℕ → List trips.Hop → ℕ
 counted zero hs = xml_count 2 hs
 counted (suc zero) hs = suc (xml_count 1 hs)
 counted (suc (suc n)) hs = suc (suc n)

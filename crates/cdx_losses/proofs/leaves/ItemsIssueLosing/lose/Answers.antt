@@ -5,7 +5,7 @@ use Rattle.cdx_losses.specs.Losses.{items_lost}
 use Rattle.cdx_losses.specs.Walks.{value_lost}
 use Rattle.cdx_losses.proofs.Walks.{ok_same}
 use Rattle.cdx_losses.proofs.Values.{list_is, resolved_held}
-use Rattle.cdx_losses.proofs.leaves.ListIssueLosing.lose.Goals as goal
+use Rattle.cdx_losses.proofs.leaves.ItemsIssueLosing.lose.Goals as goal
 
 pub returns : goal.returns
 returns c =
