@@ -1,7 +1,7 @@
 -- What trips through XML leave out of records and lists.
 use Prim.Native.String.{String}
 use Rattle.std.specs.Prelude.{◌≡◌, refl, ℕ, zero, suc, ◌+◌, ◌<◌, ◌≤◌, ◌==◌, List, [], ◌∷◌, length, drop, Bool, true, false, not, ◌&&◌, ◌||◌, if◌then◌else◌, Option, Some, None, is_some, codes}
-use Rattle.std.proofs.Common.{true≢false, get_or}
+use Rattle.std.proofs.Common.{true≢false, get_or, eqb-true}
 use Rattle.std.proofs.lemmas.List.{at_drop_more, at_drop_all}
 use mathlib.Core.Path.{ap, sym, ◌∙◌}
 use native.Mathlib.Omega.{arith}
@@ -153,14 +153,14 @@ entity_hollow_after x a p h q =
     ∙ (three_gone a (is_left_out (present (list_tree text) x.url)) (is_left_out (present (list_tree contact_tree) x.contact)) ∙ ap (λ b. a && b) (sym q))
 
 pub two_trips : (n : ℕ) (b : Bool) → 1 < n → after_two_trips n b ≡ b
-two_trips zero b h = omega (arith, h)
-two_trips (suc zero) b h = omega (arith, h)
+two_trips zero b h = let e : ⊥ = omega (arith, h) in absurd e
+two_trips (suc zero) b h = let e : ⊥ = omega (arith, h) in absurd e
 two_trips (suc (suc n)) b h = refl
 
 pub no_two_trips : (n : ℕ) (b : Bool) → n ≤ 1 → after_two_trips n b ≡ false
 no_two_trips zero b h = refl
 no_two_trips (suc zero) b h = refl
-no_two_trips (suc (suc n)) b h = omega (arith, h)
+no_two_trips (suc (suc n)) b h = let e : ⊥ = omega (arith, h) in absurd e
 
 -- ---- reasons of what is there
 
@@ -177,7 +177,14 @@ none_left_out = refl
 pub urls_left_out : (xs : List (List ℕ)) → (length xs == 0) ≡ is_left_out (list_tree text xs)
 unfolding bare
 urls_left_out [] = refl
-urls_left_out (x ∷ xs) = refl
+urls_left_out (x ∷ xs) = by (length (x ∷ xs) == 0) refl
+  where
+    by : (b : Bool) → (length (x ∷ xs) == 0) ≡ b → (length (x ∷ xs) == 0) ≡ false
+    by true e =
+        let same : suc (length xs) ≡ 0 = eqb-true (suc (length xs)) 0 e in
+        let none : ⊥ = omega (arith, same) in
+        absurd none
+    by false e = e
 
 no_contacts : is_left_out (list_tree contact_tree []) ≡ true
 unfolding bare
