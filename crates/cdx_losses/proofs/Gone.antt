@@ -1,9 +1,10 @@
 -- What trips through XML leave out of records and lists.
 use Prim.Native.String.{String}
-use Rattle.std.specs.Prelude.{◌≡◌, refl, ℕ, zero, suc, ◌+◌, ◌<◌, ◌≤◌, List, [], ◌∷◌, length, drop, Bool, true, false, not, ◌&&◌, ◌||◌, if◌then◌else◌, Option, Some, None, is_some, codes}
-use Rattle.std.proofs.Common.{true≢false, get_or}
+use Rattle.std.specs.Prelude.{◌≡◌, refl, ℕ, zero, suc, ◌+◌, ◌<◌, ◌≤◌, ◌==◌, List, [], ◌∷◌, length, drop, Bool, true, false, not, ◌&&◌, ◌||◌, if◌then◌else◌, Option, Some, None, is_some, codes}
+use Rattle.std.proofs.Common.{true≢false, get_or, eqb-true}
 use Rattle.std.proofs.lemmas.List.{at_drop_more, at_drop_all}
 use mathlib.Core.Path.{ap, sym, ◌∙◌}
+use native.Mathlib.Omega.{arith}
 use Rattle.cdx_models.specs.declared.bom.SpecVersion.{SpecVersion}
 use Rattle.cdx_models.specs.declared.bom.SpecVersion.TheVariants.{V1_3, V1_4, V1_5}
 use Rattle.cdx_models.specs.Trees.{Name, entity, Tree, absent, text, number, boolean, items, fields, Trees, present, list_tree, is_absent}
@@ -120,30 +121,70 @@ pub evidence_hollow : (x : ComponentEvidence) (a b : Bool) → is_some x.license
 unfolding is_hollow rows
 evidence_hollow x a b h g = rw (absent_row licenses_tree x.licenses a (λ y. refl) h, absent_row copyrights_tree x.copyright b (λ y. refl) g) (two_gone a b)
 
-pub contact_hollow : (x : OrganizationalContact) (a b c : Bool) → is_some x.name ≡ not a → is_some x.email ≡ not b → is_some x.phone ≡ not c → is_hollow (contact_tree x) ≡ (a && (b && c))
-unfolding is_hollow rows
-contact_hollow x a b c h g i = rw (absent_row text x.name a (λ y. refl) h, absent_row text x.email b (λ y. refl) g, absent_row text x.phone c (λ y. refl) i) (three_gone a b c)
+pub twice : (b : Bool) → b ≡ not (not b)
+twice true = refl
+twice false = refl
 
-pub entity_hollow : (x : OrganizationalEntity) (a b c : Bool) → is_some x.name ≡ not a → is_some x.url ≡ not b → is_some x.contact ≡ not c → is_hollow (entity_tree x) ≡ (a && (b && c))
+pub two_none : (s t a b : Bool) → s ≡ not a → t ≡ not b → (not s && not t) ≡ (a && b)
+two_none s t a b h g = rw (h, g, sym (twice a), sym (twice b)) refl
+
+-- the two ways of a test of two parts
+pub then_second : (a b p : Bool) → a ≡ true → p ≡ (a && b) → b ≡ p
+then_second a b p h g = sym (g ∙ ap (λ z. z && b) h)
+
+pub else_first : (a b p : Bool) → a ≡ false → p ≡ (a && b) → a ≡ p
+else_first a b p h g = sym (g ∙ (ap (λ z. z && b) h ∙ sym h))
+
+pub contact_hollow : (x : OrganizationalContact) (a p : Bool) → is_some x.name ≡ not a → p ≡ (not (is_some x.email) && not (is_some x.phone)) → is_hollow (contact_tree x) ≡ (a && p)
 unfolding is_hollow rows
-entity_hollow x a b c h g i = rw (absent_row text x.name a (λ y. refl) h, absent_row (list_tree text) x.url b (λ y. refl) g, absent_row (list_tree contact_tree) x.contact c (λ y. refl) i) (three_gone a b c)
+contact_hollow x a p h q =
+    rw (absent_row text x.name a (λ y. refl) h, absent_row text x.email (not (is_some x.email)) (λ y. refl) (twice (is_some x.email)), absent_row text x.phone (not (is_some x.phone)) (λ y. refl) (twice (is_some x.phone)), q) (three_gone a (not (is_some x.email)) (not (is_some x.phone)))
+
+pub entity_hollow : (x : OrganizationalEntity) (a p : Bool) → is_some x.name ≡ not a → p ≡ (not (is_some x.url) && not (is_some x.contact)) → is_hollow (entity_tree x) ≡ (a && p)
+unfolding is_hollow rows
+entity_hollow x a p h q =
+    rw (absent_row text x.name a (λ y. refl) h, absent_row (list_tree text) x.url (not (is_some x.url)) (λ y. refl) (twice (is_some x.url)), absent_row (list_tree contact_tree) x.contact (not (is_some x.contact)) (λ y. refl) (twice (is_some x.contact)), q) (three_gone a (not (is_some x.url)) (not (is_some x.contact)))
 
 -- after a trip
-pub entity_hollow_after : (x : OrganizationalEntity) (a : Bool) → is_some x.name ≡ not a → is_hollow (bare (entity_tree x)) ≡ (a && (is_left_out (present (list_tree text) x.url) && is_left_out (present (list_tree contact_tree) x.contact)))
+pub entity_hollow_after : (x : OrganizationalEntity) (a p : Bool) → is_some x.name ≡ not a → p ≡ (is_left_out (present (list_tree text) x.url) && is_left_out (present (list_tree contact_tree) x.contact)) → is_hollow (bare (entity_tree x)) ≡ (a && p)
 unfolding is_hollow bare rows
-entity_hollow_after x a h =
+entity_hollow_after x a p h q =
     ap (λ b. b && (is_left_out (present (list_tree text) x.url) && (is_left_out (present (list_tree contact_tree) x.contact) && true))) (bare_there (present text x.name) ∙ absent_row text x.name a (λ y. refl) h)
-    ∙ three_gone a (is_left_out (present (list_tree text) x.url)) (is_left_out (present (list_tree contact_tree) x.contact))
+    ∙ (three_gone a (is_left_out (present (list_tree text) x.url)) (is_left_out (present (list_tree contact_tree) x.contact)) ∙ ap (λ b. a && b) (sym q))
+
+pub two_trips : (n : ℕ) (b : Bool) → 1 < n → after_two_trips n b ≡ b
+two_trips zero b h = let e : ⊥ = omega (arith, h) in absurd e
+two_trips (suc zero) b h = let e : ⊥ = omega (arith, h) in absurd e
+two_trips (suc (suc n)) b h = refl
+
+pub no_two_trips : (n : ℕ) (b : Bool) → n ≤ 1 → after_two_trips n b ≡ false
+no_two_trips zero b h = refl
+no_two_trips (suc zero) b h = refl
+no_two_trips (suc (suc n)) b h = let e : ⊥ = omega (arith, h) in absurd e
+
+-- ---- reasons of what is there
+
+pub held_reason : {A : Type 0} (f : A → Tree) (u : SpecVersion) (n : ℕ) (r : Row) (o : Option A) (x : A) (why : Option Reason) (b c : Bool) → o ≡ Some x → why ≡ if_so (after_a_trip n b) Xml → b ≡ c
+    → field_reason u n r (f x) ≡ if_so (after_a_trip n c) Xml → why ≡ field_reason u n r (present f o)
+held_reason f u n r o x why b c is w e h = w ∙ (ap (λ z. if_so (after_a_trip n z) Xml) e ∙ (sym h ∙ sym (ap (λ z. field_reason u n r (present f z)) is)))
 
 -- ---- lists
 
-pub no_urls : is_left_out (list_tree text []) ≡ true
+pub none_left_out : is_left_out absent ≡ true
 unfolding bare
-no_urls = refl
+none_left_out = refl
 
-pub some_urls : (x : List ℕ) (xs : List (List ℕ)) → is_left_out (list_tree text (x ∷ xs)) ≡ false
+pub urls_left_out : (xs : List (List ℕ)) → (length xs == 0) ≡ is_left_out (list_tree text xs)
 unfolding bare
-some_urls x xs = refl
+urls_left_out [] = refl
+urls_left_out (x ∷ xs) = by (length (x ∷ xs) == 0) refl
+  where
+    by : (b : Bool) → (length (x ∷ xs) == 0) ≡ b → (length (x ∷ xs) == 0) ≡ false
+    by true e =
+        let same : suc (length xs) ≡ 0 = eqb-true (suc (length xs)) 0 e in
+        let none : ⊥ = omega (arith, same) in
+        absurd none
+    by false e = e
 
 no_contacts : is_left_out (list_tree contact_tree []) ≡ true
 unfolding bare

@@ -178,7 +178,7 @@ record_written : (m : Name) (ts : Trees) → is_losing m ≡ false → is_passed
 record_written contact ts h = absurd (true≢false h)
 record_written _ ts h = refl
 
-spared_written : (t : Tree) → lacks is_losing t ≡ true → is_passed_over t ≡ false
+pub spared_written : (t : Tree) → lacks is_losing t ≡ true → is_passed_over t ≡ false
 spared_written absent h = refl
 spared_written (text s) h = refl
 spared_written (number m) h = refl

@@ -1,6 +1,6 @@
 //! Why a road takes what XML may leave out: records without children, and lists of which nothing is written.
 
-ghost use Rattle.std.specs.Prelude.{◌≡◌, ◌||◌};
+ghost use Rattle.std.specs.Prelude.{◌≡◌, ◌&&◌, ◌||◌, is_some, not};
 ghost use Rattle.cdx_models.specs.Trees.{text, present, list_tree};
 ghost use Rattle.cdx_models.specs.Records.{contact_tree, entity_tree};
 ghost use Rattle.cdx_patch.specs.Records.{diff_tree, source_tree};
@@ -18,11 +18,17 @@ use cdx_patch::{Diff, Source};
 
 // ---- records without children
 
+fn has_no_address(contact: &OrganizationalContact) -> bool
+    ensures { result ≡ (not (is_some contact.now.email) && not (is_some contact.now.phone)) }
+{
+    contact.email.is_none() && contact.phone.is_none()
+}
+
 /// Whether a contact has neither a name, nor an address for mail, nor a number to call.
 pub(super) fn is_blank(contact: &OrganizationalContact) -> bool
     ensures { result ≡ is_hollow (contact_tree contact.now) }
 {
-    contact.name.is_none() && contact.email.is_none() && contact.phone.is_none()
+    contact.name.is_none() && has_no_address(contact)
 }
 
 fn is_hollow_diff(diff: &Diff) -> bool
@@ -43,10 +49,16 @@ fn is_hollow_evidence(evidence: &ComponentEvidence) -> bool
     evidence.licenses.is_none() && evidence.copyright.is_none()
 }
 
+fn has_no_list(entity: &OrganizationalEntity) -> bool
+    ensures { result ≡ (not (is_some entity.now.url) && not (is_some entity.now.contact)) }
+{
+    entity.url.is_none() && entity.contact.is_none()
+}
+
 fn is_hollow_entity(entity: &OrganizationalEntity) -> bool
     ensures { result ≡ is_hollow (entity_tree entity.now) }
 {
-    entity.name.is_none() && entity.url.is_none() && entity.contact.is_none()
+    entity.name.is_none() && has_no_list(entity)
 }
 
 /// Why a road takes a patch's diff.
@@ -139,14 +151,23 @@ pub(super) fn contacts_reason(
 
 // ---- suppliers
 
+// Whether an organization has no addresses and no contacts after a trip.
+fn lacks_lists(entity: &OrganizationalEntity) -> bool
+    ensures { result ≡ (is_left_out (present (list_tree text) entity.now.url)
+        && is_left_out (present (list_tree contact_tree) entity.now.contact)) }
+{
+    lacks_urls(&entity.url) && lacks_contacts(&entity.contact)
+}
+
 // Whether an organization has no children after a trip.
 fn is_hollow_after(entity: &OrganizationalEntity) -> bool
     ensures { result ≡ is_hollow (bare (entity_tree entity.now)) }
 {
-    entity.name.is_none() && lacks_urls(&entity.url) && lacks_contacts(&entity.contact)
+    entity.name.is_none() && lacks_lists(entity)
 }
 
 // Whether the first trip leaves a supplier out, or the second what the first left of it.
+#[tactic(auto, using(crate::proofs::Gone::two_trips, crate::proofs::Gone::no_two_trips))]
 fn is_supplier_left_out(road: Road, entity: &OrganizationalEntity) -> bool
     ensures { result ≡ (is_hollow (entity_tree entity.now)
         || after_two_trips road.trips (is_hollow (bare (entity_tree entity.now)))) }

@@ -1,6 +1,6 @@
 use Rattle.cdx_schema.specs.Faults.{to_member}
 use Rattle.cdx_losses.specs.Walks.{value_lost}
-use Rattle.cdx_losses.proofs.Walks.{adds_absent, absent_lost, adds_row}
+use Rattle.cdx_losses.proofs.Walks.{absent_lost, adds_row, adds_absent}
 use Rattle.cdx_losses.proofs.losing.lose_row.Goals as goal
 
 pub returns-in-None : goal.returns-in-None

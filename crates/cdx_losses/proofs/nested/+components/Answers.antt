@@ -12,10 +12,11 @@ use Rattle.cdx_schema.specs.Table.{of, signature_row}
 use Rattle.cdx_schema.specs.Faults.{to_member}
 use Rattle.cdx_losses.specs.Losses.{lost, items_lost}
 use Rattle.cdx_losses.specs.LeftOut.{supplier_row, evidence_row}
-use Rattle.cdx_losses.specs.Walks.{value_lost}
+use Rattle.cdx_losses.specs.Walks.{value_lost, below}
+use Rattle.cdx_losses.specs.Told.{all_told}
 use Rattle.cdx_losses.proofs.Spared.{row_lost}
 use Rattle.cdx_losses.proofs.Levels.{signature_spared, licenses_row, component_lost, pedigree_lost, components_lost}
-use Rattle.cdx_losses.proofs.Walks.{adds_same, adds_both, adds_end, adds_absent, adds_unknown, adds_value, adds_inside, adds_or, round, round_first, rounds_done}
+use Rattle.cdx_losses.proofs.Walks.{nothing_there, adds_row, adds_same, adds_both, adds_end, adds_absent, adds_unknown, adds_value, adds_inside, adds_or, round, round_first, rounds_done}
 use Rattle.cdx_losses.proofs.Values.{row_written, value_inside, component_written}
 use Rattle.cdx_losses.proofs.Gone.{unchanged}
 use Rattle.cdx_losses.proofs.nested.+components.Goals as goal

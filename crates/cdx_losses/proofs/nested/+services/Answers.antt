@@ -10,11 +10,12 @@ use Rattle.cdx_schema.specs.Kinds.{a_list, a_record, a_data, licenses, services}
 use Rattle.cdx_schema.specs.Table.{of, signature_row}
 use Rattle.cdx_schema.specs.Faults.{to_member}
 use Rattle.cdx_losses.specs.Losses.{lost, items_lost}
-use Rattle.cdx_losses.specs.Walks.{value_lost}
+use Rattle.cdx_losses.specs.Walks.{value_lost, below}
+use Rattle.cdx_losses.specs.Told.{all_told}
 use Rattle.cdx_losses.proofs.Spared.{row_lost}
 use Rattle.cdx_losses.proofs.Levels.{text_spared, signature_spared, zone_row, licenses_row, service_lost, services_lost}
-use Rattle.cdx_losses.proofs.Walks.{adds_same, adds_both, adds_end, adds_absent, adds_unknown, adds_value, adds_inside, round, round_first, rounds_done}
-use Rattle.cdx_losses.proofs.Values.{row_written, value_inside}
+use Rattle.cdx_losses.proofs.Walks.{nothing_there, adds_row, adds_same, adds_both, adds_end, adds_absent, adds_unknown, adds_value, adds_inside, round, round_first, rounds_done}
+use Rattle.cdx_losses.proofs.Values.{data_written, service_written, row_written, value_inside}
 use Rattle.cdx_losses.proofs.Gone.{unchanged}
 use Rattle.cdx_losses.proofs.nested.+services.Goals as goal
 

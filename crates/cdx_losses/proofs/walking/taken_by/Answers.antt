@@ -2,8 +2,8 @@ use Rattle.std.proofs.Common.{ap, ◌∙◌}
 use Rattle.cdx_bom.specs.Trees.{bom_tree}
 use Rattle.cdx_schema.specs.Kinds.{a_bill}
 use Rattle.cdx_losses.specs.Losses.{lost}
-use Rattle.cdx_losses.proofs.Walks.{adds_root}
 use Rattle.cdx_losses.specs.Told.{all_told}
+use Rattle.cdx_losses.proofs.Walks.{adds_root}
 use Rattle.cdx_losses.proofs.walking.taken_by.Goals as goal
 
 pub returns : goal.returns

@@ -5,7 +5,7 @@ use Rattle.cdx_schema.specs.Kinds.{a_data, an_entry}
 use Rattle.cdx_losses.specs.Losses.{items_lost}
 use Rattle.cdx_losses.specs.Walks.{value_lost}
 use Rattle.cdx_losses.proofs.Levels.{classifications_spared}
-use Rattle.cdx_losses.proofs.Walks.{adds_same, adds_none, ok_same}
+use Rattle.cdx_losses.proofs.Walks.{ok_same, adds_same, adds_none}
 use Rattle.cdx_losses.proofs.Values.{value_nothing, list_is}
 use Rattle.cdx_losses.proofs.leaves.DataLosing.lose.Goals as goal
 

@@ -5,7 +5,7 @@ use Rattle.cdx_schema.specs.Kinds.{a_record}
 use Rattle.cdx_losses.specs.Losses.{entry_or, if_so}
 use Rattle.cdx_losses.specs.LeftOut.{after_a_trip}
 use Rattle.cdx_losses.specs.Walks.{value_lost}
-use Rattle.cdx_losses.proofs.Walks.{adds_same, adds_none, ok_same}
+use Rattle.cdx_losses.proofs.Walks.{ok_same, adds_same, adds_none}
 use Rattle.cdx_losses.proofs.Values.{contact_value, none_entry, some_entry}
 use Rattle.cdx_losses.specs.declared.loss.Reason.TheVariants.{Xml}
 use Rattle.cdx_losses.proofs.leaves.OrganizationalContactLosing.lose.Goals as goal
