@@ -16,4 +16,6 @@ pub use bom::settled::same;
 pub use doc::{Doc, Form, Hop, RoadError};
 pub use laws::{reads_without_empty_texts, roads_join, roads_settle};
 pub use putting::{PutError, put_text};
-pub use roads::{into_bill, into_road, is_document, one_document, recode, road};
+pub use roads::{
+    fits_all, into_bill, into_road, is_document, one_document, recode, road, version_missing,
+};

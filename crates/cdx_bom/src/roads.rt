@@ -84,14 +84,17 @@ fn asks_versions(hops: &[Hop]) -> bool
     false
 }
 
+/// Whether the version of each hop can hold the bill: where one is 1.3, each component outside of tools has a version.
+/// It takes no memory.
 #[tactic(auto, using(crate::proofs::Carried::asked))]
-fn fits_all(bill: &Bom, hops: &[Hop]) -> bool
+pub fn fits_all(bill: &Bom, hops: &[Hop]) -> bool
     ensures { result ≡ roads.fits_all (hops_of hops.now) (bom_tree bill.now) }
 {
     !asks_versions(hops) || bill.fits(SpecVersion::V1_3)
 }
 
-fn version_missing() -> RoadError
+/// The refusal of a road of which a hop's version can't hold the bill.
+pub fn version_missing() -> RoadError
     ensures { refusal_of result ≡ Some roads.version_missing }
 {
     RoadError::Bom(lacks_version())

@@ -13,7 +13,8 @@ use cdx_events::{List as Items, Text};
 use std::alloc::{AllocError, Global};
 
 fn push_closed(text: &mut String, start: &str, value: &str) -> Result<(), AllocError>
-    ensures { OnOk result (string_bytes text.new ≡ ((string_bytes text.old ++ start.now) ++ value.now) ++ codes "}") }
+    ensures { OnOk result (string_bytes text.new
+        ≡ ((string_bytes text.old ++ start.now) ++ value.now) ++ codes "}") }
 {
     text.push_str(start)?;
     text.push_str(value)?;

@@ -208,7 +208,7 @@ fn take_asked(alloc: Global, value: Value) -> Result<Option<Asked>, AllocError>
 }
 
 /// `read_request` of a value that nothing else needs, so that its document isn't copied.
-pub(crate) fn take_request(alloc: Global, value: Value) -> Result<Request, RequestError>
+pub fn take_request(alloc: Global, value: Value) -> Result<Request, RequestError>
     ensures { Reads IsRequest (request_of (view value)) result }
 {
     match take_asked(alloc, value)? {
