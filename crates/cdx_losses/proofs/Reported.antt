@@ -1,6 +1,5 @@
 -- What the program of losses owes to the bytes of a request and to words.
 use Rattle.std.proofs.Common.{◌≡◌, ℕ, suc, ◌≤◌, List, [], ◌∷◌, length, map, codes, Bool, true, false, cond, ltb, Option, Some, Result, Ok, Err, IfOk, ◌⊎◌, inl, inr, refl, sym, ap, subst, ◌∙◌, arith}
-use Rattle.std.specs.Prelude.{not, ◌||◌}
 use Rattle.std.specs.Io.KnownBytes.{Appends, IsAtEnd}
 use Rattle.std.proofs.lemmas.Bool.{le-ltb}
 use Rattle.std.specs.declared.alloc.AllocError.{AllocError}
@@ -8,22 +7,17 @@ use Rattle.serde_json.specs.Data.{Data, string, no_members, put}
 use Rattle.serde_json.specs.View.{items_of}
 use Rattle.serde_json.specs.Written.{has_float, items_have_float}
 use Rattle.cdx_models.specs.declared.bom.SpecVersion.{SpecVersion}
-use Rattle.cdx_models.specs.declared.bom.SpecVersion.TheVariants.{V1_3, V1_4, V1_5}
-use Rattle.cdx_models.specs.Versions.{lowest, is_first}
 use Rattle.cdx_models.specs.Path.{pointer}
 use Rattle.cdx_models.specs.Trees.{Tree}
 use Rattle.cdx_schema.proofs.Clear.{neither}
 use Rattle.cdx_schema.specs.Results.{◌>>=◌}
-use Rattle.cdx_schema.specs.Kinds.{a_bill}
-use Rattle.cdx_schema.specs.Keeping.{fits, has_versions}
-use Rattle.cdx_schema.specs.Trips.{Hop, lowest_of}
+use Rattle.cdx_schema.specs.Trips.{Hop}
 use Rattle.cdx_schema.specs.Roads.{Refusal, version_missing, denotes, fits_all}
 use Rattle.cdx_bom.specs.declared.bom.Bom.{Bom}
 use Rattle.cdx_bom.specs.declared.doc.RoadError.{RoadError}
 use Rattle.cdx_bom.specs.declared.doc.RoadError.TheVariants as error
 use Rattle.cdx_bom.specs.Docs.{Refuses, refusal_of}
-use Rattle.cdx_bom.specs.Hops.{any_first, Denotes}
-use Rattle.cdx_bom.proofs.Carried.{asked}
+use Rattle.cdx_bom.specs.Hops.{Denotes}
 use Rattle.cdx_request.specs.Requests.{Misread, not_json, shape, unbalanced, Request, request_in}
 use Rattle.cdx_request.specs.Replies.{Reply, reply, line_of, no_request, limit, reply_to_misread}
 use Rattle.cdx_request.specs.Served.{IsValid}
@@ -61,30 +55,6 @@ pub losses_clear : (xs : List (At Reason)) → has_float (losses_answer xs) ≡ 
 losses_clear xs = neither _ false (entries_clear xs) refl
 
 -- ---- the bill
-
-is_first_lowest : (v w : SpecVersion) → is_first (lowest v w) ≡ (is_first v || is_first w)
-is_first_lowest V1_3 w = refl
-is_first_lowest V1_4 V1_3 = refl
-is_first_lowest V1_4 V1_4 = refl
-is_first_lowest V1_4 V1_5 = refl
-is_first_lowest V1_5 w = refl
-
-or_joins : (a b c : Bool) → ((a || b) || c) ≡ (a || (b || c))
-or_joins true b c = refl
-or_joins false b c = refl
-
-or_false : (a : Bool) → a ≡ (a || false)
-or_false true = refl
-or_false false = refl
-
--- the lowest version is 1.3 where one is
-first_lowest : (v : SpecVersion) (hs : List Hop) → is_first (lowest_of v hs) ≡ (is_first v || any_first hs)
-first_lowest v [] = or_false (is_first v)
-first_lowest v (h ∷ hs) = first_lowest (lowest v h.version) hs ∙ (ap (λ (x : Bool). x || any_first hs) (is_first_lowest v h.version) ∙ or_joins (is_first v) (is_first h.version) (any_first hs))
-
--- What the lowest version can hold, each can.
-pub fits_lowest : (h : Hop) (hs : List Hop) (b : Tree) → fits (lowest_of h.version hs) b a_bill ≡ fits_all (h ∷ hs) b
-fits_lowest h hs b = ap (λ (x : Bool). not x || has_versions b a_bill) (first_lowest h.version hs) ∙ sym (asked (h ∷ hs) b)
 
 pub fitted : (hops : List Hop) (b : Tree) → fits_all hops b ≡ true → if_fit hops b ≡ Ok b
 fitted hops b fit = rw fit refl

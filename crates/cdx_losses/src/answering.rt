@@ -1,29 +1,28 @@
 //! What is answered to a request: what its road takes of its bill, as JSON.
 
-ghost use Rattle.std.specs.Prelude.{◌≡◌, Some, Ok, IfOk};
+ghost use Rattle.std.specs.Prelude.{◌≡◌, Ok, IfOk};
 ghost use Rattle.serde_json.specs.View.{view};
 ghost use Rattle.cdx_schema.specs.Roads as roads;
 ghost use Rattle.cdx_bom.specs.Trees.{bom_tree};
-ghost use Rattle.cdx_bom.specs.Docs.{IsDoc, hops_of, refusal_of};
+ghost use Rattle.cdx_bom.specs.Docs.{IsDoc, hops_of};
 ghost use Rattle.cdx_bom.specs.Hops.{Denotes};
 ghost use Rattle.cdx_request.specs.Requests.{Request as Asked, request_of};
 ghost use Rattle.cdx_request.specs.Replies.{reply};
-ghost use Rattle.cdx_tool.specs.Reads.{Reads, IsRequest};
+ghost use Rattle.cdx_tool.specs.Reads.{IsRequest};
 ghost use Rattle.cdx_tool.specs.Shows.{reply_of};
 ghost use Rattle.cdx_losses.specs.Answers.{reason_word, losses_answer as losses_in};
 ghost use Rattle.cdx_losses.specs.Report.{if_fit as bill_if_fit, carried as bill_carried, answer_to, reply_to_request, owed};
 ghost use Rattle.cdx_losses.specs.Told.{all_told};
 
 use crate::loss::{Loss, Reason};
-use crate::road::lowest_version;
 use crate::walking::losses;
 use cdx_ask::{NoBill, answer_lack};
-use cdx_bom::{Bom, Doc, Hop, RoadError, into_bill};
+use cdx_bom::{Bom, Doc, Hop, RoadError, fits_all, into_bill, version_missing};
 use cdx_events::List as Items;
-use cdx_models::{BomError, Lack, SpecVersion};
+use cdx_models::SpecVersion;
 use cdx_tool::{
-    Answer, Request, RequestError, SERVED, Shown, UNUSABLE, answer_value, items_to_json, only,
-    read_json, read_request, refuse,
+    Answer, Request, SERVED, Shown, UNUSABLE, answer_value, items_to_json, only, read_json, refuse,
+    take_request,
 };
 use serde_json::{Value, json};
 use std::alloc::{AllocError, Global};
@@ -72,22 +71,6 @@ fn answer_bill(alloc: Global, bill: &Bom, hops: &[Hop]) -> Result<Answer, AllocE
 
 // ---- the bill
 
-// What the lowest version of the hops can hold, each of them can.
-fn fits_all(bill: &Bom, hops: &[Hop]) -> bool
-    ensures { result ≡ roads.fits_all (hops_of hops.now) (bom_tree bill.now) }
-{
-    match hops.split_first() {
-        None => true,
-        Some((first, rest)) => bill.fits(lowest_version(first.version, rest)),
-    }
-}
-
-fn version_missing() -> RoadError
-    ensures { refusal_of result ≡ Some roads.version_missing }
-{
-    RoadError::Bom(BomError::BomSerializationError(SpecVersion::V1_3, Lack::VersionMissing))
-}
-
 // The bill, unless a hop's version can't hold it.
 fn if_fit(bill: Bom, hops: &[Hop]) -> Result<Bom, RoadError>
     ensures { Denotes (bill_if_fit (hops_of hops.now) (bom_tree bill)) result }
@@ -123,17 +106,10 @@ fn answer_request(alloc: Global, request: Request) -> Result<Answer, AllocError>
     }
 }
 
-// The request of a value that is freed with the call, so that it isn't held beside the copy of its document.
-fn into_request(alloc: Global, value: Value) -> Result<Request, RequestError>
-    ensures { Reads IsRequest (request_of (view value)) result }
-{
-    read_request(alloc, &value)
-}
-
 fn answer_asked(alloc: Global, value: Value) -> Result<Answer, AllocError>
     ensures { IfOk result (λ a. reply_of a ≡ reply_to_request (request_of (view value))) }
 {
-    match into_request(alloc, value) {
+    match take_request(alloc, value) {
         Ok(request) => answer_request(alloc, request),
         Err(error) => answer_lack(alloc, NoBill::Misread(error)),
     }

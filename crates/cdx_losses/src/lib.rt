@@ -4,7 +4,6 @@
 mod answering;
 mod laws;
 mod loss;
-mod road;
 mod serving;
 mod walking;
 
