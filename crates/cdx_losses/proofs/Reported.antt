@@ -3,7 +3,7 @@ use Rattle.std.proofs.Common.{◌≡◌, ℕ, suc, ◌≤◌, List, [], ◌∷�
 use Rattle.std.specs.Io.KnownBytes.{Appends, IsAtEnd}
 use Rattle.std.proofs.lemmas.Bool.{le-ltb}
 use Rattle.std.specs.declared.alloc.AllocError.{AllocError}
-use Rattle.serde_json.specs.Data.{Data, string, no_members}
+use Rattle.serde_json.specs.Data.{Data, string, no_members, put}
 use Rattle.serde_json.specs.View.{items_of}
 use Rattle.serde_json.specs.Written.{has_float, items_have_float}
 use Rattle.cdx_models.specs.declared.bom.SpecVersion.{SpecVersion}
@@ -49,7 +49,7 @@ values_are (l ∷ ls) = ap (λ ds. loss_value (told l) ∷ ds) (values_are ls)
 -- No answer holds a float.
 entries_clear : (xs : List (At Reason)) → items_have_float (items_of (map loss_value xs)) ≡ false
 entries_clear [] = refl
-entries_clear (x ∷ xs) = neither (has_float (loss_value x)) _ (put_clear (codes "path") (string (pointer x.0)) _ refl (put_clear (codes "reason") (string (reason_word x.1)) no_members refl refl)) (entries_clear xs)
+entries_clear (x ∷ xs) = neither (has_float (loss_value x)) _ (put_clear (codes "path") (string (pointer x.0)) (put (codes "reason") (string (reason_word x.1)) no_members) refl (put_clear (codes "reason") (string (reason_word x.1)) no_members refl refl)) (entries_clear xs)
 
 pub losses_clear : (xs : List (At Reason)) → has_float (losses_answer xs) ≡ false
 losses_clear xs = neither _ false (entries_clear xs) refl
@@ -86,11 +86,11 @@ pub bill_reply : (hops : List Hop) (owed : Result Tree Refusal) (b : Tree) → o
 bill_reply hops owed b is = ap (λ (o : Result Tree Refusal). reply_to_bill (answer_to hops) (billed o)) (sym is)
 
 -- what is asked for, and the hops
-pub asked_for : Result Request Misread → Result Tree Lack
+abbrev pub asked_for : Result Request Misread → Result Tree Lack
 asked_for (Ok q) = billed (carried q.doc q.from q.hops)
 asked_for (Err e) = Err (misread e)
 
-pub answer_in : Result Request Misread → Tree → Data
+abbrev pub answer_in : Result Request Misread → Tree → Data
 answer_in (Ok q) = answer_to q.hops
 answer_in (Err e) = answer_to []
 
@@ -142,7 +142,7 @@ fits_hops : (hops : List Hop) (denoted : Result Tree Refusal) (b : Tree) → (de
 fits_hops hops (Err r) b h = cc
 fits_hops hops (Ok c) b h = by (fits_all hops c) refl h
   where
-    by : (fit : Bool) → fits_all hops c ≡ fit → cond fit (Ok c) (Err version_missing) ≡ Ok b → (Ok {E = Refusal} c ≡ Ok b) × (fits_all hops b ≡ true)
+    by : (fit : Bool) → fits_all hops c ≡ fit → cond fit (Ok c) (Err version_missing) ≡ Ok b → ◌≡◌ {A = Result Tree Refusal} (Ok c) (Ok b) × (fits_all hops b ≡ true)
     by true e i = let same : c ≡ b = cc in (i, subst (λ (x : Tree). fits_all hops x ≡ true) same e)
     by false e i = absurd cc
 

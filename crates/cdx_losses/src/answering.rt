@@ -1,6 +1,6 @@
 //! What is answered to a request: what its road takes of its bill, as JSON.
 
-ghost use Rattle.std.specs.Prelude.{◌≡◌, Some, Ok, IfOk};
+ghost use Rattle.std.specs.Prelude.{◌≡◌, Ok, IfOk};
 ghost use Rattle.serde_json.specs.View.{view};
 ghost use Rattle.cdx_schema.specs.Roads as roads;
 ghost use Rattle.cdx_bom.specs.Trees.{bom_tree};
@@ -8,7 +8,7 @@ ghost use Rattle.cdx_bom.specs.Docs.{IsDoc, hops_of};
 ghost use Rattle.cdx_bom.specs.Hops.{Denotes};
 ghost use Rattle.cdx_request.specs.Requests.{Request as Asked, request_of};
 ghost use Rattle.cdx_request.specs.Replies.{reply};
-ghost use Rattle.cdx_tool.specs.Reads.{Reads, IsRequest};
+ghost use Rattle.cdx_tool.specs.Reads.{IsRequest};
 ghost use Rattle.cdx_tool.specs.Shows.{reply_of};
 ghost use Rattle.cdx_losses.specs.Answers.{reason_word, losses_answer as losses_in};
 ghost use Rattle.cdx_losses.specs.Report.{if_fit as bill_if_fit, carried as bill_carried, answer_to, reply_to_request, owed};

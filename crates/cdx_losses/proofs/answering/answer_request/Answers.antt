@@ -21,8 +21,8 @@ returns-in-Ok c = λ q is.
     let same = bill_reply hops owed (bom_tree c.in-Ok.bill) (c.in-Ok.ensures q.doc is.1) ∙ same_bill q c.args.request.from hops is.0 (ap hops_of c.as_slice-road.ensures ∙ is.2) in
     subst (λ (r : Reply). IfOk c.answer_bill.result (λ a. reply_of a ≡ r)) same c.answer_bill.ensures
 
-pub returns-in-Err : goal.returns-in-Err
-returns-in-Err c = λ q is.
+pub returns : goal.returns
+returns c = λ q is.
     let hops = hops_of c.as_slice-road.result.now in
     let owed = carried q.doc c.args.request.from hops in
     let same = same_bill q c.args.request.from hops is.0 (ap hops_of c.as_slice-road.ensures ∙ is.2) in
