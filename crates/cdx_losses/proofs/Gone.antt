@@ -17,10 +17,10 @@ use Rattle.cdx_patch.specs.declared.code.Diff.{Diff}
 use Rattle.cdx_patch.specs.declared.code.Source.{Source}
 use Rattle.cdx_parts.specs.Records.{copyrights_tree, evidence_tree}
 use Rattle.cdx_parts.specs.declared.component.ComponentEvidence.{ComponentEvidence}
-use Rattle.cdx_schema.specs.Kinds.{Lists, Kind, a_list, a_record, a_tools, an_entry, Spelled, filled_child, children, optional, Row}
+use Rattle.cdx_schema.specs.Kinds.{Lists, Kind, a_list, a_record, a_tools, an_entry, Spelled, filled_child, children, Row}
 use Rattle.cdx_schema.specs.Table as table
 use Rattle.cdx_schema.specs.Table.{rows}
-use Rattle.cdx_schema.specs.Trips.{bare, items_bare, is_hollow, none_is_absent}
+use Rattle.cdx_schema.specs.Trips.{bare, is_hollow}
 use Rattle.cdx_schema.specs.Suppliers.{is_entity}
 use Rattle.cdx_schema.specs.JsonReading.{or_else}
 use Rattle.cdx_losses.specs.declared.loss.Reason.{Reason}

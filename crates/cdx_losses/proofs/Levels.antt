@@ -1,50 +1,27 @@
 -- What is taken of each record that the walk goes over, one level at a time.
-use Rattle.std.specs.Prelude.{◌≡◌, refl, ℕ, List, [], ◌∷◌, ◌++◌, true, false, Option, codes}
+use Rattle.std.specs.Prelude.{◌≡◌, refl, ℕ, List, [], ◌∷◌, ◌++◌, true, Option}
 use mathlib.Core.Path.{ap, ◌∙◌}
 use Rattle.cdx_models.specs.declared.bom.SpecVersion.{SpecVersion}
 use Rattle.cdx_models.specs.declared.bom.SpecVersion.TheVariants.{V1_4, V1_5}
-use Rattle.cdx_models.specs.Trees.{Name, license, contact, entity, tool, composition, issue, patch, evidence, component, pedigree, service, metadata, tools_object, bill, Tree, text, number, boolean, fields, Trees, ◌⧺◌, present, list_tree, each, trees}
+use Rattle.cdx_models.specs.Trees.{license, contact, entity, tool, composition, issue, patch, evidence, component, pedigree, service, metadata, tools_object, bill, Tree, text, number, boolean, ◌⧺◌, present, list_tree, each, trees}
 use Rattle.cdx_models.specs.Records.{urn_tree, contact_tree, entity_tree, attached_text_tree, hash_tree, hashes_tree, reference_tree, references_tree, property_tree, properties_tree, tool_tree}
-use Rattle.cdx_models.specs.declared.attached_text.AttachedText.{AttachedText}
-use Rattle.cdx_models.specs.declared.hash.Hash.{Hash}
-use Rattle.cdx_models.specs.declared.hash.Hashes.{Hashes}
-use Rattle.cdx_models.specs.declared.property.Property.{Property}
-use Rattle.cdx_models.specs.declared.property.Properties.{Properties}
-use Rattle.cdx_models.specs.declared.external_reference.ExternalReference.{ExternalReference}
-use Rattle.cdx_models.specs.declared.external_reference.ExternalReferences.{ExternalReferences}
 use Rattle.cdx_models.specs.declared.organization.OrganizationalContact.{OrganizationalContact}
 use Rattle.cdx_models.specs.declared.organization.OrganizationalEntity.{OrganizationalEntity}
 use Rattle.cdx_models.specs.declared.tool.Tool.{Tool}
-use Rattle.cdx_license.specs.Records.{identifier_tree, license_tree, expression_tree, choice_tree, licenses_tree}
-use Rattle.cdx_license.specs.declared.license.LicenseIdentifier.{LicenseIdentifier}
+use Rattle.cdx_license.specs.Records.{identifier_tree, license_tree, expression_tree, licenses_tree}
 use Rattle.cdx_license.specs.declared.license.LicenseIdentifier.TheVariants as identifier
 use Rattle.cdx_license.specs.declared.license.License.{License}
-use Rattle.cdx_license.specs.declared.license.Expression.{Expression}
 use Rattle.cdx_signature.specs.Records.{signer_tree, signature_tree}
-use Rattle.cdx_signature.specs.declared.signature.Signer.{Signer}
-use Rattle.cdx_signature.specs.declared.signature.Signature.{Signature}
 use Rattle.cdx_signature.specs.declared.signature.Signature.TheVariants as variant
 use Rattle.cdx_code.specs.Records.{action_tree, commit_tree, commits_tree}
-use Rattle.cdx_code.specs.declared.code.IdentifiableAction.{IdentifiableAction}
-use Rattle.cdx_code.specs.declared.code.Commit.{Commit}
-use Rattle.cdx_code.specs.declared.code.Commits.{Commits}
 use Rattle.cdx_patch.specs.Records.{diff_tree, source_tree, issue_tree, patch_tree, patches_tree}
-use Rattle.cdx_patch.specs.declared.code.Diff.{Diff}
-use Rattle.cdx_patch.specs.declared.code.Source.{Source}
 use Rattle.cdx_patch.specs.declared.code.Issue.{Issue}
 use Rattle.cdx_patch.specs.declared.code.Patch.{Patch}
 use Rattle.cdx_parts.specs.Records.{mime_type_tree, cpe_tree, swid_tree, copyright_tree, copyrights_tree, evidence_tree}
-use Rattle.cdx_parts.specs.declared.component.Swid.{Swid}
-use Rattle.cdx_parts.specs.declared.component.Copyright.{Copyright}
-use Rattle.cdx_parts.specs.declared.component.CopyrightTexts.{CopyrightTexts}
 use Rattle.cdx_parts.specs.declared.component.ComponentEvidence.{ComponentEvidence}
 use Rattle.cdx_data.specs.Records.{classification_tree, data_tree}
-use Rattle.cdx_data.specs.declared.service.DataClassification.{DataClassification}
 use Rattle.cdx_relations.specs.Records.{dependency_tree, dependencies_tree, bom_reference_tree, composition_tree, compositions_tree}
-use Rattle.cdx_relations.specs.declared.composition.BomReference.{BomReference}
 use Rattle.cdx_relations.specs.declared.composition.Composition.{Composition}
-use Rattle.cdx_relations.specs.declared.dependency.Dependency.{Dependency}
-use Rattle.cdx_relations.specs.declared.dependency.Dependencies.{Dependencies}
 use Rattle.cdx_component.specs.declared.component.Component.{Component}
 use Rattle.cdx_component.specs.declared.component.Component.TheOpen.{Component-F, Pedigree-F}
 use Rattle.cdx_component.specs.declared.component.Component.TheViews.{out-Component, out-Pedigree}
@@ -67,7 +44,6 @@ use Rattle.cdx_bom.proofs.Names.{lacks}
 use Rattle.cdx_bom.proofs.Leaves.{texts_lack, row_lacks, list_lacks, text_lacks, number_lacks, boolean_lacks, mime_type_lacks, cpe_lacks, urn_lacks}
 use Rattle.cdx_schema.specs.Kinds.{properties, licenses, compositions, vulnerabilities, patches, resolved, components, services, authors, external_references, a_text, a_list, a_record, a_data, a_tools, a_bill, Row}
 use Rattle.cdx_schema.specs.Table.{rows, list, from, of, respelled_reference, signature_row}
-use Rattle.cdx_losses.specs.declared.loss.Reason.{Reason}
 use Rattle.cdx_losses.specs.Losses.{lost, items_lost, rows_lost}
 use Rattle.cdx_losses.specs.LeftOut.{urls_row, contacts_row, diff_row, source_row, supplier_row, evidence_row}
 use Rattle.cdx_losses.proofs.Spared.{is_losing, row_lost, rows_spared}

@@ -1,5 +1,5 @@
 -- What counts of a road: the lowest version of its hops, and their trips through XML, counted to two.
-use Rattle.std.specs.Prelude.{◌≡◌, refl, ℕ, zero, suc, ◌+◌, ◌<◌, ◌≤◌, List, [], ◌∷◌, map, length, drop}
+use Rattle.std.specs.Prelude.{◌≡◌, refl, ℕ, zero, suc, ◌+◌, ◌<◌, ◌≤◌, List, [], ◌∷◌, length, drop}
 use Rattle.std.proofs.Common.{get_or}
 use Rattle.std.proofs.lemmas.List.{at_drop_more, at_drop_all}
 use mathlib.Core.Path.{ap, sym, ◌∙◌}
@@ -11,7 +11,6 @@ use Rattle.cdx_schema.specs.Kinds.{a_bill}
 use Rattle.cdx_schema.specs.Trips as trips
 use Rattle.cdx_schema.specs.Trips.{in_json, in_xml, lowest_of}
 use Rattle.cdx_schema.specs.Laws.{xml_count}
-use Rattle.cdx_bom.specs.declared.doc.Form.{Form}
 use Rattle.cdx_bom.specs.declared.doc.Form.TheVariants.{Json, Xml}
 use Rattle.cdx_bom.specs.declared.doc.Hop.{Hop}
 use Rattle.cdx_bom.specs.Docs.{hop_of, hops_of, form_of}

@@ -12,7 +12,7 @@ use Rattle.cdx_schema.specs.Held.{held_kind}
 use Rattle.cdx_schema.specs.Table.{rows}
 use Rattle.cdx_schema.specs.Faults.{to_item}
 use Rattle.cdx_schema.specs.JsonReading.{or_else}
-use Rattle.cdx_schema.specs.Trips.{bare, field_after, none_is_absent, is_hollow, is_passed_over}
+use Rattle.cdx_schema.specs.Trips.{bare, field_after, none_is_absent, is_passed_over}
 use Rattle.cdx_schema.specs.Suppliers.{is_supplier}
 use Rattle.cdx_schema.proofs.XmlLaw.{absent_is}
 use Rattle.cdx_bom.proofs.Names.{lacks, all_lack, both, fields_lack}

@@ -1,11 +1,11 @@
 -- What is taken of values: each whole, or inside.
-use Rattle.std.specs.Prelude.{◌≡◌, refl, ℕ, zero, suc, List, [], ◌∷◌, ◌++◌, Bool, true, false, not, ◌&&◌, ◌||◌, if◌then◌else◌, Option, Some, None, is_some, codes}
+use Rattle.std.specs.Prelude.{◌≡◌, refl, ℕ, zero, suc, List, [], ◌∷◌, Bool, true, false, not, ◌&&◌, ◌||◌, if◌then◌else◌, Option, Some, None, is_some, codes}
 use Rattle.std.proofs.Common.{true≢false}
 use mathlib.Core.Path.{ap, sym, ◌∙◌}
 use Rattle.cdx_models.specs.declared.bom.SpecVersion.{SpecVersion}
 use Rattle.cdx_models.specs.declared.bom.SpecVersion.TheVariants.{V1_3, V1_4, V1_5}
 use Rattle.cdx_models.specs.Versions.{knows}
-use Rattle.cdx_models.specs.Trees.{license, contact, composition, issue, patch, tool, service_data, tools_object, Tree, absent, text, items, fields, Trees, none, more, present, list_tree, each, trees, is_absent, all_absent}
+use Rattle.cdx_models.specs.Trees.{license, contact, composition, issue, patch, tool, service_data, Tree, text, present, list_tree, each, trees, is_absent, all_absent}
 use Rattle.cdx_models.specs.Entries.{is_flow}
 use Rattle.cdx_models.specs.Records.{contact_tree}
 use Rattle.cdx_models.specs.declared.organization.OrganizationalContact.{OrganizationalContact}
@@ -39,7 +39,7 @@ use Rattle.cdx_losses.specs.declared.loss.Reason.{Reason}
 use Rattle.cdx_losses.specs.declared.loss.Reason.TheVariants.{Flow, Xml}
 use Rattle.cdx_losses.specs.declared.loss.Reason.TheVariants as cause
 use Rattle.cdx_losses.specs.declared.road.Road.{Road}
-use Rattle.cdx_losses.specs.Losses.{reason_in, changed_by, is_skipped, if_so, item_reason, entry_or, lost, items_lost}
+use Rattle.cdx_losses.specs.Losses.{is_skipped, if_so, item_reason, entry_or, lost, items_lost}
 use Rattle.cdx_losses.specs.LeftOut.{after_a_trip}
 use Rattle.cdx_losses.specs.Walks.{value_lost}
 use Rattle.cdx_losses.proofs.Spared.{is_losing, not_skipped, no_item_reason, spared_unchanged, spared_written, nothing_lost, rows_spared}

@@ -1,5 +1,5 @@
 -- How the steps of a walk add up.
-use Rattle.std.specs.Prelude.{◌≡◌, refl, ℕ, suc, ◌+◌, ◌<◌, ◌≤◌, List, [], ◌∷◌, ◌++◌, map, length, take, drop, Bool, true, false, not, ◌&&◌, Option, Some, None, is_some, Result, OnOk}
+use Rattle.std.specs.Prelude.{◌≡◌, refl, ℕ, suc, ◌+◌, ◌<◌, ◌≤◌, List, [], ◌∷◌, ◌++◌, length, take, drop, Bool, true, false, not, ◌&&◌, Option, Some, None, is_some, Result, OnOk}
 use Rattle.std.proofs.Common.{get_or}
 use Rattle.std.proofs.lemmas.List.{map-append, append-nil, append_assoc, at_drop_more, at_drop_all}
 use Rattle.std.proofs.lemmas.Result.{IfOk-weaker}
@@ -9,7 +9,7 @@ use native.Mathlib.Omega.{arith}
 use Rattle.cdx_models.specs.declared.errors.Step.{Step}
 use Rattle.cdx_models.specs.declared.bom.SpecVersion.{SpecVersion}
 use Rattle.cdx_models.specs.Versions.{knows, is_first}
-use Rattle.cdx_models.specs.Trees.{Tree, absent, Trees, present, each, is_absent}
+use Rattle.cdx_models.specs.Trees.{Tree, absent, present, each, is_absent}
 use Rattle.cdx_schema.specs.Kinds.{Kind, Row}
 use Rattle.cdx_schema.specs.Kinds as kinds
 use Rattle.cdx_schema.specs.Faults.{to_member, to_item}
@@ -23,10 +23,10 @@ use Rattle.cdx_losses.specs.declared.loss.Reason.{Reason}
 use Rattle.cdx_losses.specs.declared.loss.Reason.TheVariants.{Version, Xml}
 use Rattle.cdx_losses.specs.declared.road.Road.{Road}
 use Rattle.cdx_losses.specs.declared.walk.Walk.{Walk}
-use Rattle.cdx_losses.specs.Losses.{changed_by, is_tripped, is_skipped, if_so, field_reason, item_reason, entry_or, lost, items_lost}
+use Rattle.cdx_losses.specs.Losses.{changed_by, is_tripped, if_so, field_reason, item_reason, entry_or, lost, items_lost}
 use Rattle.cdx_losses.specs.Told.{told, all_told}
 use Rattle.cdx_losses.specs.Walks.{below, Adds, value_lost}
-use Rattle.cdx_losses.proofs.Spared.{is_losing, is_lasting, is_always, row_lost, reason_there, or_none, first_known, lasting_stays, version_reason, no_field_reason, no_item_reason, not_skipped, spared_unchanged, nothing_lost}
+use Rattle.cdx_losses.proofs.Spared.{is_lasting, is_always, row_lost, reason_there, first_known, lasting_stays, version_reason, no_field_reason, no_item_reason, not_skipped, spared_unchanged, nothing_lost}
 use Rattle.cdx_losses.proofs.Levels.{Spared}
 
 abbrev Entries : Type 0

@@ -7,7 +7,7 @@ use Rattle.cdx_patch.specs.Records.{patches_tree}
 use Rattle.cdx_parts.specs.Records.{evidence_tree}
 use Rattle.cdx_component.specs.Trees.{component_tree, components_tree, pedigree_tree}
 use Rattle.cdx_component.specs.declared.component.Component.TheViews.{out-Component, out-Pedigree}
-use Rattle.cdx_schema.specs.Kinds.{a_list, a_record, licenses, patches, components}
+use Rattle.cdx_schema.specs.Kinds.{a_list, a_record, patches, components}
 use Rattle.cdx_schema.specs.Table.{of, signature_row}
 use Rattle.cdx_schema.specs.Faults.{to_member}
 use Rattle.cdx_losses.specs.Losses.{lost, items_lost}

@@ -6,7 +6,7 @@ use Rattle.cdx_signature.specs.Records.{signature_tree, signature_there}
 use Rattle.cdx_data.specs.Records.{data_tree}
 use Rattle.cdx_service.specs.Trees.{service_tree, services_tree}
 use Rattle.cdx_service.specs.declared.service.Service.TheViews.{out-Service}
-use Rattle.cdx_schema.specs.Kinds.{a_list, a_record, a_data, licenses, services}
+use Rattle.cdx_schema.specs.Kinds.{a_list, a_record, a_data, services}
 use Rattle.cdx_schema.specs.Table.{of, signature_row}
 use Rattle.cdx_schema.specs.Faults.{to_member}
 use Rattle.cdx_losses.specs.Losses.{lost, items_lost}

@@ -1,5 +1,5 @@
 use Rattle.std.proofs.Common.{[], ◌++◌, refl, ◌∙◌, codes}
-use Rattle.cdx_models.specs.Trees.{present, issue, source}
+use Rattle.cdx_models.specs.Trees.{present, issue}
 use Rattle.cdx_patch.specs.Records.{source_tree, issue_tree}
 use Rattle.cdx_schema.specs.Kinds.{a_record}
 use Rattle.cdx_losses.specs.LeftOut.{source_row}

@@ -1,5 +1,5 @@
 use Rattle.std.proofs.Common.{[], ◌++◌, refl, ◌∙◌, codes}
-use Rattle.cdx_models.specs.Trees.{present, text, list_tree, contact, entity}
+use Rattle.cdx_models.specs.Trees.{present, text, list_tree, entity}
 use Rattle.cdx_models.specs.Records.{contact_tree, entity_tree}
 use Rattle.cdx_schema.specs.Kinds.{a_list, a_record, authors}
 use Rattle.cdx_losses.specs.LeftOut.{urls_row, contacts_row}

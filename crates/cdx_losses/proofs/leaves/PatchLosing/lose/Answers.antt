@@ -1,5 +1,5 @@
 use Rattle.std.proofs.Common.{[], ◌++◌, refl, ◌∙◌, codes}
-use Rattle.cdx_models.specs.Trees.{present, list_tree, patch, diff}
+use Rattle.cdx_models.specs.Trees.{present, list_tree, patch}
 use Rattle.cdx_patch.specs.Records.{diff_tree, issue_tree, patch_tree}
 use Rattle.cdx_schema.specs.Kinds.{a_list, a_record, resolved}
 use Rattle.cdx_schema.specs.Table.{of}

@@ -1,5 +1,5 @@
 use Rattle.std.proofs.Common.{refl, ap, ◌∙◌}
-use Rattle.cdx_models.specs.Trees.{present, list_tree, contact}
+use Rattle.cdx_models.specs.Trees.{present, list_tree}
 use Rattle.cdx_models.specs.Records.{contact_tree}
 use Rattle.cdx_schema.specs.Kinds.{contacts}
 use Rattle.cdx_losses.specs.LeftOut.{contacts_row, is_left_out}

@@ -4,7 +4,7 @@ use Rattle.cdx_models.specs.Records.{contact_tree, entity_tree}
 use Rattle.cdx_license.specs.Records.{licenses_tree}
 use Rattle.cdx_component.specs.Trees.{component_tree}
 use Rattle.cdx_nest.specs.Trees.{tools_tree, metadata_tree}
-use Rattle.cdx_schema.specs.Kinds.{a_list, a_record, a_tools, licenses, authors}
+use Rattle.cdx_schema.specs.Kinds.{a_list, a_record, a_tools, authors}
 use Rattle.cdx_schema.specs.Table.{of}
 use Rattle.cdx_losses.specs.Walks.{value_lost}
 use Rattle.cdx_losses.proofs.Spared.{row_lost}
