@@ -1,7 +1,7 @@
 //! A whole bill.
 
 ghost use Rattle.cdx_schema.specs.Kinds.{a_bill};
-ghost use Rattle.std.specs.Prelude.{◌≡◌, refl, None};
+ghost use Rattle.std.specs.Prelude.{◌≡◌, refl, None, ◌↔◌, IsTrue};
 ghost use Rattle.cdx_models.specs.Same.{same};
 ghost use Rattle.cdx_models.specs.SameLaws.{same_laws};
 ghost use Rattle.cdx_bom.specs.Trees.{bom_tree};
@@ -114,7 +114,7 @@ impl HasTree for Bom {
         copy_bom(self, alloc)
     }
 
-    fn same(&self, other: &Bom) -> bool {
+    fn agrees(&self, other: &Bom) -> bool {
         same_bom(self, other)
     }
 }
@@ -128,7 +128,9 @@ impl PartialEq for Bom {
 
     ghost laws = { same_laws bom_tree };
 
-    fn eq(&self, other: &Bom) -> bool {
+    fn eq(&self, other: &Bom) -> bool
+        ensures { IsTrue result ↔ (bom_tree self.now ≡ bom_tree other.now) }
+    {
         self.same(other)
     }
 }

@@ -2,7 +2,7 @@
 
 ghost use Rattle.cdx_models.specs.Trees.{action, commit};
 ghost use Rattle.cdx_schema.specs.Kinds.{a_list, commits};
-ghost use Rattle.std.specs.Prelude.{refl};
+ghost use Rattle.std.specs.Prelude.{refl, ◌≡◌, ◌↔◌, IsTrue};
 ghost use Rattle.cdx_models.specs.Same.{same};
 ghost use Rattle.cdx_models.specs.SameLaws.{same_laws};
 ghost use Rattle.cdx_code.specs.Records.{action_tree, commit_tree, commits_tree};
@@ -47,7 +47,7 @@ impl HasTree for IdentifiableAction {
         })
     }
 
-    fn same(&self, other: &IdentifiableAction) -> bool {
+    fn agrees(&self, other: &IdentifiableAction) -> bool {
         same_row(&self.timestamp, &other.timestamp)
             && same_row(&self.name, &other.name)
             && same_row(&self.email, &other.email)
@@ -67,7 +67,9 @@ impl PartialEq for IdentifiableAction {
 
     ghost laws = { same_laws action_tree };
 
-    fn eq(&self, other: &IdentifiableAction) -> bool {
+    fn eq(&self, other: &IdentifiableAction) -> bool
+        ensures { IsTrue result ↔ (action_tree self.now ≡ action_tree other.now) }
+    {
         self.same(other)
     }
 }
@@ -115,7 +117,7 @@ impl HasTree for Commit {
         })
     }
 
-    fn same(&self, other: &Commit) -> bool {
+    fn agrees(&self, other: &Commit) -> bool {
         same_row(&self.uid, &other.uid)
             && same_row(&self.url, &other.url)
             && same_row(&self.author, &other.author)
@@ -137,7 +139,9 @@ impl PartialEq for Commit {
 
     ghost laws = { same_laws commit_tree };
 
-    fn eq(&self, other: &Commit) -> bool {
+    fn eq(&self, other: &Commit) -> bool
+        ensures { IsTrue result ↔ (commit_tree self.now ≡ commit_tree other.now) }
+    {
         self.same(other)
     }
 }
@@ -155,8 +159,8 @@ impl HasTree for Commits {
         Ok(Commits(self.0.copy(alloc)?))
     }
 
-    fn same(&self, other: &Commits) -> bool {
-        self.0.same(&other.0)
+    fn agrees(&self, other: &Commits) -> bool {
+        self.0.agrees(&other.0)
     }
 }
 
@@ -169,7 +173,9 @@ impl PartialEq for Commits {
 
     ghost laws = { same_laws commits_tree };
 
-    fn eq(&self, other: &Commits) -> bool {
+    fn eq(&self, other: &Commits) -> bool
+        ensures { IsTrue result ↔ (commits_tree self.now ≡ commits_tree other.now) }
+    {
         self.same(other)
     }
 }

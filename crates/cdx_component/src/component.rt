@@ -1,6 +1,6 @@
 //! Components, their pedigrees and lists of them.
 
-ghost use Rattle.std.specs.Prelude.{◌≡◌, [], ◌∷◌, ◌++◌, IfOk, OnOk, OnErr, length, slice_get, option_copied, is_some, nat_lt};
+ghost use Rattle.std.specs.Prelude.{◌≡◌, [], ◌∷◌, ◌++◌, IfOk, OnOk, OnErr, length, slice_get, option_copied, is_some, nat_lt, ◌↔◌, IsTrue};
 ghost use Rattle.cdx_models.specs.Trees.{component, pedigree};
 ghost use Rattle.cdx_schema.specs.Kinds.{components, a_list, a_record};
 ghost use Rattle.cdx_models.specs.Same.{same};
@@ -212,7 +212,7 @@ impl HasTree for Component {
         copy_component(self, alloc)
     }
 
-    fn same(&self, other: &Component) -> bool {
+    fn agrees(&self, other: &Component) -> bool {
         same_component(self, other)
     }
 }
@@ -226,7 +226,9 @@ impl PartialEq for Component {
 
     ghost laws = { same_laws component_tree };
 
-    fn eq(&self, other: &Component) -> bool {
+    fn eq(&self, other: &Component) -> bool
+        ensures { IsTrue result ↔ (component_tree self.now ≡ component_tree other.now) }
+    {
         self.same(other)
     }
 }
@@ -240,7 +242,7 @@ impl HasTree for Components {
         copy_components(self, alloc)
     }
 
-    fn same(&self, other: &Components) -> bool {
+    fn agrees(&self, other: &Components) -> bool {
         same_components(self, other)
     }
 }
@@ -254,7 +256,9 @@ impl PartialEq for Components {
 
     ghost laws = { same_laws components_tree };
 
-    fn eq(&self, other: &Components) -> bool {
+    fn eq(&self, other: &Components) -> bool
+        ensures { IsTrue result ↔ (components_tree self.now ≡ components_tree other.now) }
+    {
         self.same(other)
     }
 }
@@ -268,7 +272,7 @@ impl HasTree for Pedigree {
         copy_pedigree(self, alloc)
     }
 
-    fn same(&self, other: &Pedigree) -> bool {
+    fn agrees(&self, other: &Pedigree) -> bool {
         same_pedigree(self, other)
     }
 }
@@ -282,7 +286,9 @@ impl PartialEq for Pedigree {
 
     ghost laws = { same_laws pedigree_tree };
 
-    fn eq(&self, other: &Pedigree) -> bool {
+    fn eq(&self, other: &Pedigree) -> bool
+        ensures { IsTrue result ↔ (pedigree_tree self.now ≡ pedigree_tree other.now) }
+    {
         self.same(other)
     }
 }

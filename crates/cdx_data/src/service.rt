@@ -2,7 +2,7 @@
 
 ghost use Rattle.cdx_models.specs.Trees.{classification, service_data, list_tree};
 ghost use Rattle.cdx_schema.specs.Kinds.{a_data};
-ghost use Rattle.std.specs.Prelude.{◌≡◌, refl, IfOk, is_some, ◌||◌};
+ghost use Rattle.std.specs.Prelude.{◌≡◌, refl, IfOk, is_some, ◌||◌, ◌↔◌, IsTrue};
 ghost use Rattle.cdx_models.specs.Entries.{entry_of};
 ghost use Rattle.cdx_models.specs.Same.{same};
 ghost use Rattle.cdx_models.specs.SameLaws.{same_laws};
@@ -61,8 +61,8 @@ impl HasTree for DataClassification {
         })
     }
 
-    fn same(&self, other: &DataClassification) -> bool {
-        self.flow.same(&other.flow) && self.classification.same(&other.classification)
+    fn agrees(&self, other: &DataClassification) -> bool {
+        self.flow.agrees(&other.flow) && self.classification.agrees(&other.classification)
     }
 }
 
@@ -79,7 +79,9 @@ impl PartialEq for DataClassification {
 
     ghost laws = { same_laws classification_tree };
 
-    fn eq(&self, other: &DataClassification) -> bool {
+    fn eq(&self, other: &DataClassification) -> bool
+        ensures { IsTrue result ↔ (classification_tree self.now ≡ classification_tree other.now) }
+    {
         self.same(other)
     }
 }
@@ -119,10 +121,10 @@ impl HasTree for ServiceData {
         })
     }
 
-    fn same(&self, other: &ServiceData) -> bool {
+    fn agrees(&self, other: &ServiceData) -> bool {
         same_row(&self.name, &other.name)
             && same_row(&self.description, &other.description)
-            && self.classification.same(&other.classification)
+            && self.classification.agrees(&other.classification)
     }
 }
 
@@ -139,7 +141,9 @@ impl PartialEq for ServiceData {
 
     ghost laws = { same_laws service_data_tree };
 
-    fn eq(&self, other: &ServiceData) -> bool {
+    fn eq(&self, other: &ServiceData) -> bool
+        ensures { IsTrue result ↔ (service_data_tree self.now ≡ service_data_tree other.now) }
+    {
         self.same(other)
     }
 }
@@ -166,9 +170,9 @@ impl HasTree for Data {
         }
     }
 
-    fn same(&self, other: &Data) -> bool {
+    fn agrees(&self, other: &Data) -> bool {
         match (self, other) {
-            (Data::Classification(one), Data::Classification(other)) => one.same(other),
+            (Data::Classification(one), Data::Classification(other)) => one.agrees(other),
             (Data::Classification(one), Data::ServiceData(other)) => same_entries(one, other),
             (Data::ServiceData(one), Data::Classification(other)) => same_entries(other, one),
             (Data::ServiceData(one), Data::ServiceData(other)) => same_entries(one, other),
@@ -185,7 +189,9 @@ impl PartialEq for Data {
 
     ghost laws = { same_laws data_tree };
 
-    fn eq(&self, other: &Data) -> bool {
+    fn eq(&self, other: &Data) -> bool
+        ensures { IsTrue result ↔ (data_tree self.now ≡ data_tree other.now) }
+    {
         self.same(other)
     }
 }

@@ -1,6 +1,6 @@
 //! Texts.
 
-ghost use Rattle.std.specs.Prelude.{◌≡◌, IfOk, bytes_eq, string_bytes};
+ghost use Rattle.std.specs.Prelude.{◌≡◌, ◌↔◌, IfOk, IsTrue, bytes_eq, string_bytes};
 
 use crate::copied::Copied;
 use std::alloc::{AllocError, Global};
@@ -74,7 +74,9 @@ impl PartialEq for Text {
 
     ghost laws = { Prim.search (comparing, rules) };
 
-    fn eq(&self, other: &Text) -> bool {
+    fn eq(&self, other: &Text) -> bool
+        ensures { IsTrue result ↔ (self.now ≡ other.now) }
+    {
         self.as_str() == other.as_str()
     }
 }

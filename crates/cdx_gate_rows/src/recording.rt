@@ -22,6 +22,8 @@ impl<'c> Sink for Flushes<'c> {
 
     ghost flushed = { λ s. None };
 
+    ghost tells = { λ s is. is };
+
     ghost faults = { λ s. 0 };
 
     fn put(&mut self, bytes: &[u8]) -> Result<usize, Failed> {

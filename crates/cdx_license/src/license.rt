@@ -2,7 +2,7 @@
 
 ghost use Rattle.cdx_models.specs.Trees.{expression, license};
 ghost use Rattle.cdx_schema.specs.Kinds.{a_license_choice, a_license_identifier, a_list, licenses};
-ghost use Rattle.std.specs.Prelude.{◌≡◌, refl, IfOk, None};
+ghost use Rattle.std.specs.Prelude.{◌≡◌, refl, IfOk, None, ◌↔◌, IsTrue};
 ghost use Rattle.cdx_license.specs.Records.{identifier_tree, identifier_there, license_tree, expression_tree, choice_tree, choice_there, licenses_tree};
 ghost use Rattle.cdx_models.specs.Same.{same};
 ghost use Rattle.cdx_models.specs.SameLaws.{same_laws};
@@ -33,12 +33,12 @@ impl HasTree for LicenseIdentifier {
         }
     }
 
-    fn same(&self, other: &LicenseIdentifier) -> bool {
+    fn agrees(&self, other: &LicenseIdentifier) -> bool {
         match (self, other) {
-            (LicenseIdentifier::SpdxId(one), LicenseIdentifier::SpdxId(other)) => one.same(other),
+            (LicenseIdentifier::SpdxId(one), LicenseIdentifier::SpdxId(other)) => one.agrees(other),
             (LicenseIdentifier::SpdxId(_), LicenseIdentifier::Name(_)) => false,
             (LicenseIdentifier::Name(_), LicenseIdentifier::SpdxId(_)) => false,
-            (LicenseIdentifier::Name(one), LicenseIdentifier::Name(other)) => one.same(other),
+            (LicenseIdentifier::Name(one), LicenseIdentifier::Name(other)) => one.agrees(other),
         }
     }
 }
@@ -52,7 +52,9 @@ impl PartialEq for LicenseIdentifier {
 
     ghost laws = { same_laws identifier_tree };
 
-    fn eq(&self, other: &LicenseIdentifier) -> bool {
+    fn eq(&self, other: &LicenseIdentifier) -> bool
+        ensures { IsTrue result ↔ (identifier_tree self.now ≡ identifier_tree other.now) }
+    {
         self.same(other)
     }
 }
@@ -100,9 +102,9 @@ impl HasTree for License {
         })
     }
 
-    fn same(&self, other: &License) -> bool {
+    fn agrees(&self, other: &License) -> bool {
         same_row(&self.bom_ref, &other.bom_ref)
-            && self.license_identifier.same(&other.license_identifier)
+            && self.license_identifier.agrees(&other.license_identifier)
             && same_row(&self.text, &other.text)
             && same_row(&self.url, &other.url)
             && same_row(&self.properties, &other.properties)
@@ -122,7 +124,9 @@ impl PartialEq for License {
 
     ghost laws = { same_laws license_tree };
 
-    fn eq(&self, other: &License) -> bool {
+    fn eq(&self, other: &License) -> bool
+        ensures { IsTrue result ↔ (license_tree self.now ≡ license_tree other.now) }
+    {
         self.same(other)
     }
 }
@@ -160,8 +164,8 @@ impl HasTree for Expression {
         })
     }
 
-    fn same(&self, other: &Expression) -> bool {
-        same_row(&self.bom_ref, &other.bom_ref) && self.expression.same(&other.expression)
+    fn agrees(&self, other: &Expression) -> bool {
+        same_row(&self.bom_ref, &other.bom_ref) && self.expression.agrees(&other.expression)
     }
 }
 
@@ -178,7 +182,9 @@ impl PartialEq for Expression {
 
     ghost laws = { same_laws expression_tree };
 
-    fn eq(&self, other: &Expression) -> bool {
+    fn eq(&self, other: &Expression) -> bool
+        ensures { IsTrue result ↔ (expression_tree self.now ≡ expression_tree other.now) }
+    {
         self.same(other)
     }
 }
@@ -204,12 +210,12 @@ impl HasTree for LicenseChoice {
         }
     }
 
-    fn same(&self, other: &LicenseChoice) -> bool {
+    fn agrees(&self, other: &LicenseChoice) -> bool {
         match (self, other) {
-            (LicenseChoice::License(one), LicenseChoice::License(other)) => one.same(other),
+            (LicenseChoice::License(one), LicenseChoice::License(other)) => one.agrees(other),
             (LicenseChoice::License(_), LicenseChoice::Expression(_)) => false,
             (LicenseChoice::Expression(_), LicenseChoice::License(_)) => false,
-            (LicenseChoice::Expression(one), LicenseChoice::Expression(other)) => one.same(other),
+            (LicenseChoice::Expression(one), LicenseChoice::Expression(other)) => one.agrees(other),
         }
     }
 }
@@ -223,7 +229,9 @@ impl PartialEq for LicenseChoice {
 
     ghost laws = { same_laws choice_tree };
 
-    fn eq(&self, other: &LicenseChoice) -> bool {
+    fn eq(&self, other: &LicenseChoice) -> bool
+        ensures { IsTrue result ↔ (choice_tree self.now ≡ choice_tree other.now) }
+    {
         self.same(other)
     }
 }
@@ -241,8 +249,8 @@ impl HasTree for Licenses {
         Ok(Licenses(self.0.copy(alloc)?))
     }
 
-    fn same(&self, other: &Licenses) -> bool {
-        self.0.same(&other.0)
+    fn agrees(&self, other: &Licenses) -> bool {
+        self.0.agrees(&other.0)
     }
 }
 
@@ -255,7 +263,9 @@ impl PartialEq for Licenses {
 
     ghost laws = { same_laws licenses_tree };
 
-    fn eq(&self, other: &Licenses) -> bool {
+    fn eq(&self, other: &Licenses) -> bool
+        ensures { IsTrue result ↔ (licenses_tree self.now ≡ licenses_tree other.now) }
+    {
         self.same(other)
     }
 }

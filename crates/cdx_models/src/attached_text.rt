@@ -1,6 +1,6 @@
 //! Texts that stand in a bill whole.
 
-ghost use Rattle.std.specs.Prelude.{refl};
+ghost use Rattle.std.specs.Prelude.{refl, ◌≡◌, ◌↔◌, IsTrue};
 ghost use Rattle.cdx_models.specs.Records.{attached_text_tree};
 ghost use Rattle.cdx_models.specs.Same.{same};
 ghost use Rattle.cdx_models.specs.SameLaws.{same_laws};
@@ -44,10 +44,10 @@ impl HasTree for AttachedText {
         })
     }
 
-    fn same(&self, other: &AttachedText) -> bool {
+    fn agrees(&self, other: &AttachedText) -> bool {
         same_row(&self.content_type, &other.content_type)
             && same_row(&self.encoding, &other.encoding)
-            && self.content.same(&other.content)
+            && self.content.agrees(&other.content)
     }
 }
 
@@ -56,7 +56,9 @@ impl PartialEq for AttachedText {
 
     ghost laws = { same_laws attached_text_tree };
 
-    fn eq(&self, other: &AttachedText) -> bool {
+    fn eq(&self, other: &AttachedText) -> bool
+        ensures { IsTrue result ↔ (attached_text_tree self.now ≡ attached_text_tree other.now) }
+    {
         self.same(other)
     }
 }

@@ -1,6 +1,6 @@
 //! The version and the serial number of a bill.
 
-ghost use Rattle.std.specs.Prelude.{◌≡◌, refl};
+ghost use Rattle.std.specs.Prelude.{◌≡◌, refl, ◌↔◌, IsTrue};
 ghost use Rattle.cdx_models.specs.Versions.{label, version_of, lowest, knows};
 ghost use Rattle.cdx_models.specs.Records.{urn_tree};
 ghost use Rattle.cdx_models.specs.Same.{same};
@@ -81,8 +81,8 @@ impl HasTree for UrnUuid {
         Ok(UrnUuid(self.0.copy(alloc)?))
     }
 
-    fn same(&self, other: &UrnUuid) -> bool {
-        self.0.same(&other.0)
+    fn agrees(&self, other: &UrnUuid) -> bool {
+        self.0.agrees(&other.0)
     }
 }
 
@@ -91,7 +91,9 @@ impl PartialEq for UrnUuid {
 
     ghost laws = { same_laws urn_tree };
 
-    fn eq(&self, other: &UrnUuid) -> bool {
+    fn eq(&self, other: &UrnUuid) -> bool
+        ensures { IsTrue result ↔ (urn_tree self.now ≡ urn_tree other.now) }
+    {
         self.same(other)
     }
 }

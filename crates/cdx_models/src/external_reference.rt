@@ -1,6 +1,6 @@
 //! References to what stands outside the bill.
 
-ghost use Rattle.std.specs.Prelude.{◌≡◌, refl, IfOk};
+ghost use Rattle.std.specs.Prelude.{◌≡◌, refl, IfOk, ◌↔◌, IsTrue};
 ghost use Rattle.cdx_models.specs.Records.{uri_tree, reference_tree, references_tree};
 ghost use Rattle.cdx_models.specs.Addresses.{begins_as_bom_link, uri_of, uri_text};
 ghost use Rattle.cdx_models.specs.Same.{same};
@@ -64,7 +64,7 @@ impl HasTree for Uri {
         }
     }
 
-    fn same(&self, other: &Uri) -> bool {
+    fn agrees(&self, other: &Uri) -> bool {
         self.as_str() == other.as_str()
     }
 }
@@ -74,7 +74,9 @@ impl PartialEq for Uri {
 
     ghost laws = { same_laws uri_tree };
 
-    fn eq(&self, other: &Uri) -> bool {
+    fn eq(&self, other: &Uri) -> bool
+        ensures { IsTrue result ↔ (uri_tree self.now ≡ uri_tree other.now) }
+    {
         self.same(other)
     }
 }
@@ -118,10 +120,10 @@ impl HasTree for ExternalReference {
         })
     }
 
-    fn same(&self, other: &ExternalReference) -> bool {
+    fn agrees(&self, other: &ExternalReference) -> bool {
         self.external_reference_type
-            .same(&other.external_reference_type)
-            && self.url.same(&other.url)
+            .agrees(&other.external_reference_type)
+            && self.url.agrees(&other.url)
             && same_row(&self.comment, &other.comment)
             && same_row(&self.hashes, &other.hashes)
     }
@@ -132,7 +134,9 @@ impl PartialEq for ExternalReference {
 
     ghost laws = { same_laws reference_tree };
 
-    fn eq(&self, other: &ExternalReference) -> bool {
+    fn eq(&self, other: &ExternalReference) -> bool
+        ensures { IsTrue result ↔ (reference_tree self.now ≡ reference_tree other.now) }
+    {
         self.same(other)
     }
 }
@@ -150,8 +154,8 @@ impl HasTree for ExternalReferences {
         Ok(ExternalReferences(self.0.copy(alloc)?))
     }
 
-    fn same(&self, other: &ExternalReferences) -> bool {
-        self.0.same(&other.0)
+    fn agrees(&self, other: &ExternalReferences) -> bool {
+        self.0.agrees(&other.0)
     }
 }
 
@@ -160,7 +164,9 @@ impl PartialEq for ExternalReferences {
 
     ghost laws = { same_laws references_tree };
 
-    fn eq(&self, other: &ExternalReferences) -> bool {
+    fn eq(&self, other: &ExternalReferences) -> bool
+        ensures { IsTrue result ↔ (references_tree self.now ≡ references_tree other.now) }
+    {
         self.same(other)
     }
 }

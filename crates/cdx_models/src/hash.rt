@@ -1,6 +1,6 @@
 //! Hashes of files.
 
-ghost use Rattle.std.specs.Prelude.{refl};
+ghost use Rattle.std.specs.Prelude.{refl, ◌≡◌, ◌↔◌, IsTrue};
 ghost use Rattle.cdx_models.specs.Records.{hash_value_tree, hash_tree, hashes_tree};
 ghost use Rattle.cdx_models.specs.Same.{same};
 ghost use Rattle.cdx_models.specs.SameLaws.{same_laws};
@@ -22,8 +22,8 @@ impl HasTree for HashValue {
         Ok(HashValue(self.0.copy(alloc)?))
     }
 
-    fn same(&self, other: &HashValue) -> bool {
-        self.0.same(&other.0)
+    fn agrees(&self, other: &HashValue) -> bool {
+        self.0.agrees(&other.0)
     }
 }
 
@@ -32,7 +32,9 @@ impl PartialEq for HashValue {
 
     ghost laws = { same_laws hash_value_tree };
 
-    fn eq(&self, other: &HashValue) -> bool {
+    fn eq(&self, other: &HashValue) -> bool
+        ensures { IsTrue result ↔ (hash_value_tree self.now ≡ hash_value_tree other.now) }
+    {
         self.same(other)
     }
 }
@@ -58,8 +60,8 @@ impl HasTree for Hash {
         })
     }
 
-    fn same(&self, other: &Hash) -> bool {
-        self.alg.same(&other.alg) && self.content.same(&other.content)
+    fn agrees(&self, other: &Hash) -> bool {
+        self.alg.agrees(&other.alg) && self.content.agrees(&other.content)
     }
 }
 
@@ -68,7 +70,9 @@ impl PartialEq for Hash {
 
     ghost laws = { same_laws hash_tree };
 
-    fn eq(&self, other: &Hash) -> bool {
+    fn eq(&self, other: &Hash) -> bool
+        ensures { IsTrue result ↔ (hash_tree self.now ≡ hash_tree other.now) }
+    {
         self.same(other)
     }
 }
@@ -86,8 +90,8 @@ impl HasTree for Hashes {
         Ok(Hashes(self.0.copy(alloc)?))
     }
 
-    fn same(&self, other: &Hashes) -> bool {
-        self.0.same(&other.0)
+    fn agrees(&self, other: &Hashes) -> bool {
+        self.0.agrees(&other.0)
     }
 }
 
@@ -96,7 +100,9 @@ impl PartialEq for Hashes {
 
     ghost laws = { same_laws hashes_tree };
 
-    fn eq(&self, other: &Hashes) -> bool {
+    fn eq(&self, other: &Hashes) -> bool
+        ensures { IsTrue result ↔ (hashes_tree self.now ≡ hashes_tree other.now) }
+    {
         self.same(other)
     }
 }

@@ -1,6 +1,6 @@
 //! Organizations and their contacts.
 
-ghost use Rattle.std.specs.Prelude.{◌≡◌, refl, IfOk, None, Some};
+ghost use Rattle.std.specs.Prelude.{◌≡◌, refl, IfOk, None, Some, ◌↔◌, IsTrue};
 ghost use Rattle.cdx_models.specs.Records.{contact_tree, entity_tree};
 ghost use Rattle.cdx_models.specs.Same.{same};
 ghost use Rattle.cdx_models.specs.SameLaws.{same_laws};
@@ -48,7 +48,7 @@ impl HasTree for OrganizationalContact {
         })
     }
 
-    fn same(&self, other: &OrganizationalContact) -> bool {
+    fn agrees(&self, other: &OrganizationalContact) -> bool {
         same_row(&self.bom_ref, &other.bom_ref)
             && same_row(&self.name, &other.name)
             && same_row(&self.email, &other.email)
@@ -61,7 +61,9 @@ impl PartialEq for OrganizationalContact {
 
     ghost laws = { same_laws contact_tree };
 
-    fn eq(&self, other: &OrganizationalContact) -> bool {
+    fn eq(&self, other: &OrganizationalContact) -> bool
+        ensures { IsTrue result ↔ (contact_tree self.now ≡ contact_tree other.now) }
+    {
         self.same(other)
     }
 }
@@ -120,7 +122,7 @@ impl HasTree for OrganizationalEntity {
         })
     }
 
-    fn same(&self, other: &OrganizationalEntity) -> bool {
+    fn agrees(&self, other: &OrganizationalEntity) -> bool {
         same_row(&self.bom_ref, &other.bom_ref)
             && same_row(&self.name, &other.name)
             && same_row(&self.url, &other.url)
@@ -133,7 +135,9 @@ impl PartialEq for OrganizationalEntity {
 
     ghost laws = { same_laws entity_tree };
 
-    fn eq(&self, other: &OrganizationalEntity) -> bool {
+    fn eq(&self, other: &OrganizationalEntity) -> bool
+        ensures { IsTrue result ↔ (entity_tree self.now ≡ entity_tree other.now) }
+    {
         self.same(other)
     }
 }

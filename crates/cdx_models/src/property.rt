@@ -1,6 +1,6 @@
 //! Properties: names with values.
 
-ghost use Rattle.std.specs.Prelude.{refl};
+ghost use Rattle.std.specs.Prelude.{refl, ◌≡◌, ◌↔◌, IsTrue};
 ghost use Rattle.cdx_models.specs.Records.{property_tree, properties_tree};
 ghost use Rattle.cdx_models.specs.Same.{same};
 ghost use Rattle.cdx_models.specs.SameLaws.{same_laws};
@@ -30,8 +30,8 @@ impl HasTree for Property {
         })
     }
 
-    fn same(&self, other: &Property) -> bool {
-        self.name.same(&other.name) && self.value.same(&other.value)
+    fn agrees(&self, other: &Property) -> bool {
+        self.name.agrees(&other.name) && self.value.agrees(&other.value)
     }
 }
 
@@ -40,7 +40,9 @@ impl PartialEq for Property {
 
     ghost laws = { same_laws property_tree };
 
-    fn eq(&self, other: &Property) -> bool {
+    fn eq(&self, other: &Property) -> bool
+        ensures { IsTrue result ↔ (property_tree self.now ≡ property_tree other.now) }
+    {
         self.same(other)
     }
 }
@@ -58,8 +60,8 @@ impl HasTree for Properties {
         Ok(Properties(self.0.copy(alloc)?))
     }
 
-    fn same(&self, other: &Properties) -> bool {
-        self.0.same(&other.0)
+    fn agrees(&self, other: &Properties) -> bool {
+        self.0.agrees(&other.0)
     }
 }
 
@@ -68,7 +70,9 @@ impl PartialEq for Properties {
 
     ghost laws = { same_laws properties_tree };
 
-    fn eq(&self, other: &Properties) -> bool {
+    fn eq(&self, other: &Properties) -> bool
+        ensures { IsTrue result ↔ (properties_tree self.now ≡ properties_tree other.now) }
+    {
         self.same(other)
     }
 }

@@ -1,6 +1,6 @@
 //! Tools that made a bill.
 
-ghost use Rattle.std.specs.Prelude.{◌≡◌, refl, None};
+ghost use Rattle.std.specs.Prelude.{◌≡◌, refl, None, ◌↔◌, IsTrue};
 ghost use Rattle.cdx_models.specs.Records.{tool_tree};
 ghost use Rattle.cdx_models.specs.Same.{same};
 ghost use Rattle.cdx_models.specs.SameLaws.{same_laws};
@@ -76,7 +76,7 @@ impl HasTree for Tool {
         })
     }
 
-    fn same(&self, other: &Tool) -> bool {
+    fn agrees(&self, other: &Tool) -> bool {
         same_row(&self.vendor, &other.vendor)
             && same_row(&self.name, &other.name)
             && same_row(&self.version, &other.version)
@@ -90,7 +90,9 @@ impl PartialEq for Tool {
 
     ghost laws = { same_laws tool_tree };
 
-    fn eq(&self, other: &Tool) -> bool {
+    fn eq(&self, other: &Tool) -> bool
+        ensures { IsTrue result ↔ (tool_tree self.now ≡ tool_tree other.now) }
+    {
         self.same(other)
     }
 }

@@ -1,6 +1,6 @@
 //! Values that have a tree: copies, comparisons, and the same for fields that may be absent.
 
-ghost use Rattle.std.specs.Prelude.{◌≡◌, IfOk, refl, false};
+ghost use Rattle.std.specs.Prelude.{◌≡◌, ◌↔◌, IfOk, IsTrue, refl, false};
 ghost use Rattle.cdx_models.specs.Trees.{Tree, text, number, boolean, present, list_tree, is_absent};
 ghost use Rattle.cdx_models.specs.Same.{same};
 
@@ -15,9 +15,17 @@ pub trait HasTree {
     fn copy(&self, alloc: Global) -> Result<Self, AllocError>
         ensures { IfOk result (λ r. tree r ≡ tree self.now) };
 
-    /// Whether the trees are equal. It takes no memory.
-    fn same(&self, other: &Self) -> bool
+    /// What the test of the trees answers, row by row. It takes no memory.
+    fn agrees(&self, other: &Self) -> bool
         ensures { result ≡ same (tree self.now) (tree other.now) };
+
+    /// Whether the trees are equal. It takes no memory.
+    final fn same(&self, other: &Self) -> bool
+        ensures test { result ≡ same (tree self.now) (tree other.now) }
+        ensures equality { IsTrue result ↔ (tree self.now ≡ tree other.now) }
+    {
+        self.agrees(other)
+    }
 
     // The tree isn't absent.
     ghost there: { (x : Self) → is_absent (tree x) ≡ false };
@@ -32,7 +40,7 @@ impl HasTree for Text {
         Text::new(alloc, self.as_str())
     }
 
-    fn same(&self, other: &Text) -> bool {
+    fn agrees(&self, other: &Text) -> bool {
         self.is(other.as_str())
     }
 }
@@ -46,7 +54,7 @@ impl HasTree for bool {
         Ok(*self)
     }
 
-    fn same(&self, other: &bool) -> bool {
+    fn agrees(&self, other: &bool) -> bool {
         *self == *other
     }
 }
@@ -60,7 +68,7 @@ impl HasTree for u32 {
         Ok(*self)
     }
 
-    fn same(&self, other: &u32) -> bool {
+    fn agrees(&self, other: &u32) -> bool {
         *self == *other
     }
 }
@@ -78,14 +86,14 @@ impl<T: HasTree + Drop> HasTree for List<T> {
         Ok(copies)
     }
 
-    fn same(&self, other: &List<T>) -> bool {
+    fn agrees(&self, other: &List<T>) -> bool {
         let one = self.as_slice();
         let other = other.as_slice();
         if one.len() != other.len() {
             return false;
         }
         for i in 0..one.len() {
-            if !one[i].same(&other[i]) {
+            if !one[i].agrees(&other[i]) {
                 return false;
             }
         }
@@ -109,7 +117,7 @@ pub fn same_row<T: HasTree>(one: &Option<T>, other: &Option<T>) -> bool
 {
     match (one, other) {
         (None, None) => true,
-        (Some(one), Some(other)) => one.same(other),
+        (Some(one), Some(other)) => one.agrees(other),
         (None, Some(_)) => false,
         (Some(_), None) => false,
     }

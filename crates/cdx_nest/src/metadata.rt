@@ -1,7 +1,7 @@
 //! What a bill says of itself.
 
 ghost use Rattle.cdx_models.specs.Trees.{metadata};
-ghost use Rattle.std.specs.Prelude.{◌≡◌, refl, None};
+ghost use Rattle.std.specs.Prelude.{◌≡◌, refl, None, ◌↔◌, IsTrue};
 ghost use Rattle.cdx_models.specs.Same.{same};
 ghost use Rattle.cdx_models.specs.SameLaws.{same_laws};
 ghost use Rattle.cdx_models.specs.Trees.{metadata};
@@ -108,7 +108,7 @@ impl HasTree for Metadata {
         copy_metadata(self, alloc)
     }
 
-    fn same(&self, other: &Metadata) -> bool {
+    fn agrees(&self, other: &Metadata) -> bool {
         same_metadata(self, other)
     }
 }
@@ -126,7 +126,9 @@ impl PartialEq for Metadata {
 
     ghost laws = { same_laws metadata_tree };
 
-    fn eq(&self, other: &Metadata) -> bool {
+    fn eq(&self, other: &Metadata) -> bool
+        ensures { IsTrue result ↔ (metadata_tree self.now ≡ metadata_tree other.now) }
+    {
         self.same(other)
     }
 }

@@ -1,5 +1,6 @@
 //! The tools that made a bill.
 
+ghost use Rattle.std.specs.Prelude.{◌≡◌, ◌↔◌, IsTrue};
 ghost use Rattle.cdx_schema.specs.Kinds.{a_tools};
 ghost use Rattle.cdx_models.specs.Same.{same};
 ghost use Rattle.cdx_models.specs.SameLaws.{same_laws};
@@ -44,9 +45,9 @@ impl HasTree for Tools {
         }
     }
 
-    fn same(&self, other: &Tools) -> bool {
+    fn agrees(&self, other: &Tools) -> bool {
         match (self, other) {
-            (Tools::List(one), Tools::List(other)) => one.same(other),
+            (Tools::List(one), Tools::List(other)) => one.agrees(other),
             (
                 Tools::Object {
                     services,
@@ -71,7 +72,9 @@ impl PartialEq for Tools {
 
     ghost laws = { same_laws tools_tree };
 
-    fn eq(&self, other: &Tools) -> bool {
+    fn eq(&self, other: &Tools) -> bool
+        ensures { IsTrue result ↔ (tools_tree self.now ≡ tools_tree other.now) }
+    {
         self.same(other)
     }
 }

@@ -2,7 +2,7 @@
 
 ghost use Rattle.cdx_models.specs.Trees.{copyright, evidence, swid};
 ghost use Rattle.cdx_schema.specs.Kinds.{a_list, a_text, copyright_texts};
-ghost use Rattle.std.specs.Prelude.{refl};
+ghost use Rattle.std.specs.Prelude.{refl, ◌≡◌, ◌↔◌, IsTrue};
 ghost use Rattle.cdx_models.specs.Same.{same};
 ghost use Rattle.cdx_models.specs.SameLaws.{same_laws};
 ghost use Rattle.cdx_parts.specs.Records.{swid_tree, cpe_tree, mime_type_tree, evidence_tree, copyright_tree, copyrights_tree};
@@ -64,9 +64,9 @@ impl HasTree for Swid {
         })
     }
 
-    fn same(&self, other: &Swid) -> bool {
-        self.tag_id.same(&other.tag_id)
-            && self.name.same(&other.name)
+    fn agrees(&self, other: &Swid) -> bool {
+        self.tag_id.agrees(&other.tag_id)
+            && self.name.agrees(&other.name)
             && same_row(&self.version, &other.version)
             && same_row(&self.tag_version, &other.tag_version)
             && same_row(&self.patch, &other.patch)
@@ -88,7 +88,9 @@ impl PartialEq for Swid {
 
     ghost laws = { same_laws swid_tree };
 
-    fn eq(&self, other: &Swid) -> bool {
+    fn eq(&self, other: &Swid) -> bool
+        ensures { IsTrue result ↔ (swid_tree self.now ≡ swid_tree other.now) }
+    {
         self.same(other)
     }
 }
@@ -106,8 +108,8 @@ impl HasTree for Cpe {
         Ok(Cpe(self.0.copy(alloc)?))
     }
 
-    fn same(&self, other: &Cpe) -> bool {
-        self.0.same(&other.0)
+    fn agrees(&self, other: &Cpe) -> bool {
+        self.0.agrees(&other.0)
     }
 }
 
@@ -120,7 +122,9 @@ impl PartialEq for Cpe {
 
     ghost laws = { same_laws cpe_tree };
 
-    fn eq(&self, other: &Cpe) -> bool {
+    fn eq(&self, other: &Cpe) -> bool
+        ensures { IsTrue result ↔ (cpe_tree self.now ≡ cpe_tree other.now) }
+    {
         self.same(other)
     }
 }
@@ -138,8 +142,8 @@ impl HasTree for MimeType {
         Ok(MimeType(self.0.copy(alloc)?))
     }
 
-    fn same(&self, other: &MimeType) -> bool {
-        self.0.same(&other.0)
+    fn agrees(&self, other: &MimeType) -> bool {
+        self.0.agrees(&other.0)
     }
 }
 
@@ -152,7 +156,9 @@ impl PartialEq for MimeType {
 
     ghost laws = { same_laws mime_type_tree };
 
-    fn eq(&self, other: &MimeType) -> bool {
+    fn eq(&self, other: &MimeType) -> bool
+        ensures { IsTrue result ↔ (mime_type_tree self.now ≡ mime_type_tree other.now) }
+    {
         self.same(other)
     }
 }
@@ -188,7 +194,7 @@ impl HasTree for ComponentEvidence {
         })
     }
 
-    fn same(&self, other: &ComponentEvidence) -> bool {
+    fn agrees(&self, other: &ComponentEvidence) -> bool {
         same_row(&self.licenses, &other.licenses) && same_row(&self.copyright, &other.copyright)
     }
 }
@@ -206,7 +212,9 @@ impl PartialEq for ComponentEvidence {
 
     ghost laws = { same_laws evidence_tree };
 
-    fn eq(&self, other: &ComponentEvidence) -> bool {
+    fn eq(&self, other: &ComponentEvidence) -> bool
+        ensures { IsTrue result ↔ (evidence_tree self.now ≡ evidence_tree other.now) }
+    {
         self.same(other)
     }
 }
@@ -229,8 +237,8 @@ impl HasTree for Copyright {
         })
     }
 
-    fn same(&self, other: &Copyright) -> bool {
-        self.text.same(&other.text)
+    fn agrees(&self, other: &Copyright) -> bool {
+        self.text.agrees(&other.text)
     }
 }
 
@@ -247,7 +255,9 @@ impl PartialEq for Copyright {
 
     ghost laws = { same_laws copyright_tree };
 
-    fn eq(&self, other: &Copyright) -> bool {
+    fn eq(&self, other: &Copyright) -> bool
+        ensures { IsTrue result ↔ (copyright_tree self.now ≡ copyright_tree other.now) }
+    {
         self.same(other)
     }
 }
@@ -265,8 +275,8 @@ impl HasTree for CopyrightTexts {
         Ok(CopyrightTexts(self.0.copy(alloc)?))
     }
 
-    fn same(&self, other: &CopyrightTexts) -> bool {
-        self.0.same(&other.0)
+    fn agrees(&self, other: &CopyrightTexts) -> bool {
+        self.0.agrees(&other.0)
     }
 }
 
@@ -279,7 +289,9 @@ impl PartialEq for CopyrightTexts {
 
     ghost laws = { same_laws copyrights_tree };
 
-    fn eq(&self, other: &CopyrightTexts) -> bool {
+    fn eq(&self, other: &CopyrightTexts) -> bool
+        ensures { IsTrue result ↔ (copyrights_tree self.now ≡ copyrights_tree other.now) }
+    {
         self.same(other)
     }
 }

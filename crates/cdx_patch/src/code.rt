@@ -2,7 +2,7 @@
 
 ghost use Rattle.cdx_models.specs.Trees.{diff, issue, patch, source};
 ghost use Rattle.cdx_schema.specs.Kinds.{a_list, patches};
-ghost use Rattle.std.specs.Prelude.{refl};
+ghost use Rattle.std.specs.Prelude.{refl, ◌≡◌, ◌↔◌, IsTrue};
 ghost use Rattle.cdx_models.specs.Same.{same};
 ghost use Rattle.cdx_models.specs.SameLaws.{same_laws};
 ghost use Rattle.cdx_patch.specs.Records.{diff_tree, source_tree, issue_tree, patch_tree, patches_tree};
@@ -40,7 +40,7 @@ impl HasTree for Diff {
         })
     }
 
-    fn same(&self, other: &Diff) -> bool {
+    fn agrees(&self, other: &Diff) -> bool {
         same_row(&self.text, &other.text) && same_row(&self.url, &other.url)
     }
 }
@@ -58,7 +58,9 @@ impl PartialEq for Diff {
 
     ghost laws = { same_laws diff_tree };
 
-    fn eq(&self, other: &Diff) -> bool {
+    fn eq(&self, other: &Diff) -> bool
+        ensures { IsTrue result ↔ (diff_tree self.now ≡ diff_tree other.now) }
+    {
         self.same(other)
     }
 }
@@ -91,7 +93,7 @@ impl HasTree for Source {
         })
     }
 
-    fn same(&self, other: &Source) -> bool {
+    fn agrees(&self, other: &Source) -> bool {
         same_row(&self.name, &other.name) && same_row(&self.url, &other.url)
     }
 }
@@ -109,7 +111,9 @@ impl PartialEq for Source {
 
     ghost laws = { same_laws source_tree };
 
-    fn eq(&self, other: &Source) -> bool {
+    fn eq(&self, other: &Source) -> bool
+        ensures { IsTrue result ↔ (source_tree self.now ≡ source_tree other.now) }
+    {
         self.same(other)
     }
 }
@@ -161,8 +165,8 @@ impl HasTree for Issue {
         })
     }
 
-    fn same(&self, other: &Issue) -> bool {
-        self.issue_type.same(&other.issue_type)
+    fn agrees(&self, other: &Issue) -> bool {
+        self.issue_type.agrees(&other.issue_type)
             && same_row(&self.id, &other.id)
             && same_row(&self.name, &other.name)
             && same_row(&self.description, &other.description)
@@ -184,7 +188,9 @@ impl PartialEq for Issue {
 
     ghost laws = { same_laws issue_tree };
 
-    fn eq(&self, other: &Issue) -> bool {
+    fn eq(&self, other: &Issue) -> bool
+        ensures { IsTrue result ↔ (issue_tree self.now ≡ issue_tree other.now) }
+    {
         self.same(other)
     }
 }
@@ -224,8 +230,8 @@ impl HasTree for Patch {
         })
     }
 
-    fn same(&self, other: &Patch) -> bool {
-        self.patch_type.same(&other.patch_type)
+    fn agrees(&self, other: &Patch) -> bool {
+        self.patch_type.agrees(&other.patch_type)
             && same_row(&self.diff, &other.diff)
             && same_row(&self.resolves, &other.resolves)
     }
@@ -244,7 +250,9 @@ impl PartialEq for Patch {
 
     ghost laws = { same_laws patch_tree };
 
-    fn eq(&self, other: &Patch) -> bool {
+    fn eq(&self, other: &Patch) -> bool
+        ensures { IsTrue result ↔ (patch_tree self.now ≡ patch_tree other.now) }
+    {
         self.same(other)
     }
 }
@@ -262,8 +270,8 @@ impl HasTree for Patches {
         Ok(Patches(self.0.copy(alloc)?))
     }
 
-    fn same(&self, other: &Patches) -> bool {
-        self.0.same(&other.0)
+    fn agrees(&self, other: &Patches) -> bool {
+        self.0.agrees(&other.0)
     }
 }
 
@@ -276,7 +284,9 @@ impl PartialEq for Patches {
 
     ghost laws = { same_laws patches_tree };
 
-    fn eq(&self, other: &Patches) -> bool {
+    fn eq(&self, other: &Patches) -> bool
+        ensures { IsTrue result ↔ (patches_tree self.now ≡ patches_tree other.now) }
+    {
         self.same(other)
     }
 }

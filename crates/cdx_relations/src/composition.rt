@@ -2,7 +2,7 @@
 
 ghost use Rattle.cdx_models.specs.Trees.{composition};
 ghost use Rattle.cdx_schema.specs.Kinds.{a_list, a_reference, compositions};
-ghost use Rattle.std.specs.Prelude.{◌≡◌, refl, IfOk};
+ghost use Rattle.std.specs.Prelude.{◌≡◌, refl, IfOk, ◌↔◌, IsTrue};
 ghost use Rattle.cdx_relations.specs.Records.{bom_reference_tree, composition_tree, compositions_tree};
 ghost use Rattle.cdx_models.specs.Same.{same};
 ghost use Rattle.cdx_models.specs.SameLaws.{same_laws};
@@ -35,8 +35,8 @@ impl HasTree for BomReference {
         Ok(BomReference(self.0.copy(alloc)?))
     }
 
-    fn same(&self, other: &BomReference) -> bool {
-        self.0.same(&other.0)
+    fn agrees(&self, other: &BomReference) -> bool {
+        self.0.agrees(&other.0)
     }
 }
 
@@ -49,7 +49,9 @@ impl PartialEq for BomReference {
 
     ghost laws = { same_laws bom_reference_tree };
 
-    fn eq(&self, other: &BomReference) -> bool {
+    fn eq(&self, other: &BomReference) -> bool
+        ensures { IsTrue result ↔ (bom_reference_tree self.now ≡ bom_reference_tree other.now) }
+    {
         self.same(other)
     }
 }
@@ -101,9 +103,9 @@ impl HasTree for Composition {
         })
     }
 
-    fn same(&self, other: &Composition) -> bool {
+    fn agrees(&self, other: &Composition) -> bool {
         same_row(&self.bom_ref, &other.bom_ref)
-            && self.aggregate.same(&other.aggregate)
+            && self.aggregate.agrees(&other.aggregate)
             && same_row(&self.assemblies, &other.assemblies)
             && same_row(&self.dependencies, &other.dependencies)
             && same_row(&self.vulnerabilities, &other.vulnerabilities)
@@ -124,7 +126,9 @@ impl PartialEq for Composition {
 
     ghost laws = { same_laws composition_tree };
 
-    fn eq(&self, other: &Composition) -> bool {
+    fn eq(&self, other: &Composition) -> bool
+        ensures { IsTrue result ↔ (composition_tree self.now ≡ composition_tree other.now) }
+    {
         self.same(other)
     }
 }
@@ -142,8 +146,8 @@ impl HasTree for Compositions {
         Ok(Compositions(self.0.copy(alloc)?))
     }
 
-    fn same(&self, other: &Compositions) -> bool {
-        self.0.same(&other.0)
+    fn agrees(&self, other: &Compositions) -> bool {
+        self.0.agrees(&other.0)
     }
 }
 
@@ -156,7 +160,9 @@ impl PartialEq for Compositions {
 
     ghost laws = { same_laws compositions_tree };
 
-    fn eq(&self, other: &Compositions) -> bool {
+    fn eq(&self, other: &Compositions) -> bool
+        ensures { IsTrue result ↔ (compositions_tree self.now ≡ compositions_tree other.now) }
+    {
         self.same(other)
     }
 }

@@ -2,7 +2,7 @@
 
 ghost use Rattle.cdx_models.specs.Trees.{dependency};
 ghost use Rattle.cdx_schema.specs.Kinds.{a_list, dependencies};
-ghost use Rattle.std.specs.Prelude.{refl};
+ghost use Rattle.std.specs.Prelude.{refl, ◌≡◌, ◌↔◌, IsTrue};
 ghost use Rattle.cdx_relations.specs.Records.{dependency_tree, dependencies_tree};
 ghost use Rattle.cdx_models.specs.Same.{same};
 ghost use Rattle.cdx_models.specs.SameLaws.{same_laws};
@@ -33,8 +33,9 @@ impl HasTree for Dependency {
         })
     }
 
-    fn same(&self, other: &Dependency) -> bool {
-        self.dependency_ref.same(&other.dependency_ref) && self.depends_on.same(&other.depends_on)
+    fn agrees(&self, other: &Dependency) -> bool {
+        self.dependency_ref.agrees(&other.dependency_ref)
+            && self.depends_on.agrees(&other.depends_on)
     }
 }
 
@@ -51,7 +52,9 @@ impl PartialEq for Dependency {
 
     ghost laws = { same_laws dependency_tree };
 
-    fn eq(&self, other: &Dependency) -> bool {
+    fn eq(&self, other: &Dependency) -> bool
+        ensures { IsTrue result ↔ (dependency_tree self.now ≡ dependency_tree other.now) }
+    {
         self.same(other)
     }
 }
@@ -69,8 +72,8 @@ impl HasTree for Dependencies {
         Ok(Dependencies(self.0.copy(alloc)?))
     }
 
-    fn same(&self, other: &Dependencies) -> bool {
-        self.0.same(&other.0)
+    fn agrees(&self, other: &Dependencies) -> bool {
+        self.0.agrees(&other.0)
     }
 }
 
@@ -83,7 +86,9 @@ impl PartialEq for Dependencies {
 
     ghost laws = { same_laws dependencies_tree };
 
-    fn eq(&self, other: &Dependencies) -> bool {
+    fn eq(&self, other: &Dependencies) -> bool
+        ensures { IsTrue result ↔ (dependencies_tree self.now ≡ dependencies_tree other.now) }
+    {
         self.same(other)
     }
 }

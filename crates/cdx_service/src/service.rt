@@ -1,6 +1,6 @@
 //! Services and lists of them.
 
-ghost use Rattle.std.specs.Prelude.{◌≡◌, [], ◌∷◌, ◌++◌, IfOk, OnOk, OnErr, length, slice_get, option_copied, is_some, nat_lt};
+ghost use Rattle.std.specs.Prelude.{◌≡◌, [], ◌∷◌, ◌++◌, IfOk, OnOk, OnErr, length, slice_get, option_copied, is_some, nat_lt, ◌↔◌, IsTrue};
 ghost use Rattle.cdx_models.specs.Trees.{service};
 ghost use Rattle.cdx_schema.specs.Kinds.{services, a_list, a_record};
 ghost use Rattle.cdx_models.specs.Same.{same};
@@ -151,7 +151,7 @@ impl HasTree for Service {
         copy_service(self, alloc)
     }
 
-    fn same(&self, other: &Service) -> bool {
+    fn agrees(&self, other: &Service) -> bool {
         same_service(self, other)
     }
 }
@@ -165,7 +165,9 @@ impl PartialEq for Service {
 
     ghost laws = { same_laws service_tree };
 
-    fn eq(&self, other: &Service) -> bool {
+    fn eq(&self, other: &Service) -> bool
+        ensures { IsTrue result ↔ (service_tree self.now ≡ service_tree other.now) }
+    {
         self.same(other)
     }
 }
@@ -179,7 +181,7 @@ impl HasTree for Services {
         copy_services(self, alloc)
     }
 
-    fn same(&self, other: &Services) -> bool {
+    fn agrees(&self, other: &Services) -> bool {
         same_services(self, other)
     }
 }
@@ -193,7 +195,9 @@ impl PartialEq for Services {
 
     ghost laws = { same_laws services_tree };
 
-    fn eq(&self, other: &Services) -> bool {
+    fn eq(&self, other: &Services) -> bool
+        ensures { IsTrue result ↔ (services_tree self.now ≡ services_tree other.now) }
+    {
         self.same(other)
     }
 }

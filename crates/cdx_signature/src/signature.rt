@@ -2,7 +2,7 @@
 
 ghost use Rattle.cdx_models.specs.Trees.{signer};
 ghost use Rattle.cdx_schema.specs.Kinds.{a_signature, a_text};
-ghost use Rattle.std.specs.Prelude.{◌≡◌, refl, IfOk};
+ghost use Rattle.std.specs.Prelude.{◌≡◌, refl, IfOk, ◌↔◌, IsTrue};
 ghost use Rattle.cdx_signature.specs.Records.{algorithm_tree, signer_tree, signature_tree, signature_there};
 ghost use Rattle.cdx_signature.specs.Signatures.{algorithm_of, algorithm_name, signer_of};
 ghost use Rattle.cdx_models.specs.Same.{same};
@@ -124,7 +124,7 @@ impl HasTree for Algorithm {
         }
     }
 
-    fn same(&self, other: &Algorithm) -> bool {
+    fn agrees(&self, other: &Algorithm) -> bool {
         self.as_str() == other.as_str()
     }
 }
@@ -138,7 +138,9 @@ impl PartialEq for Algorithm {
 
     ghost laws = { same_laws algorithm_tree };
 
-    fn eq(&self, other: &Algorithm) -> bool {
+    fn eq(&self, other: &Algorithm) -> bool
+        ensures { IsTrue result ↔ (algorithm_tree self.now ≡ algorithm_tree other.now) }
+    {
         self.same(other)
     }
 }
@@ -186,8 +188,8 @@ impl HasTree for Signer {
         })
     }
 
-    fn same(&self, other: &Signer) -> bool {
-        self.algorithm.same(&other.algorithm) && self.value.same(&other.value)
+    fn agrees(&self, other: &Signer) -> bool {
+        self.algorithm.agrees(&other.algorithm) && self.value.agrees(&other.value)
     }
 }
 
@@ -204,7 +206,9 @@ impl PartialEq for Signer {
 
     ghost laws = { same_laws signer_tree };
 
-    fn eq(&self, other: &Signer) -> bool {
+    fn eq(&self, other: &Signer) -> bool
+        ensures { IsTrue result ↔ (signer_tree self.now ≡ signer_tree other.now) }
+    {
         self.same(other)
     }
 }
@@ -256,17 +260,17 @@ impl HasTree for Signature {
         }
     }
 
-    fn same(&self, other: &Signature) -> bool {
+    fn agrees(&self, other: &Signature) -> bool {
         match (self, other) {
-            (Signature::Signers(one), Signature::Signers(other)) => one.same(other),
+            (Signature::Signers(one), Signature::Signers(other)) => one.agrees(other),
             (Signature::Signers(_), Signature::Chain(_)) => false,
             (Signature::Signers(_), Signature::Single(_)) => false,
             (Signature::Chain(_), Signature::Signers(_)) => false,
-            (Signature::Chain(one), Signature::Chain(other)) => one.same(other),
+            (Signature::Chain(one), Signature::Chain(other)) => one.agrees(other),
             (Signature::Chain(_), Signature::Single(_)) => false,
             (Signature::Single(_), Signature::Signers(_)) => false,
             (Signature::Single(_), Signature::Chain(_)) => false,
-            (Signature::Single(one), Signature::Single(other)) => one.same(other),
+            (Signature::Single(one), Signature::Single(other)) => one.agrees(other),
         }
     }
 }
@@ -280,7 +284,9 @@ impl PartialEq for Signature {
 
     ghost laws = { same_laws signature_tree };
 
-    fn eq(&self, other: &Signature) -> bool {
+    fn eq(&self, other: &Signature) -> bool
+        ensures { IsTrue result ↔ (signature_tree self.now ≡ signature_tree other.now) }
+    {
         self.same(other)
     }
 }

@@ -52,11 +52,13 @@ impl Buffer {
 }
 
 impl Sink for Buffer {
-    ghost use Rattle.std.specs.Prelude.{Some};
+    ghost use Rattle.std.specs.Prelude.{Some, refl};
 
     ghost written = { λ b. Some b.written };
 
     ghost flushed = { λ b. Some b.flushed };
+
+    ghost tells = { λ b is. refl };
 
     ghost faults = { λ b. b.faults };
 

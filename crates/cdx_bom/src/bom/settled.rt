@@ -46,7 +46,7 @@ fn same_tools(one: &Tools, other: &Tools) -> bool
         (settled (tools_tree other.now) a_tools) }
 {
     match (one, other) {
-        (Tools::List(one), Tools::List(other)) => one.same(other),
+        (Tools::List(one), Tools::List(other)) => one.agrees(other),
         (
             Tools::List(tools),
             Tools::Object {

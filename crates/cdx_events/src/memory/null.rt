@@ -17,6 +17,8 @@ impl Sink for NullSink {
 
     ghost flushed = { λ _. None };
 
+    ghost tells = { λ s is. is };
+
     ghost faults = { λ _. 0 };
 
     /// Takes every byte.

@@ -70,16 +70,18 @@ impl<W: Write> WriteSink<W> {
 }
 
 impl<W: Write> Sink for WriteSink<W> {
-    ghost written = { λ s. W.contents s.object };
+    ghost written = { λ _. None };
 
     ghost flushed = { λ _. None };
+
+    ghost tells = { λ s is. is };
 
     ghost faults = { λ s. s.faults };
 
     fn put(&mut self, bytes: &[u8]) -> Result<usize, Failed>
         ensures bound { WritesAtMost result bytes.now }
         ensures some { IfOk result (λ n. 0 < length bytes.now → 0 < n) }
-        ensures bytes { WriteAppends (W.contents self.old.object) (W.contents self.new.object)
+        ensures contents { WriteAppends (W.contents self.old.object) (W.contents self.new.object)
             result bytes.now }
         ensures cause { HasCause self.old.faults self.new.faults result }
         ensures count { self.new.faults ≡ counted self.old.faults result }
@@ -92,7 +94,7 @@ impl<W: Write> Sink for WriteSink<W> {
     }
 
     fn flush(&mut self) -> Result<(), Failed>
-        ensures bytes { Keeps (W.contents self.old.object) (W.contents self.new.object) }
+        ensures contents { Keeps (W.contents self.old.object) (W.contents self.new.object) }
         ensures cause { HasCause self.old.faults self.new.faults result }
         ensures count { self.new.faults ≡ counted self.old.faults result }
     {

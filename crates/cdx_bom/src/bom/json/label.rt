@@ -30,7 +30,7 @@ impl HasTree for Label {
         })
     }
 
-    fn same(&self, other: &Label) -> bool {
+    fn agrees(&self, other: &Label) -> bool {
         same_label(self.version, other.version)
     }
 }

@@ -8,7 +8,7 @@ use Rattle.cdx_bom.proofs.Settled.{tool_lists, tool_objects}
 use Rattle.cdx_bom.proofs.bom.settled.same_tools.Goals as goal
 
 pub returns-in-List-List : goal.returns-in-List-List
-returns-in-List-List c = rw (c.in-List-List.is-0, c.in-List-List.is-1) (c.same.ensures ∙ tool_lists c.in-List-List.one c.in-List-List.other)
+returns-in-List-List c = rw (c.in-List-List.is-0, c.in-List-List.is-1) (c.agrees.ensures ∙ tool_lists c.in-List-List.one c.in-List-List.other)
 
 pub returns-then-same_row : goal.returns-then-same_row
 returns-then-same_row c =

@@ -1,7 +1,7 @@
 use Rattle.std.proofs.Common.{◌≡◌, drop}
 use Rattle.cdx_models.specs.Same.{same_each}
 use Rattle.cdx_models.specs.Trees.{each}
-use Rattle.cdx_models.proofs.tree.ListHasTree.same.Given as goal
+use Rattle.cdx_models.proofs.tree.ListHasTree.agrees.Given as goal
 
 abbrev pub invariant-loop-i : goal.invariant-loop-i
 invariant-loop-i g l =

@@ -1,6 +1,6 @@
 use Rattle.std.proofs.Common.{length, sym, ap, ◌∙◌}
 use Rattle.cdx_models.proofs.Lists.{same_each-lengths}
-use Rattle.cdx_models.proofs.tree.ListHasTree.same.Goals as goal
+use Rattle.cdx_models.proofs.tree.ListHasTree.agrees.Goals as goal
 
 pub returns-then-one-other : goal.returns-then-one-other
 returns-then-one-other g c =

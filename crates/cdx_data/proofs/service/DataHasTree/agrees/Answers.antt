@@ -2,7 +2,7 @@ use Rattle.std.proofs.Common.{◌∙◌}
 use Rattle.cdx_models.specs.Trees.{list_tree}
 use Rattle.cdx_models.specs.SameLaws.{same_laws}
 use Rattle.cdx_data.specs.Records.{classification_tree, service_entry}
-use Rattle.cdx_data.proofs.service.DataHasTree.same.Goals as goal
+use Rattle.cdx_data.proofs.service.DataHasTree.agrees.Goals as goal
 
 pub returns-in-ServiceData-Classification : goal.returns-in-ServiceData-Classification
 returns-in-ServiceData-Classification c =
