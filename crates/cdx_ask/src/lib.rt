@@ -15,9 +15,10 @@ ghost use Rattle.cdx_ask.specs.Asks.{IsQuestion, asked_of, bill_in, GivesBill, L
 
 use cdx_bom::{Bom, Doc, RoadError, into_bill};
 use cdx_models::SpecVersion;
+use cdx_tool::status::{REFUSED, UNUSABLE};
 use cdx_tool::{
-    Answer, REFUSED, RequestError, UNUSABLE, answer_value, count_members, refuse, refused_answer,
-    take_doc, take_member, unbalanced_answer, version_at,
+    Answer, RequestError, answer_value, count_members, refuse, refused_answer, take_doc,
+    take_member, unbalanced_answer, version_at,
 };
 use serde_json::Value;
 use std::alloc::{AllocError, Global};

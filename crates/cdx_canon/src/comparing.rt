@@ -20,9 +20,9 @@ use crate::text::set_part;
 use cdx_ask::{NoBill, Question, read_question};
 use cdx_bom::{Bom, RoadError, into_bill, same};
 use cdx_models::SpecVersion;
+use cdx_tool::status::{REFUSED, SERVED, UNUSABLE};
 use cdx_tool::{
-    Answer, REFUSED, RequestError, SERVED, UNUSABLE, answer_value, only, refuse, refused_answer,
-    unbalanced_answer,
+    Answer, RequestError, answer_value, only, refuse, refused_answer, unbalanced_answer,
 };
 use serde_json::{Map, Value};
 use std::alloc::{AllocError, Global};

@@ -21,7 +21,8 @@ use crate::words::{Command, read_command};
 use cdx_ask::{answer_lack, read_bill};
 use cdx_bom::Bom;
 use cdx_events::{Sink, Source};
-use cdx_tool::{Answer, Respond, SERVED, UNUSABLE, answer_value, read_json, refuse, respond};
+use cdx_tool::status::{SERVED, UNUSABLE};
+use cdx_tool::{Answer, Respond, answer_value, read_json, refuse, respond};
 use serde_json::Value;
 use std::alloc::{AllocError, Global};
 

@@ -7,6 +7,7 @@ ghost use Rattle.serde_json.specs.View.{view};
 ghost use Rattle.serde_json.specs.Written.{has_float, compact_text};
 
 use cdx_events::{ReadSource, Text, WriteSink};
+use cdx_tool::status::{NO_MEMORY, SERVED, SINK_FAULT, SOURCE_FAULT, TOO_LONG, UNUSABLE};
 use cdx_tool::{InputError, put_answer, take_input};
 use serde_json::Value;
 use std::alloc::{AllocError, Global};
@@ -16,19 +17,12 @@ use std::process::ExitCode;
 // The bytes that are taken in at most.
 const LIMIT: usize = 1_073_741_824;
 
-// The statuses: the input is no JSON value; it is longer, or can't be read or written; memory ran out.
-const NOT_JSON: u8 = 2;
-
-const FAULT: u8 = 3;
-
-const NO_MEMORY: u8 = 5;
-
 /// The value's compact text and a line feed, or the status where there is none: 2 where the bytes are no JSON value,
 /// and 5 where memory ran out.
 fn echoed(alloc: Global, bytes: &[u8]) -> Result<String, u8> {
     let value = match Value::from_slice(alloc, bytes) {
         Ok(value) => value,
-        Err(_) => return Err(NOT_JSON),
+        Err(_) => return Err(UNUSABLE),
     };
     match printed(alloc, &value) {
         Ok(text) => Ok(text),
@@ -50,16 +44,17 @@ fn main(rt: HostRuntime) -> ExitCode {
     let alloc = rt.alloc();
     let bytes = match take_input(alloc, &mut ReadSource::new(rt.reader()), LIMIT) {
         Ok(bytes) => bytes,
+        Err(InputError::Fault) => return ExitCode::from(SOURCE_FAULT),
+        Err(InputError::TooLong) => return ExitCode::from(TOO_LONG),
         Err(InputError::Memory(_)) => return ExitCode::from(NO_MEMORY),
-        Err(_) => return ExitCode::from(FAULT),
     };
     match echoed(alloc, bytes.as_slice()) {
         Err(status) => ExitCode::from(status),
         Ok(text) => {
             let mut sink = WriteSink::new(io::writer(&rt));
             match put_answer(&Text::from_string(text), &mut sink) {
-                Ok(()) => ExitCode::from(0),
-                Err(_) => ExitCode::from(FAULT),
+                Ok(()) => ExitCode::from(SERVED),
+                Err(_) => ExitCode::from(SINK_FAULT),
             }
         }
     }

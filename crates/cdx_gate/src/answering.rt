@@ -8,16 +8,9 @@ ghost use Rattle.cdx_gate.specs.Gate.{kept, no_words, IsFlushed, PutsFront, Stan
 
 use crate::line::{find_feed, hold};
 use cdx_events::{Sink, Text};
+use cdx_tool::status::{NO_MEMORY, SERVED, SINK_FAULT, UNUSABLE};
 use cdx_tool::{answer_bytes, put_answer, refuse};
 use std::alloc::Global;
-
-const SERVED: u8 = 0;
-
-const UNUSABLE: u8 = 2;
-
-const SINK_FAULT: u8 = 4;
-
-const NO_MEMORY: u8 = 5;
 
 // Puts a text and flushes, or gives the status in its place.
 fn put<K: Sink>(text: &Text, sink: &mut K) -> Result<(), u8>

@@ -8,13 +8,10 @@ ghost use Rattle.cdx_gate.specs.Gate.{IsFlushed, PutsTaken, Ends};
 
 use crate::answering::{answer_ended, answer_last, answer_words};
 use cdx_events::{Failed, Sink, Source};
+use cdx_tool::status::{SOURCE_FAULT, TOO_LONG};
 use std::alloc::Global;
 
 const CHUNK: usize = 4096;
-
-const SOURCE_FAULT: u8 = 3;
-
-const TOO_LONG: u8 = 6;
 
 // Answers the lines that the source has left.
 fn serve_lines<S: Source, K: Sink>(alloc: Global, limit: u64, source: &mut S, sink: &mut K) -> u8

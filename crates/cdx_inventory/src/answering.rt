@@ -14,9 +14,8 @@ use crate::listing::inventory;
 use cdx_ask::{answer_lack, read_bill};
 use cdx_bom::Bom;
 use cdx_events::List as Items;
-use cdx_tool::{
-    Answer, SERVED, Shown, UNUSABLE, answer_value, items_to_json, only, read_json, refuse,
-};
+use cdx_tool::status::{SERVED, UNUSABLE};
+use cdx_tool::{Answer, Shown, answer_value, items_to_json, only, read_json, refuse};
 use serde_json::{Value, json};
 use std::alloc::{AllocError, Global};
 

@@ -20,9 +20,9 @@ use cdx_ask::{NoBill, answer_lack};
 use cdx_bom::{Bom, Doc, Hop, RoadError, fits_all, into_bill, version_missing};
 use cdx_events::List as Items;
 use cdx_models::SpecVersion;
+use cdx_tool::status::{SERVED, UNUSABLE};
 use cdx_tool::{
-    Answer, Request, SERVED, Shown, UNUSABLE, answer_value, items_to_json, only, read_json, refuse,
-    take_request,
+    Answer, Request, Shown, answer_value, items_to_json, only, read_json, refuse, take_request,
 };
 use serde_json::{Value, json};
 use std::alloc::{AllocError, Global};

@@ -14,17 +14,6 @@ pub struct Answer {
 /// How many bytes a request may have.
 pub const LIMIT: usize = 67_108_864;
 
-/// The status of a request that is served.
-pub const SERVED: u8 = 0;
-
-/// The status of a request whose document is refused.
-pub const REFUSED: u8 = 1;
-
-/// The status where there is no request: by the words, by what `serde_json` reads, or by the value's shape.
-pub const UNUSABLE: u8 = 2;
-
-pub(crate) const TOO_LONG: u8 = 6;
-
 mod documents;
 mod make;
 mod refused;

@@ -13,11 +13,12 @@ ghost use Rattle.cdx_tool.specs.Shows.{reply_of};
 ghost use Rattle.cdx_tool.specs.Words.{command_of, is_road, a_make};
 ghost use Rattle.cdx_tool.specs.Run.{reply_for, Tells, Ends};
 
-use crate::answer::{Answer, UNUSABLE, answer_within, refuse};
+use crate::answer::{Answer, answer_within, refuse};
 use crate::command::Respond;
 use crate::making::answer_made;
 use crate::output::put_answer;
-use crate::responding::{NO_MEMORY, SINK_FAULT, answer_source};
+use crate::responding::answer_source;
+use crate::status::{NO_MEMORY, SINK_FAULT, UNUSABLE};
 use crate::words::{Command, read_command};
 use cdx_events::{Sink, Source};
 use std::alloc::{AllocError, Global};

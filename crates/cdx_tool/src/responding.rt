@@ -9,18 +9,13 @@ ghost use Rattle.cdx_tool.specs.Shows.{reply_of};
 ghost use Rattle.cdx_tool.specs.Owed.{reply_by, IsSettled};
 ghost use Rattle.cdx_tool.specs.Run.{Tells, Ends};
 
-use crate::answer::{Answer, LIMIT, TOO_LONG, UNUSABLE, refuse};
+use crate::answer::{Answer, LIMIT, refuse};
 use crate::command::Respond;
 use crate::input::{InputError, take_input};
 use crate::output::put_answer;
+use crate::status::{NO_MEMORY, SINK_FAULT, SOURCE_FAULT, TOO_LONG, UNUSABLE};
 use cdx_events::{Sink, Source};
 use std::alloc::Global;
-
-const SOURCE_FAULT: u8 = 3;
-
-pub(crate) const SINK_FAULT: u8 = 4;
-
-pub(crate) const NO_MEMORY: u8 = 5;
 
 /// The answer of a command to what the source has left, or the status in its place: 3 where the source failed, 5 where
 /// memory ran out.

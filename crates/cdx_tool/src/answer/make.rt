@@ -13,8 +13,9 @@ ghost use Rattle.cdx_tool.specs.Shows.{reply_of};
 
 use super::refused::{refused_answer, unbalanced_answer};
 use super::text::documents_line;
-use super::{Answer, LIMIT, REFUSED, SERVED, TOO_LONG, UNUSABLE};
+use super::{Answer, LIMIT};
 use crate::request::{Request, RequestError, take_request};
+use crate::status::{REFUSED, SERVED, TOO_LONG, UNUSABLE};
 use cdx_bom::{Doc, RoadError, into_road};
 use cdx_events::{List as Items, Text};
 use serde_json::{Category, Value, json};
