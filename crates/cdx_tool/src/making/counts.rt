@@ -16,7 +16,8 @@ ghost use Rattle.cdx_request.specs.Served.{IsMade};
 ghost use Rattle.cdx_tool.specs.Shows.{reply_of};
 
 use super::made;
-use crate::answer::{Answer, SERVED, answer_value};
+use crate::answer::{Answer, answer_value};
+use crate::status::SERVED;
 use cdx_bom::{Doc, Form, Hop, RoadError, into_road};
 use cdx_json::ToJson;
 use cdx_models::SpecVersion;
