@@ -2,6 +2,9 @@ pub mod AnswerFloats
 pub mod Breaking
 pub mod EventsBack
 pub mod RequestsBack
+pub mod Finding
+pub mod EventsAlone
+pub mod RequestsAlone
 pub mod RepliesOwed
 pub mod AnswerDepth
 pub mod MadeRoad

@@ -16,25 +16,18 @@ use Rattle.cdx_schema.specs.Trips.{Form, in_json, in_xml, Hop}
 use Rattle.cdx_schema.specs.Roads.{Doc, json, xml, denotes, written, fits_all, hops_from}
 use Rattle.cdx_request.specs.Requests.{Misread, Sent, sent_value, sent_events, rooted, doc_of, doc_if, sent_of, hop_of, Request, Asked, asking, request_if, asked_of}
 use Rattle.cdx_request.specs.Replies.{doc_value}
-use Rattle.cdx_request.specs.RequestValues.{has_root, hop_value, request_value}
+use Rattle.cdx_request.specs.RequestValues.{has_root, hop_value, request_value, sent, asked}
 use Rattle.cdx_request.specs.Served.{DocsBack, RequestsBack, AskedHaveRoots, AnsweredHaveRoots}
 use Rattle.cdx_request.proofs.EventsBack.{all_back, events_back}
 use Rattle.cdx_request.proofs.AnswerFloats.{bound, same_ok, chosen}
 
 -- ---- documents
 
--- the document as it stands in a request
-sent : Doc → Sent
-sent (json x) = sent_value x
-sent (xml root) = sent_events (document root)
-
 sent_back : (d : Doc) → sent_of (doc_value d) ≡ Some (sent d)
-unfolding sent
 sent_back (json x) = refl
 sent_back (xml root) = ap (option_map (λ (es : List XmlEvent). sent_events es)) (events_back (document root))
 
 rooted_back : (d : Doc) → has_root d ≡ true → doc_of (sent d) ≡ Ok d
-unfolding sent
 rooted_back (json x) h = refl
 rooted_back (xml (element n a s nodes)) h = ap (rooted (document (element n a s nodes))) (root_is n a s nodes)
 rooted_back (xml (characters t)) h = cc
@@ -57,7 +50,7 @@ hop_back h = by h.form h.version
     by in_json v = rw (version_back v) refl
     by in_xml v = rw (version_back v) refl
 
-asked_back : (r : Request) → asked_of (request_value r) ≡ Some (record { from = r.from; sent = sent r.doc; hops = r.hops })
+asked_back : (r : Request) → asked_of (request_value r) ≡ Some (asked r)
 asked_back r = rw (version_back r.from, sent_back r.doc, all_back hop_value hop_of hop_back r.hops) refl
 
 pub requests_back : RequestsBack

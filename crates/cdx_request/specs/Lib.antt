@@ -6,5 +6,7 @@ pub mod Requests
 pub mod Refusals
 pub mod Replies
 pub mod RequestValues
+pub mod SameValues
+pub mod Alone
 pub mod Made
 pub mod Served

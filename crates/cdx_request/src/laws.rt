@@ -1,5 +1,6 @@
 //! The laws of requests and replies. Each is the contract of a function that does nothing.
 
+ghost use Rattle.cdx_request.specs.Alone.{AskedAlone, DocsAlone, EventsAlone, HopsAlone, RequestsAlone, SentAlone};
 ghost use Rattle.cdx_request.specs.Breaks.{BreaksLaw};
 ghost use Rattle.cdx_request.specs.Served.{AnsweredHaveRoots, AnswersNest, AskedHaveRoots, DocsBack, EventsBack, MadeLaw, NoFloatRefused, NoFloats, ReplyLaw, RequestsBack, ValidLaw};
 
@@ -14,6 +15,12 @@ pub fn events_back()
     ensures { EventsBack }
 {}
 
+/// No other value is read as events: it is an array that writes them, one item for each, up to the order of members
+/// and an empty list of attributes.
+pub fn events_alone()
+    ensures { EventsAlone }
+{}
+
 /// A document in an answer, and a request that is written, are read back, where the document has a root. Each document
 /// that is asked or answered has one.
 pub fn requests_back()
@@ -21,6 +28,17 @@ pub fn requests_back()
     ensures requests { RequestsBack }
     ensures asked { AskedHaveRoots }
     ensures answered { AnsweredHaveRoots }
+{}
+
+/// No other value is read as a document, a hop or a request: it is the one that writes it, up to the order of members
+/// and an empty list of attributes in a document's events. That holds of what is asked before it is seen whether the
+/// events are balanced, and of the request.
+pub fn requests_alone()
+    ensures sent { SentAlone }
+    ensures docs { DocsAlone }
+    ensures hops { HopsAlone }
+    ensures asked { AskedAlone }
+    ensures requests { RequestsAlone }
 {}
 
 /// No answer holds a float.

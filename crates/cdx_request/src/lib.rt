@@ -4,5 +4,6 @@
 mod laws;
 
 pub use laws::{
-    answers_nest, breaks, events_back, made_law, no_floats, reply_law, requests_back, valid_law,
+    answers_nest, breaks, events_alone, events_back, made_law, no_floats, reply_law,
+    requests_alone, requests_back, valid_law,
 };
