@@ -6,7 +6,7 @@ use mathlib.Core.Path.{ap, sym, ◌∙◌, subst}
 use Rattle.cdx_models.specs.declared.bom.SpecVersion.{SpecVersion}
 use Rattle.cdx_models.specs.declared.bom.SpecVersion.TheVariants.{V1_5}
 use Rattle.cdx_models.specs.Versions.{knows}
-use Rattle.cdx_models.specs.Trees.{Name, hash, property, attached_text, contact, entity, commit, action, patch, diff, issue, source, reference, dependency, composition, license, expression, spdx_id, license_name, tool, component, swid, pedigree, evidence, copyright, service, classification, service_data, tools_object, metadata, signer, signers, chain, bill, Tree, absent, text, number, boolean, items, fields, Trees, none, more, one, is_absent}
+use Rattle.cdx_models.specs.Trees.{Name, hash, property, attached_text, contact, license, expression, spdx_id, license_name, tool, copyright, classification, service_data, tools_object, signer, signers, chain, Tree, absent, text, number, boolean, items, fields, Trees, none, more, one, is_absent}
 use Rattle.cdx_schema.specs.Kinds.{Lists, Kind, a_text, a_boolean, a_number, a_version, a_list, a_record, a_reference, a_license_choice, a_license_identifier, a_tools, a_data, an_entry, a_signature, a_bill, signer_list, chain_list, Spelled, attribute, attribute_or, content, one_text, as_cdata, child, filled_child, children, either_child, the_version, Need, optional, required, required_first, else_empty, Row}
 use Rattle.cdx_schema.specs.Table.{rows, list}
 use Rattle.cdx_models.specs.Entries.{is_flow}
@@ -426,31 +426,7 @@ record_back w d copyright ts h g tag p e = fields_solid w d copyright ts (words 
 record_back w d attached_text ts h g tag p e = attached_back w d ts h tag p e
 record_back w d spdx_id ts h g tag p e = id_back w d ts h tag p e
 record_back w d license_name ts h g tag p e = name_back w d ts h tag p e
-record_back w d contact ts h g tag p e = full_of contact ts refl (g (record_plan contact) (suc p) refl (record_finds contact w) e)
-record_back w d entity ts h g tag p e = full_of entity ts refl (g (record_plan entity) (suc p) refl (record_finds entity w) e)
-record_back w d commit ts h g tag p e = full_of commit ts refl (g (record_plan commit) (suc p) refl (record_finds commit w) e)
-record_back w d action ts h g tag p e = full_of action ts refl (g (record_plan action) (suc p) refl (record_finds action w) e)
-record_back w d patch ts h g tag p e = full_of patch ts refl (g (record_plan patch) (suc p) refl (record_finds patch w) e)
-record_back w d diff ts h g tag p e = full_of diff ts refl (g (record_plan diff) (suc p) refl (record_finds diff w) e)
-record_back w d issue ts h g tag p e = full_of issue ts refl (g (record_plan issue) (suc p) refl (record_finds issue w) e)
-record_back w d source ts h g tag p e = full_of source ts refl (g (record_plan source) (suc p) refl (record_finds source w) e)
-record_back w d reference ts h g tag p e = full_of reference ts refl (g (record_plan reference) (suc p) refl (record_finds reference w) e)
-record_back w d dependency ts h g tag p e = full_of dependency ts refl (g (record_plan dependency) (suc p) refl (record_finds dependency w) e)
-record_back w d composition ts h g tag p e = full_of composition ts refl (g (record_plan composition) (suc p) refl (record_finds composition w) e)
-record_back w d license ts h g tag p e = full_of license ts refl (g (record_plan license) (suc p) refl (record_finds license w) e)
-record_back w d tool ts h g tag p e = full_of tool ts refl (g (record_plan tool) (suc p) refl (record_finds tool w) e)
-record_back w d component ts h g tag p e = full_of component ts refl (g (record_plan component) (suc p) refl (record_finds component w) e)
-record_back w d swid ts h g tag p e = full_of swid ts refl (g (record_plan swid) (suc p) refl (record_finds swid w) e)
-record_back w d pedigree ts h g tag p e = full_of pedigree ts refl (g (record_plan pedigree) (suc p) refl (record_finds pedigree w) e)
-record_back w d evidence ts h g tag p e = full_of evidence ts refl (g (record_plan evidence) (suc p) refl (record_finds evidence w) e)
-record_back w d service ts h g tag p e = full_of service ts refl (g (record_plan service) (suc p) refl (record_finds service w) e)
-record_back w d service_data ts h g tag p e = full_of service_data ts refl (g (record_plan service_data) (suc p) refl (record_finds service_data w) e)
-record_back w d tools_object ts h g tag p e = full_of tools_object ts refl (g (record_plan tools_object) (suc p) refl (record_finds tools_object w) e)
-record_back w d metadata ts h g tag p e = full_of metadata ts refl (g (record_plan metadata) (suc p) refl (record_finds metadata w) e)
-record_back w d signer ts h g tag p e = full_of signer ts refl (g (record_plan signer) (suc p) refl (record_finds signer w) e)
-record_back w d signers ts h g tag p e = full_of signers ts refl (g (record_plan signers) (suc p) refl (record_finds signers w) e)
-record_back w d chain ts h g tag p e = full_of chain ts refl (g (record_plan chain) (suc p) refl (record_finds chain w) e)
-record_back w d bill ts h g tag p e = full_of bill ts refl (g (record_plan bill) (suc p) refl (record_finds bill w) e)
+record_back w d n ts h g tag p e = full_of n ts refl (g (record_plan n) (suc p) refl (record_finds n w) e)
 
 -- ---- kinds
 

@@ -7,7 +7,7 @@ use mathlib.Core.Path.{ap, sym, ◌∙◌, subst}
 use Rattle.cdx_models.specs.declared.bom.SpecVersion.{SpecVersion}
 use Rattle.cdx_models.specs.declared.bom.SpecVersion.TheVariants.{V1_5}
 use Rattle.cdx_models.specs.Versions.{knows}
-use Rattle.cdx_models.specs.Trees.{Name, hash, property, attached_text, contact, entity, commit, action, patch, diff, issue, source, reference, dependency, composition, license, expression, spdx_id, license_name, tool, component, swid, pedigree, evidence, copyright, service, classification, service_data, tools_object, metadata, signer, signers, chain, bill, Tree, absent, text, number, boolean, items, fields, Trees, none, more, one, is_absent}
+use Rattle.cdx_models.specs.Trees.{Name, hash, property, attached_text, license, expression, spdx_id, license_name, tool, copyright, classification, service_data, tools_object, signer, signers, chain, Tree, absent, text, number, boolean, items, fields, Trees, none, more, one, is_absent}
 use Rattle.cdx_schema.specs.Kinds.{Lists, Kind, a_text, a_boolean, a_number, a_version, a_list, a_record, a_reference, a_license_choice, a_license_identifier, a_tools, a_data, an_entry, a_signature, a_bill, Rule, Spelled, attribute, attribute_or, content, one_text, as_cdata, child, filled_child, children, either_child, the_version, Need, optional, required, required_first, else_empty, Row}
 use Rattle.cdx_schema.specs.Table.{rows, rule, list}
 use Rattle.cdx_schema.specs.Depth.{Depth, inside}
@@ -406,36 +406,12 @@ unfolding rows list
 record_whole w d hash ts h f g tag p = refl
 record_whole w d property ts h f g tag p = refl
 record_whole w d attached_text ts h f g tag p = attached_whole w d ts h f tag p
-record_whole w d contact ts h f g tag p = g (record_plan contact) refl (record_finds contact w) (suc p)
-record_whole w d entity ts h f g tag p = g (record_plan entity) refl (record_finds entity w) (suc p)
-record_whole w d commit ts h f g tag p = g (record_plan commit) refl (record_finds commit w) (suc p)
-record_whole w d action ts h f g tag p = g (record_plan action) refl (record_finds action w) (suc p)
-record_whole w d patch ts h f g tag p = g (record_plan patch) refl (record_finds patch w) (suc p)
-record_whole w d diff ts h f g tag p = g (record_plan diff) refl (record_finds diff w) (suc p)
-record_whole w d issue ts h f g tag p = g (record_plan issue) refl (record_finds issue w) (suc p)
-record_whole w d source ts h f g tag p = g (record_plan source) refl (record_finds source w) (suc p)
-record_whole w d reference ts h f g tag p = g (record_plan reference) refl (record_finds reference w) (suc p)
-record_whole w d dependency ts h f g tag p = g (record_plan dependency) refl (record_finds dependency w) (suc p)
-record_whole w d composition ts h f g tag p = g (record_plan composition) refl (record_finds composition w) (suc p)
-record_whole w d license ts h f g tag p = g (record_plan license) refl (record_finds license w) (suc p)
 record_whole w d expression ts h f g tag p = refl
 record_whole w d spdx_id ts h f g tag p = id_whole w d ts h f tag p
 record_whole w d license_name ts h f g tag p = name_whole w d ts h f tag p
-record_whole w d tool ts h f g tag p = g (record_plan tool) refl (record_finds tool w) (suc p)
-record_whole w d component ts h f g tag p = g (record_plan component) refl (record_finds component w) (suc p)
-record_whole w d swid ts h f g tag p = g (record_plan swid) refl (record_finds swid w) (suc p)
-record_whole w d pedigree ts h f g tag p = g (record_plan pedigree) refl (record_finds pedigree w) (suc p)
-record_whole w d evidence ts h f g tag p = g (record_plan evidence) refl (record_finds evidence w) (suc p)
 record_whole w d copyright ts h f g tag p = refl
-record_whole w d service ts h f g tag p = g (record_plan service) refl (record_finds service w) (suc p)
 record_whole w d classification ts h f g tag p = refl
-record_whole w d service_data ts h f g tag p = g (record_plan service_data) refl (record_finds service_data w) (suc p)
-record_whole w d tools_object ts h f g tag p = g (record_plan tools_object) refl (record_finds tools_object w) (suc p)
-record_whole w d metadata ts h f g tag p = g (record_plan metadata) refl (record_finds metadata w) (suc p)
-record_whole w d signer ts h f g tag p = g (record_plan signer) refl (record_finds signer w) (suc p)
-record_whole w d signers ts h f g tag p = g (record_plan signers) refl (record_finds signers w) (suc p)
-record_whole w d chain ts h f g tag p = g (record_plan chain) refl (record_finds chain w) (suc p)
-record_whole w d bill ts h f g tag p = g (record_plan bill) refl (record_finds bill w) (suc p)
+record_whole w d n ts h f g tag p = g (record_plan n) refl (record_finds n w) (suc p)
 
 -- ---- kinds
 

@@ -14,7 +14,7 @@ use Rattle.serde_json.proofs.Views.{get_member-put, get_member-put_other}
 use Rattle.cdx_models.specs.declared.bom.SpecVersion.{SpecVersion}
 use Rattle.cdx_models.specs.declared.bom.SpecVersion.TheVariants.{V1_3, V1_4, V1_5}
 use Rattle.cdx_models.specs.Versions.{knows, is_label}
-use Rattle.cdx_models.specs.Trees.{Name, hash, property, attached_text, contact, entity, commit, action, patch, diff, issue, source, reference, dependency, composition, license, expression, spdx_id, license_name, tool, component, swid, pedigree, evidence, copyright, service, classification, service_data, tools_object, metadata, signer, signers, chain, bill, Tree, absent, text, number, boolean, items, fields, Trees, none, more, one, two}
+use Rattle.cdx_models.specs.Trees.{Name, hash, attached_text, license, expression, spdx_id, license_name, classification, service_data, tools_object, signer, signers, chain, bill, Tree, absent, text, number, boolean, items, fields, Trees, none, more, one, two}
 use Rattle.cdx_schema.specs.Kinds.{properties, signer_list, chain_list, Kind, a_text, a_boolean, a_number, a_version, a_list, a_record, a_reference, a_license_choice, a_license_identifier, a_tools, a_data, an_entry, a_signature, a_bill, Member, member, merged, Need, optional, required, required_first, else_empty, content, children, Row}
 use Rattle.cdx_schema.specs.Table.{rows, from, of, at, row, must, respelled_reference, identifier_row, class_row}
 use Rattle.cdx_schema.specs.Results.{◌>>=◌}
@@ -79,38 +79,7 @@ are_distinct n = distinct (names (rows n))
 pub distinct_names : (n : Name) → are_distinct n ≡ true
 unfolding rows
 distinct_names hash = refl
-distinct_names property = refl
-distinct_names attached_text = refl
-distinct_names contact = refl
-distinct_names entity = refl
-distinct_names commit = refl
-distinct_names action = refl
-distinct_names patch = refl
-distinct_names diff = refl
-distinct_names issue = refl
-distinct_names source = refl
-distinct_names reference = refl
-distinct_names dependency = refl
-distinct_names composition = refl
-distinct_names license = refl
-distinct_names expression = refl
-distinct_names spdx_id = refl
-distinct_names license_name = refl
-distinct_names tool = refl
-distinct_names component = refl
-distinct_names swid = refl
-distinct_names pedigree = refl
-distinct_names evidence = refl
-distinct_names copyright = refl
-distinct_names service = refl
-distinct_names classification = refl
-distinct_names service_data = refl
-distinct_names tools_object = refl
-distinct_names metadata = refl
-distinct_names signer = refl
-distinct_names signers = refl
-distinct_names chain = refl
-distinct_names bill = refl
+distinct_names _ = refl
 
 pub same_name : (q n : List ℕ) → bytes_eq q n ≡ true → q ≡ n
 same_name q n h = (bytes_eq-Decides q n).0 h
@@ -450,74 +419,12 @@ owns_well (r ∷ rs) = (is_named r.json || (is_own_kind r.kind && is_must r)) &&
 pub owns_well_all : (n : Name) → owns_well (rows n) ≡ true
 unfolding rows
 owns_well_all hash = refl
-owns_well_all property = refl
-owns_well_all attached_text = refl
-owns_well_all contact = refl
-owns_well_all entity = refl
-owns_well_all commit = refl
-owns_well_all action = refl
-owns_well_all patch = refl
-owns_well_all diff = refl
-owns_well_all issue = refl
-owns_well_all source = refl
-owns_well_all reference = refl
-owns_well_all dependency = refl
-owns_well_all composition = refl
-owns_well_all license = refl
-owns_well_all expression = refl
-owns_well_all spdx_id = refl
-owns_well_all license_name = refl
-owns_well_all tool = refl
-owns_well_all component = refl
-owns_well_all swid = refl
-owns_well_all pedigree = refl
-owns_well_all evidence = refl
-owns_well_all copyright = refl
-owns_well_all service = refl
-owns_well_all classification = refl
-owns_well_all service_data = refl
-owns_well_all tools_object = refl
-owns_well_all metadata = refl
-owns_well_all signer = refl
-owns_well_all signers = refl
-owns_well_all chain = refl
-owns_well_all bill = refl
+owns_well_all _ = refl
 
 pub heading_clear : (n : Name) → IsClear (names (rows n)) (heading n)
 unfolding rows
-heading_clear hash q h = refl
-heading_clear property q h = refl
-heading_clear attached_text q h = refl
-heading_clear contact q h = refl
-heading_clear entity q h = refl
-heading_clear commit q h = refl
-heading_clear action q h = refl
-heading_clear patch q h = refl
-heading_clear diff q h = refl
-heading_clear issue q h = refl
-heading_clear source q h = refl
-heading_clear reference q h = refl
-heading_clear dependency q h = refl
-heading_clear composition q h = refl
-heading_clear license q h = refl
-heading_clear expression q h = refl
-heading_clear spdx_id q h = refl
-heading_clear license_name q h = refl
-heading_clear tool q h = refl
-heading_clear component q h = refl
-heading_clear swid q h = refl
-heading_clear pedigree q h = refl
-heading_clear evidence q h = refl
-heading_clear copyright q h = refl
-heading_clear service q h = refl
-heading_clear classification q h = refl
-heading_clear service_data q h = refl
-heading_clear tools_object q h = refl
-heading_clear metadata q h = refl
-heading_clear signer q h = refl
-heading_clear signers q h = refl
-heading_clear chain q h = refl
 heading_clear bill q h = get_member-put_other q (codes "bomFormat") (json.string (codes "CycloneDX")) no_members (λ e. true≢false (sym h ∙ subst (λ (x : List ℕ). is_in x (names (rows bill)) ≡ false) (sym e) refl))
+heading_clear _ q h = refl
 
 -- ---- trees that a version holds at a depth
 
@@ -789,39 +696,9 @@ own_back_flow w d d' (more a (more b (more c none))) h = (tt, (tt, (by (class_of
 pub own_back : (n : Name) (w : SpecVersion) (d d' : Depth) (ts : Trees) → FieldsHeld w d ts (rows n) → AreOwn ts (rows n)
     → OwnBack (own_read (seen (spelled n ts w)) w d') w ts (rows n)
 unfolding rows
-own_back hash w d d' ts h owns = own_back_named _ w ts (rows hash) refl
-own_back property w d d' ts h owns = own_back_named _ w ts (rows property) refl
-own_back attached_text w d d' ts h owns = own_back_named _ w ts (rows attached_text) refl
-own_back contact w d d' ts h owns = own_back_named _ w ts (rows contact) refl
-own_back entity w d d' ts h owns = own_back_named _ w ts (rows entity) refl
-own_back commit w d d' ts h owns = own_back_named _ w ts (rows commit) refl
-own_back action w d d' ts h owns = own_back_named _ w ts (rows action) refl
-own_back patch w d d' ts h owns = own_back_named _ w ts (rows patch) refl
-own_back diff w d d' ts h owns = own_back_named _ w ts (rows diff) refl
-own_back issue w d d' ts h owns = own_back_named _ w ts (rows issue) refl
-own_back source w d d' ts h owns = own_back_named _ w ts (rows source) refl
-own_back reference w d d' ts h owns = own_back_named _ w ts (rows reference) refl
-own_back dependency w d d' ts h owns = own_back_named _ w ts (rows dependency) refl
-own_back composition w d d' ts h owns = own_back_named _ w ts (rows composition) refl
 own_back license w d d' ts h owns = own_back_license w d d' ts h owns
-own_back expression w d d' ts h owns = own_back_named _ w ts (rows expression) refl
-own_back spdx_id w d d' ts h owns = own_back_named _ w ts (rows spdx_id) refl
-own_back license_name w d d' ts h owns = own_back_named _ w ts (rows license_name) refl
-own_back tool w d d' ts h owns = own_back_named _ w ts (rows tool) refl
-own_back component w d d' ts h owns = own_back_named _ w ts (rows component) refl
-own_back swid w d d' ts h owns = own_back_named _ w ts (rows swid) refl
-own_back pedigree w d d' ts h owns = own_back_named _ w ts (rows pedigree) refl
-own_back evidence w d d' ts h owns = own_back_named _ w ts (rows evidence) refl
-own_back copyright w d d' ts h owns = own_back_named _ w ts (rows copyright) refl
-own_back service w d d' ts h owns = own_back_named _ w ts (rows service) refl
-own_back classification w d d' ts h owns = own_back_named _ w ts (rows classification) refl
 own_back service_data w d d' ts h owns = own_back_flow w d d' ts h
-own_back tools_object w d d' ts h owns = own_back_named _ w ts (rows tools_object) refl
-own_back metadata w d d' ts h owns = own_back_named _ w ts (rows metadata) refl
-own_back signer w d d' ts h owns = own_back_named _ w ts (rows signer) refl
-own_back signers w d d' ts h owns = own_back_named _ w ts (rows signers) refl
-own_back chain w d d' ts h owns = own_back_named _ w ts (rows chain) refl
-own_back bill w d d' ts h owns = own_back_named _ w ts (rows bill) refl
+own_back n w d d' ts h owns = own_back_named _ w ts (rows n) refl
 
 -- ---- every kind
 

@@ -7,8 +7,8 @@ use mathlib.Core.Path.{ap, sym, ◌∙◌, subst}
 use Rattle.cdx_models.specs.declared.bom.SpecVersion.{SpecVersion}
 use Rattle.cdx_models.specs.declared.bom.SpecVersion.TheVariants.{V1_3, V1_4, V1_5}
 use Rattle.cdx_models.specs.Versions.{knows, label, namespace}
-use Rattle.cdx_models.specs.Trees.{Name, hash, property, attached_text, contact, entity, commit, action, patch, diff, issue, source, reference, dependency, composition, license, expression, spdx_id, license_name, tool, component, swid, pedigree, evidence, copyright, service, classification, service_data, tools_object, metadata, signer, signers, chain, bill, Tree, absent, text, number, boolean, items, fields, Trees, none, more, one, two, ◌⧺◌, field, with_field, is_absent}
-use Rattle.cdx_schema.specs.Kinds.{Lists, hashes, properties, urls, contacts, commits, patches, resolved, links, external_references, dependencies, depended, compositions, assemblies, composed, vulnerabilities, licenses, components, services, copyright_texts, endpoints, authors, tool_list, signer_list, chain_list, classifications, flows, Kind, a_text, a_boolean, a_number, a_version, a_list, a_record, a_reference, a_license_choice, a_license_identifier, a_tools, a_data, an_entry, a_signature, a_bill, Rule, lax, strict, passing, Spelled, attribute, attribute_or, content, one_text, as_cdata, child, filled_child, children, either_child, the_version, Need, optional, required, required_first, else_empty, Row}
+use Rattle.cdx_models.specs.Trees.{Name, hash, attached_text, license, expression, spdx_id, license_name, classification, service_data, signer, signers, chain, bill, Tree, absent, text, number, boolean, items, fields, Trees, none, more, one, two, ◌⧺◌, field, with_field, is_absent}
+use Rattle.cdx_schema.specs.Kinds.{Lists, licenses, components, services, tool_list, classifications, Kind, a_text, a_boolean, a_number, a_version, a_list, a_record, a_reference, a_license_choice, a_license_identifier, a_tools, a_data, an_entry, a_signature, a_bill, Rule, lax, strict, passing, Spelled, attribute, attribute_or, content, one_text, as_cdata, child, filled_child, children, either_child, the_version, Need, optional, required, required_first, else_empty, Row}
 use Rattle.cdx_schema.specs.Table.{rows, list}
 use Rattle.cdx_schema.specs.Held.{held_kind}
 use Rattle.cdx_schema.specs.Results.{◌>>=◌}
@@ -338,38 +338,7 @@ all_xml (r ∷ rs) = (sound_since r.since r.need r.kind && reads_xml r.xml r.nee
 reads_rows : (n : Name) → all_xml (rows n) ≡ true
 unfolding rows
 reads_rows hash = refl
-reads_rows property = refl
-reads_rows attached_text = refl
-reads_rows contact = refl
-reads_rows entity = refl
-reads_rows commit = refl
-reads_rows action = refl
-reads_rows patch = refl
-reads_rows diff = refl
-reads_rows issue = refl
-reads_rows source = refl
-reads_rows reference = refl
-reads_rows dependency = refl
-reads_rows composition = refl
-reads_rows license = refl
-reads_rows expression = refl
-reads_rows spdx_id = refl
-reads_rows license_name = refl
-reads_rows tool = refl
-reads_rows component = refl
-reads_rows swid = refl
-reads_rows pedigree = refl
-reads_rows evidence = refl
-reads_rows copyright = refl
-reads_rows service = refl
-reads_rows classification = refl
-reads_rows service_data = refl
-reads_rows tools_object = refl
-reads_rows metadata = refl
-reads_rows signer = refl
-reads_rows signers = refl
-reads_rows chain = refl
-reads_rows bill = refl
+reads_rows _ = refl
 
 row_parts : (r : Row) (rs : List Row) → all_xml (r ∷ rs) ≡ true → (sound_since r.since r.need r.kind ≡ true) × (reads_xml r.xml r.need r.kind ≡ true) × (all_xml rs ≡ true)
 row_parts r rs h =
@@ -645,74 +614,12 @@ is_text_at (one_text_alone i) ks = is_text_kind (kind_at i ks)
 texts_at : (n : Name) → is_text_at (content_from 0 (rows n)) (row_kinds (rows n)) ≡ true
 unfolding rows
 texts_at hash = refl
-texts_at property = refl
-texts_at attached_text = refl
-texts_at contact = refl
-texts_at entity = refl
-texts_at commit = refl
-texts_at action = refl
-texts_at patch = refl
-texts_at diff = refl
-texts_at issue = refl
-texts_at source = refl
-texts_at reference = refl
-texts_at dependency = refl
-texts_at composition = refl
-texts_at license = refl
-texts_at expression = refl
-texts_at spdx_id = refl
-texts_at license_name = refl
-texts_at tool = refl
-texts_at component = refl
-texts_at swid = refl
-texts_at pedigree = refl
-texts_at evidence = refl
-texts_at copyright = refl
-texts_at service = refl
-texts_at classification = refl
-texts_at service_data = refl
-texts_at tools_object = refl
-texts_at metadata = refl
-texts_at signer = refl
-texts_at signers = refl
-texts_at chain = refl
-texts_at bill = refl
+texts_at _ = refl
 
 flags_end : (n : Name) (v : SpecVersion) → at_end (content_from 0 (rows n)) (flags (rows n) v) ≡ last_flags (rows n) v
 unfolding rows
 flags_end hash v = refl
-flags_end property v = refl
-flags_end attached_text v = refl
-flags_end contact v = refl
-flags_end entity v = refl
-flags_end commit v = refl
-flags_end action v = refl
-flags_end patch v = refl
-flags_end diff v = refl
-flags_end issue v = refl
-flags_end source v = refl
-flags_end reference v = refl
-flags_end dependency v = refl
-flags_end composition v = refl
-flags_end license v = refl
-flags_end expression v = refl
-flags_end spdx_id v = refl
-flags_end license_name v = refl
-flags_end tool v = refl
-flags_end component v = refl
-flags_end swid v = refl
-flags_end pedigree v = refl
-flags_end evidence v = refl
-flags_end copyright v = refl
-flags_end service v = refl
-flags_end classification v = refl
-flags_end service_data v = refl
-flags_end tools_object v = refl
-flags_end metadata v = refl
-flags_end signer v = refl
-flags_end signers v = refl
-flags_end chain v = refl
-flags_end bill v = refl
+flags_end _ v = refl
 
 text_kind_read : (Q : List ℕ → Type 0) (k : Kind) (s : List ℕ) (d : Depth) → is_text_kind k ≡ true → Q s → IsReadOf Q k d (text s)
 unfolding is_shallow
@@ -746,32 +653,8 @@ record_good Q e n v d t g o =
 
 lists_good : (Q : List ℕ → Type 0) (l : Lists) → GoodChildren Q (plan_of_list l).children (a_list l ∷ [])
 unfolding list
-lists_good Q hashes = ((tt, λ t h. h), tt)
-lists_good Q properties = ((tt, λ t h. h), tt)
-lists_good Q urls = ((tt, λ t h. h), tt)
-lists_good Q contacts = ((tt, λ t h. h), tt)
-lists_good Q commits = ((tt, λ t h. h), tt)
-lists_good Q patches = ((tt, λ t h. h), tt)
-lists_good Q resolved = ((tt, λ t h. h), tt)
-lists_good Q links = ((tt, λ t h. h), tt)
-lists_good Q external_references = ((tt, λ t h. h), tt)
-lists_good Q dependencies = ((tt, λ t h. h), tt)
-lists_good Q depended = ((tt, λ t h. h), tt)
-lists_good Q compositions = ((tt, λ t h. h), tt)
-lists_good Q assemblies = ((tt, λ t h. h), tt)
-lists_good Q composed = ((tt, λ t h. h), tt)
-lists_good Q vulnerabilities = ((tt, λ t h. h), tt)
-lists_good Q components = ((tt, λ t h. h), tt)
-lists_good Q services = ((tt, λ t h. h), tt)
-lists_good Q copyright_texts = ((tt, λ t h. h), tt)
-lists_good Q endpoints = ((tt, λ t h. h), tt)
-lists_good Q authors = ((tt, λ t h. h), tt)
-lists_good Q tool_list = ((tt, λ t h. h), tt)
-lists_good Q signer_list = ((tt, λ t h. h), tt)
-lists_good Q chain_list = ((tt, λ t h. h), tt)
-lists_good Q classifications = ((tt, λ t h. h), tt)
-lists_good Q flows = ((tt, λ t h. h), tt)
 lists_good Q licenses = ((tt, λ t h. h), ((tt, λ t h. h), tt))
+lists_good Q _ = ((tt, λ t h. h), tt)
 
 list_of_good : (Q : List ℕ → Type 0) (t : Tree) (l : Lists) (d : Depth) → SlotOf Q (a_list l) d t → IsReadOf Q (a_list l) d (list_of t)
 unfolding is_shallow

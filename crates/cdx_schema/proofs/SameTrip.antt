@@ -4,7 +4,7 @@ use Rattle.std.proofs.Common.{true≢false}
 use mathlib.Core.Path.{ap, sym, ◌∙◌}
 use Rattle.cdx_models.specs.declared.bom.SpecVersion.{SpecVersion}
 use Rattle.cdx_models.specs.declared.bom.SpecVersion.TheVariants.{V1_3, V1_4, V1_5}
-use Rattle.cdx_models.specs.Trees.{Name, hash, property, attached_text, contact, entity, commit, action, patch, diff, issue, source, reference, dependency, composition, license, expression, spdx_id, license_name, tool, component, swid, pedigree, evidence, copyright, service, classification, service_data, tools_object, metadata, signer, signers, chain, bill, Tree, absent, text, number, boolean, items, fields, Trees, none, more}
+use Rattle.cdx_models.specs.Trees.{Name, hash, Tree, absent, text, number, boolean, items, fields, Trees, none, more}
 use Rattle.cdx_schema.specs.Kinds.{Kind, a_list, a_tools, Need, optional, required, required_first, else_empty, Spelled, attribute, attribute_or, content, one_text, as_cdata, child, filled_child, children, either_child, the_version, Row}
 use Rattle.cdx_schema.specs.Table.{rows}
 use Rattle.cdx_schema.specs.Held.{held_kind}
@@ -45,38 +45,7 @@ all_listed (r ∷ rs) = is_listed_row r.xml r.kind && all_listed rs
 all_listed_rows : (n : Name) → all_listed (rows n) ≡ true
 unfolding rows
 all_listed_rows hash = refl
-all_listed_rows property = refl
-all_listed_rows attached_text = refl
-all_listed_rows contact = refl
-all_listed_rows entity = refl
-all_listed_rows commit = refl
-all_listed_rows action = refl
-all_listed_rows patch = refl
-all_listed_rows diff = refl
-all_listed_rows issue = refl
-all_listed_rows source = refl
-all_listed_rows reference = refl
-all_listed_rows dependency = refl
-all_listed_rows composition = refl
-all_listed_rows license = refl
-all_listed_rows expression = refl
-all_listed_rows spdx_id = refl
-all_listed_rows license_name = refl
-all_listed_rows tool = refl
-all_listed_rows component = refl
-all_listed_rows swid = refl
-all_listed_rows pedigree = refl
-all_listed_rows evidence = refl
-all_listed_rows copyright = refl
-all_listed_rows service = refl
-all_listed_rows classification = refl
-all_listed_rows service_data = refl
-all_listed_rows tools_object = refl
-all_listed_rows metadata = refl
-all_listed_rows signer = refl
-all_listed_rows signers = refl
-all_listed_rows chain = refl
-all_listed_rows bill = refl
+all_listed_rows _ = refl
 
 none_alike : (us vs : Trees) (k : Kind) → is_none us ≡ is_none vs → settled (items us) k ≡ settled (items vs) k → settled (none_is_absent optional (items us)) k ≡ settled (none_is_absent optional (items vs)) k
 unfolding settled

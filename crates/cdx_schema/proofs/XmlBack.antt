@@ -6,7 +6,7 @@ use mathlib.Core.Path.{ap, sym, ◌∙◌, subst}
 use native.Mathlib.Omega.{arith}
 use Rattle.cdx_models.specs.declared.bom.SpecVersion.{SpecVersion}
 use Rattle.cdx_models.specs.Versions.{knows}
-use Rattle.cdx_models.specs.Trees.{Name, hash, property, attached_text, contact, entity, commit, action, patch, diff, issue, source, reference, dependency, composition, license, expression, spdx_id, license_name, tool, component, swid, pedigree, evidence, copyright, service, classification, service_data, tools_object, metadata, signer, signers, chain, bill, Tree, absent, text, boolean, items, fields, Trees, none, more, one, ◌⧺◌, is_absent, field, with_field}
+use Rattle.cdx_models.specs.Trees.{Name, hash, copyright, classification, Tree, absent, text, boolean, items, fields, Trees, none, more, one, ◌⧺◌, is_absent, field, with_field}
 use Rattle.cdx_schema.specs.Kinds.{Lists, Kind, a_text, a_reference, a_boolean, a_list, a_record, Rule, Spelled, attribute, attribute_or, content, one_text, as_cdata, child, filled_child, children, either_child, the_version, Row}
 use Rattle.cdx_schema.specs.Table.{rows, rule}
 use Rattle.cdx_schema.specs.Results.{◌>>=◌}
@@ -340,38 +340,7 @@ class_xread w d f c tag p = refl
 pub child_names_distinct : (n : Name) → distinct (all_child_names (rows n)) ≡ true
 unfolding rows
 child_names_distinct hash = refl
-child_names_distinct property = refl
-child_names_distinct attached_text = refl
-child_names_distinct contact = refl
-child_names_distinct entity = refl
-child_names_distinct commit = refl
-child_names_distinct action = refl
-child_names_distinct patch = refl
-child_names_distinct diff = refl
-child_names_distinct issue = refl
-child_names_distinct source = refl
-child_names_distinct reference = refl
-child_names_distinct dependency = refl
-child_names_distinct composition = refl
-child_names_distinct license = refl
-child_names_distinct expression = refl
-child_names_distinct spdx_id = refl
-child_names_distinct license_name = refl
-child_names_distinct tool = refl
-child_names_distinct component = refl
-child_names_distinct swid = refl
-child_names_distinct pedigree = refl
-child_names_distinct evidence = refl
-child_names_distinct copyright = refl
-child_names_distinct service = refl
-child_names_distinct classification = refl
-child_names_distinct service_data = refl
-child_names_distinct tools_object = refl
-child_names_distinct metadata = refl
-child_names_distinct signer = refl
-child_names_distinct signers = refl
-child_names_distinct chain = refl
-child_names_distinct bill = refl
+child_names_distinct _ = refl
 
 -- ---- the children of a row
 

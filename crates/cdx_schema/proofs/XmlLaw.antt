@@ -7,8 +7,8 @@ use native.Mathlib.Omega.{arith}
 use Rattle.cdx_models.specs.declared.bom.SpecVersion.{SpecVersion}
 use Rattle.cdx_models.specs.declared.bom.SpecVersion.TheVariants.{V1_3, V1_4, V1_5}
 use Rattle.cdx_models.specs.Versions.{knows, label}
-use Rattle.cdx_models.specs.Trees.{Name, hash, property, attached_text, contact, entity, commit, action, patch, diff, issue, source, reference, dependency, composition, license, expression, tool, component, swid, pedigree, evidence, copyright, service, classification, service_data, tools_object, metadata, signer, signers, chain, bill, Tree, absent, text, number, boolean, items, fields, Trees, none, more, one, two, ◌⧺◌, is_absent, field, with_field}
-use Rattle.cdx_schema.specs.Kinds.{Lists, hashes, properties, urls, contacts, commits, patches, resolved, links, external_references, dependencies, depended, compositions, assemblies, composed, vulnerabilities, licenses, components, services, copyright_texts, endpoints, authors, tool_list, signer_list, chain_list, classifications, flows, Kind, strict, a_reference, a_signature, a_version, an_entry, a_bill, a_text, a_boolean, a_number, a_list, a_record, a_tools, a_data, a_license_choice, a_license_identifier, Need, optional, required, required_first, else_empty, Spelled, attribute, attribute_or, content, one_text, as_cdata, child, filled_child, children, either_child, the_version, Row}
+use Rattle.cdx_models.specs.Trees.{Name, hash, property, attached_text, license, expression, tool, copyright, classification, service_data, tools_object, signer, signers, chain, bill, Tree, absent, text, number, boolean, items, fields, Trees, none, more, one, two, ◌⧺◌, is_absent, field, with_field}
+use Rattle.cdx_schema.specs.Kinds.{Lists, hashes, licenses, components, services, tool_list, Kind, strict, a_reference, a_signature, a_version, an_entry, a_bill, a_text, a_boolean, a_number, a_list, a_record, a_tools, a_data, a_license_choice, a_license_identifier, Need, optional, required, required_first, else_empty, Spelled, attribute, attribute_or, content, one_text, as_cdata, child, filled_child, children, either_child, the_version, Row}
 use Rattle.cdx_schema.specs.Table.{rows, list, row, must, from, at, of, each, respelled_reference, class_row}
 use Rattle.cdx_schema.specs.Results.{◌>>=◌}
 use Rattle.cdx_schema.specs.Faults.{lacking}
@@ -929,50 +929,12 @@ record_back dec w d spdx_id ts other' deep h f = one_text_back w d spdx_id ts (o
 record_back dec w d license_name ts other' deep h f = one_text_back w d license_name ts (one_text_of w d ts (must (row a_text one_text "name")) refl refl refl h) (name_back w d)
 record_back dec w d expression ts other' deep h f = expression_back w d ts h
 record_back dec w d attached_text ts other' deep h f = attached_back w d ts h
-record_back dec w d contact ts other' deep h f = well_xread dec w d contact ts deep refl refl refl refl h (f refl)
-record_back dec w d entity ts other' deep h f = well_xread dec w d entity ts deep refl refl refl refl h (f refl)
-record_back dec w d commit ts other' deep h f = well_xread dec w d commit ts deep refl refl refl refl h (f refl)
-record_back dec w d action ts other' deep h f = well_xread dec w d action ts deep refl refl refl refl h (f refl)
-record_back dec w d patch ts other' deep h f = well_xread dec w d patch ts deep refl refl refl refl h (f refl)
-record_back dec w d diff ts other' deep h f = well_xread dec w d diff ts deep refl refl refl refl h (f refl)
-record_back dec w d issue ts other' deep h f = well_xread dec w d issue ts deep refl refl refl refl h (f refl)
-record_back dec w d source ts other' deep h f = well_xread dec w d source ts deep refl refl refl refl h (f refl)
-record_back dec w d reference ts other' deep h f = well_xread dec w d reference ts deep refl refl refl refl h (f refl)
-record_back dec w d dependency ts other' deep h f = well_xread dec w d dependency ts deep refl refl refl refl h (f refl)
-record_back dec w d composition ts other' deep h f = well_xread dec w d composition ts deep refl refl refl refl h (f refl)
-record_back dec w d license ts other' deep h f = well_xread dec w d license ts deep refl refl refl refl h (f refl)
-record_back dec w d tool ts other' deep h f = well_xread dec w d tool ts deep refl refl refl refl h (f refl)
-record_back dec w d component ts other' deep h f = well_xread dec w d component ts deep refl refl refl refl h (f refl)
-record_back dec w d swid ts other' deep h f = well_xread dec w d swid ts deep refl refl refl refl h (f refl)
-record_back dec w d pedigree ts other' deep h f = well_xread dec w d pedigree ts deep refl refl refl refl h (f refl)
-record_back dec w d evidence ts other' deep h f = well_xread dec w d evidence ts deep refl refl refl refl h (f refl)
-record_back dec w d service ts other' deep h f = well_xread dec w d service ts deep refl refl refl refl h (f refl)
-record_back dec w d service_data ts other' deep h f = well_xread dec w d service_data ts deep refl refl refl refl h (f refl)
-record_back dec w d tools_object ts other' deep h f = well_xread dec w d tools_object ts deep refl refl refl refl h (f refl)
-record_back dec w d metadata ts other' deep h f = well_xread dec w d metadata ts deep refl refl refl refl h (f refl)
-record_back dec w d signer ts other' deep h f = well_xread dec w d signer ts deep refl refl refl refl h (f refl)
-record_back dec w d signers ts other' deep h f = well_xread dec w d signers ts deep refl refl refl refl h (f refl)
-record_back dec w d chain ts other' deep h f = well_xread dec w d chain ts deep refl refl refl refl h (f refl)
+record_back dec w d n ts other' deep h f = well_xread dec w d n ts deep refl refl refl refl h (f refl)
 
 -- ---- the induction
 
 pub finds_list : (w : SpecVersion) (d : Depth) (l : Lists) → Finds w d (plan_of_list l) 0 (list l).kind (list l).name
 unfolding list
-finds_list w d hashes t h = finds_plain w d (plan_of_list hashes) 0 V1_3 (list hashes).kind (list hashes).name refl refl t h
-finds_list w d properties t h = finds_plain w d (plan_of_list properties) 0 V1_3 (list properties).kind (list properties).name refl refl t h
-finds_list w d urls t h = finds_plain w d (plan_of_list urls) 0 V1_3 (list urls).kind (list urls).name refl refl t h
-finds_list w d contacts t h = finds_plain w d (plan_of_list contacts) 0 V1_3 (list contacts).kind (list contacts).name refl refl t h
-finds_list w d commits t h = finds_plain w d (plan_of_list commits) 0 V1_3 (list commits).kind (list commits).name refl refl t h
-finds_list w d patches t h = finds_plain w d (plan_of_list patches) 0 V1_3 (list patches).kind (list patches).name refl refl t h
-finds_list w d resolved t h = finds_plain w d (plan_of_list resolved) 0 V1_3 (list resolved).kind (list resolved).name refl refl t h
-finds_list w d links t h = finds_plain w d (plan_of_list links) 0 V1_3 (list links).kind (list links).name refl refl t h
-finds_list w d external_references t h = finds_plain w d (plan_of_list external_references) 0 V1_3 (list external_references).kind (list external_references).name refl refl t h
-finds_list w d dependencies t h = finds_plain w d (plan_of_list dependencies) 0 V1_3 (list dependencies).kind (list dependencies).name refl refl t h
-finds_list w d depended t h = finds_plain w d (plan_of_list depended) 0 V1_3 (list depended).kind (list depended).name refl refl t h
-finds_list w d compositions t h = finds_plain w d (plan_of_list compositions) 0 V1_3 (list compositions).kind (list compositions).name refl refl t h
-finds_list w d assemblies t h = finds_plain w d (plan_of_list assemblies) 0 V1_3 (list assemblies).kind (list assemblies).name refl refl t h
-finds_list w d composed t h = finds_plain w d (plan_of_list composed) 0 V1_3 (list composed).kind (list composed).name refl refl t h
-finds_list w d vulnerabilities t h = finds_plain w d (plan_of_list vulnerabilities) 0 V1_3 (list vulnerabilities).kind (list vulnerabilities).name refl refl t h
 finds_list w d licenses absent h = absurd (true≢false h)
 finds_list w d licenses (text x) h = absurd (true≢false h)
 finds_list w d licenses (number x) h = absurd (true≢false h)
@@ -983,45 +945,12 @@ finds_list w d licenses (fields n ts) h = by h.0
     by : (n ≡ license) ⊎ (n ≡ expression) → (c : Child) × (find_child w (tag_of a_license_choice (fields n ts) (list licenses).name) (plan_of_list licenses).children ≡ Some c) × (c.field ≡ 0) × (c.place ≡ all) × (c.kind ≡ a_license_choice)
     by (inl e) = (record { name = codes "license"; since = V1_3; kind = a_license_choice; field = 0; place = all }, ap (λ (m : Name). find_child w (name_in a_license_choice m (list licenses).name) (plan_of_list licenses).children) e, refl, refl, refl)
     by (inr e) = (record { name = codes "expression"; since = V1_3; kind = a_license_choice; field = 0; place = all }, ap (λ (m : Name). find_child w (name_in a_license_choice m (list licenses).name) (plan_of_list licenses).children) e, refl, refl, refl)
-finds_list w d components t h = finds_plain w d (plan_of_list components) 0 V1_3 (list components).kind (list components).name refl refl t h
-finds_list w d services t h = finds_plain w d (plan_of_list services) 0 V1_3 (list services).kind (list services).name refl refl t h
-finds_list w d copyright_texts t h = finds_plain w d (plan_of_list copyright_texts) 0 V1_3 (list copyright_texts).kind (list copyright_texts).name refl refl t h
-finds_list w d endpoints t h = finds_plain w d (plan_of_list endpoints) 0 V1_3 (list endpoints).kind (list endpoints).name refl refl t h
-finds_list w d authors t h = finds_plain w d (plan_of_list authors) 0 V1_3 (list authors).kind (list authors).name refl refl t h
-finds_list w d tool_list t h = finds_plain w d (plan_of_list tool_list) 0 V1_3 (list tool_list).kind (list tool_list).name refl refl t h
-finds_list w d signer_list t h = finds_plain w d (plan_of_list signer_list) 0 V1_3 (list signer_list).kind (list signer_list).name refl refl t h
-finds_list w d chain_list t h = finds_plain w d (plan_of_list chain_list) 0 V1_3 (list chain_list).kind (list chain_list).name refl refl t h
-finds_list w d classifications t h = finds_plain w d (plan_of_list classifications) 0 V1_3 (list classifications).kind (list classifications).name refl refl t h
-finds_list w d flows t h = finds_plain w d (plan_of_list flows) 0 V1_3 (list flows).kind (list flows).name refl refl t h
+finds_list w d l t h = finds_plain w d (plan_of_list l) 0 V1_3 (list l).kind (list l).name refl refl t h
 
 pub list_elem : (l : Lists) → is_elem (list l).kind ≡ true
 unfolding list
 list_elem hashes = refl
-list_elem properties = refl
-list_elem urls = refl
-list_elem contacts = refl
-list_elem commits = refl
-list_elem patches = refl
-list_elem resolved = refl
-list_elem links = refl
-list_elem external_references = refl
-list_elem dependencies = refl
-list_elem depended = refl
-list_elem compositions = refl
-list_elem assemblies = refl
-list_elem composed = refl
-list_elem vulnerabilities = refl
-list_elem licenses = refl
-list_elem components = refl
-list_elem services = refl
-list_elem copyright_texts = refl
-list_elem endpoints = refl
-list_elem authors = refl
-list_elem tool_list = refl
-list_elem signer_list = refl
-list_elem chain_list = refl
-list_elem classifications = refl
-list_elem flows = refl
+list_elem _ = refl
 
 pub choice_license : (w : SpecVersion) (d : Depth) (ts : Trees) → XBack w d license ts → IsXRead w d (fields license ts) a_license_choice (tripped w (fields license ts) a_license_choice)
 unfolding xread nodes_of tripped
