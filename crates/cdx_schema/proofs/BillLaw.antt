@@ -39,14 +39,7 @@ row_bears_none r t h = by r.xml h
     by : (x : Spelled) → bears_none x ≡ true → row_attributes (record r { xml = x }) t ≡ []
     by (attribute n) e = absurd (true≢false (sym e))
     by (attribute_or n m) e = absurd (true≢false (sym e))
-    by content e = refl
-    by one_text e = refl
-    by as_cdata e = refl
-    by (child n) e = refl
-    by (filled_child n) e = refl
-    by (children n) e = refl
-    by (either_child m n) e = refl
-    by the_version e = refl
+    by _ e = refl
 
 no_attributes : (w : SpecVersion) (ts : Trees) (rs : List Row) → bear_none rs ≡ true → attributes_in ts rs w ≡ []
 no_attributes w none rs h = refl

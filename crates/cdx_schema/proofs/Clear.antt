@@ -21,14 +21,12 @@ mutual
   unfolding first_float
 
   clear : (d : Data) → first_float d ≡ None → has_float d ≡ false
-  clear null h = refl
-  clear (boolean b) h = refl
   clear (number (unsigned n)) h = refl
   clear (number (negative z)) h = refl
   clear (number (float x)) h = absurd (none-some {A = List Step} [] (sym h))
-  clear (string s) h = refl
   clear (array ds) h = items_clear ds 0 h
   clear (object ms) h = members_clear ms h
+  clear _ h = refl
 
   items_clear : (ds : Items) (n : ℕ) → float_of_items n ds ≡ None → items_have_float ds ≡ false
   items_clear no_items n h = refl

@@ -54,10 +54,6 @@ is_bare _ = false
 
 bare_solid : (w : SpecVersion) (k : Kind) → is_bare k ≡ true → KindSolid w k
 unfolding has_empty
-bare_solid w k e d absent h = refl
-bare_solid w k e d (text s) h = refl
-bare_solid w k e d (number s) h = refl
-bare_solid w k e d (boolean s) h = refl
 bare_solid w k e d (items ts) h = by k e h.0
   where
     by : (j : Kind) → is_bare j ≡ true → IsListOf j → have_empty ts ≡ false
@@ -76,6 +72,7 @@ bare_solid w k e d (fields n ts) h = by k e h.0
     by a_version e h = absurd (true≢false h)
     by a_reference e h = absurd (true≢false h)
     by _ e h = absurd (true≢false (sym e))
+bare_solid w k e d _ h = refl
 
 absent_solid : (t : Tree) → is_absent t ≡ true → has_empty t ≡ false
 unfolding has_empty
@@ -90,10 +87,6 @@ row_solid w d t r (inr (inl h)) f = by r.need t h.1
     by : (n : Need) (u : Tree) → is_written n u ≡ false → has_empty u ≡ false
     by else_empty (items none) e = refl
     by else_empty (items (more x xs)) e = absurd (true≢false e)
-    by n absent e = refl
-    by n (text s) e = refl
-    by n (number s) e = refl
-    by n (boolean s) e = refl
     by optional (items s) e = absurd (true≢false e)
     by required (items s) e = absurd (true≢false e)
     by required_first (items s) e = absurd (true≢false e)
@@ -101,9 +94,8 @@ row_solid w d t r (inr (inl h)) f = by r.need t h.1
       where
         written : (n : Need) → is_written n (fields m s) ≡ true
         written optional = refl
-        written required = refl
-        written required_first = refl
-        written else_empty = refl
+        written _ = refl
+    by n _ e = refl
 
 abbrev RowsSolid : SpecVersion → List Row → Type 0
 RowsSolid w [] = Unit {0}
@@ -138,21 +130,15 @@ all_solid w k s d none h = refl
 all_solid w k s d (more t ts) h = or_both (has_empty t) (have_empty ts) (s d t h.0) (all_solid w k s d ts h.1)
 
 record_solid : (w : SpecVersion) (n : Name) → RowsSolid w (rows n) → no_one_text (rows n) ≡ true → KindSolid w (a_record n)
-record_solid w n s c d absent h = absurd (true≢false h)
-record_solid w n s c d (text x) h = absurd (true≢false h)
-record_solid w n s c d (number x) h = absurd (true≢false h)
-record_solid w n s c d (boolean x) h = absurd (true≢false h)
 record_solid w n s c d (items x) h = absurd (true≢false h.0)
 record_solid w n s c d (fields m ts) h = subst (λ (j : Name). FieldsHeld w (inside j d) ts (rows j) → has_empty (fields j ts) ≡ false) (sym h.0) (fields_solid w (inside n d) n ts s c) h.2
+record_solid w n s c d _ h = absurd (true≢false h)
 
 list_solid : (w : SpecVersion) (l : Lists) → KindSolid w (list l).kind → KindSolid w (a_list l)
 unfolding has_empty
-list_solid w l s d absent h = absurd (true≢false h)
-list_solid w l s d (text x) h = absurd (true≢false h)
-list_solid w l s d (number x) h = absurd (true≢false h)
-list_solid w l s d (boolean x) h = absurd (true≢false h)
 list_solid w l s d (fields m ts) h = absurd (true≢false h.0)
 list_solid w l s d (items ts) h = all_solid w (list l).kind s d ts h.1
+list_solid w l s d _ h = absurd (true≢false h)
 
 words : (w : SpecVersion) → KindSolid w a_text
 words w = bare_solid w a_text refl
@@ -171,10 +157,6 @@ chain_solid w = (list_solid w chain_list (record_solid w signer (signer_solid w)
 
 signature_solid : (w : SpecVersion) → KindSolid w a_signature
 unfolding rows
-signature_solid w d absent h = absurd (true≢false h)
-signature_solid w d (text x) h = absurd (true≢false h)
-signature_solid w d (number x) h = absurd (true≢false h)
-signature_solid w d (boolean x) h = absurd (true≢false h)
 signature_solid w d (items x) h = absurd (true≢false h.0)
 signature_solid w d (fields n ts) h = by h.0
   where
@@ -182,6 +164,7 @@ signature_solid w d (fields n ts) h = by h.0
     by (inl e) = subst (λ (j : Name). FieldsHeld w (inside j d) ts (rows j) → has_empty (fields j ts) ≡ false) (sym e) (fields_solid w d signers ts (signers_solid w) refl) h.2
     by (inr (inl e)) = subst (λ (j : Name). FieldsHeld w (inside j d) ts (rows j) → has_empty (fields j ts) ≡ false) (sym e) (fields_solid w d chain ts (chain_solid w) refl) h.2
     by (inr (inr e)) = subst (λ (j : Name). FieldsHeld w (inside j d) ts (rows j) → has_empty (fields j ts) ≡ false) (sym e) (fields_solid w d signer ts (signer_solid w) refl) h.2
+signature_solid w d _ h = absurd (true≢false h)
 
 class_solid : (w : SpecVersion) → RowsSolid w (rows classification)
 unfolding rows
@@ -193,16 +176,13 @@ flow_solid w = (words w, (words w, (record_solid w classification (class_solid w
 
 entry_solid : (w : SpecVersion) → KindSolid w an_entry
 unfolding rows
-entry_solid w d absent h = absurd (true≢false h)
-entry_solid w d (text x) h = absurd (true≢false h)
-entry_solid w d (number x) h = absurd (true≢false h)
-entry_solid w d (boolean x) h = absurd (true≢false h)
 entry_solid w d (items x) h = absurd (true≢false h.0)
 entry_solid w d (fields n ts) h = by h.0
   where
     by : (n ≡ classification) ⊎ ((n ≡ service_data) × (is_flow n ts ≡ true) × (w ≡ V1_5)) → has_empty (fields n ts) ≡ false
     by (inl e) = subst (λ (j : Name). FieldsHeld w (inside j d) ts (rows j) → has_empty (fields j ts) ≡ false) (sym e) (fields_solid w d classification ts (class_solid w) refl) h.2
     by (inr e) = subst (λ (j : Name). FieldsHeld w (inside j d) ts (rows j) → has_empty (fields j ts) ≡ false) (sym e.0) (fields_solid w d service_data ts (flow_solid w) refl) h.2
+entry_solid w d _ h = absurd (true≢false h)
 
 -- ---- what isn't written
 
@@ -303,11 +283,8 @@ either_back w d plan (fields o ts) m p g e i j h = by o g.0 e h
     by : (o : Name) → (o ≡ spdx_id) ⊎ (o ≡ license_name) → Back w (fields o ts) a_license_identifier → holes (lean_nodes (lone (wrapped (fields o ts) w m a_license_identifier (nodes_of (fields o ts) w a_license_identifier)))) w p plan ≡ None → has_empty (fields o ts) ≡ false
     by o (inl q) = subst (λ (z : Name). Back w (fields z ts) a_license_identifier → holes (lean_nodes (lone (wrapped (fields z ts) w m a_license_identifier (nodes_of (fields z ts) w a_license_identifier)))) w p plan ≡ None → has_empty (fields z ts) ≡ false) (sym q) (λ e h. child_back w plan (fields spdx_id ts) a_license_identifier m (codes "id") p e refl i h)
     by o (inr q) = subst (λ (z : Name). Back w (fields z ts) a_license_identifier → holes (lean_nodes (lone (wrapped (fields z ts) w m a_license_identifier (nodes_of (fields z ts) w a_license_identifier)))) w p plan ≡ None → has_empty (fields z ts) ≡ false) (sym q) (λ e h. child_back w plan (fields license_name ts) a_license_identifier m (codes "name") p e refl j h)
-either_back w d plan absent m p g e i j h = absurd (true≢false g)
-either_back w d plan (text s) m p g e i j h = absurd (true≢false g)
-either_back w d plan (number s) m p g e i j h = absurd (true≢false g)
-either_back w d plan (boolean s) m p g e i j h = absurd (true≢false g)
 either_back w d plan (items s) m p g e i j h = absurd (true≢false g.0)
+either_back w d plan _ m p g e i j h = absurd (true≢false g)
 
 row_back : (w : SpecVersion) (d : Depth) (plan : Plan) (t : Tree) (r : Row) (p : ℕ) → is_clear r.kind r.xml ≡ true → is_sound r.kind r.xml ≡ true → RowFinds w plan r r.xml
     → Held w d t r.kind → Back w t r.kind → ItemsBack w d t → holes (lean_nodes (row_nodes r.xml t w r.kind (nodes_of t w r.kind))) w p plan ≡ None → has_empty t ≡ false
@@ -329,16 +306,14 @@ row_back w d plan t r p clear sound finds held b its = by r.kind r.xml clear sou
     either _ m n c f g e h = absurd (true≢false (sym c))
 
     by : (k : Kind) (x : Spelled) → is_clear k x ≡ true → is_sound k x ≡ true → RowFinds w plan (record r { kind = k; xml = x }) x → Held w d t k → Back w t k → holes (lean_nodes (row_nodes x t w k (nodes_of t w k))) w p plan ≡ None → has_empty t ≡ false
-    by k (attribute n) c s f g e h = bare_solid w k s d t g
-    by k (attribute_or n m) c s f g e h = bare_solid w k s d t g
     by k content c s f g e h = absurd (true≢false (sym c))
     by k one_text c s f g e h = absurd (true≢false (sym c))
     by k as_cdata c s f g e h = absurd (true≢false (sym c))
     by k (child n) c s f g e h = child_back w plan t k n n p e (tag_plain k t n c) f h
     by k (filled_child n) c s f g e h = filled k n (is_hollow t) refl s g (child_back w plan t k n n p e (tag_plain k t n c) f) h
     by k (children n) c s f g e h = lists k n c f g h
-    by k the_version c s f g e h = bare_solid w k s d t g
     by k (either_child m n) c s f g e h = either k m n c f g e h
+    by k _ c s f g e h = bare_solid w k s d t g
 
 written_back : (w : SpecVersion) (d : Depth) (plan : Plan) (t : Tree) (r : Row) (p : ℕ) → is_right r ≡ true → (knows r.since w ≡ true → RowFinds w plan r r.xml)
     → RowHeld w d t r → (Held w d t r.kind → Back w t r.kind) → ItemsBack w d t → holes (lean_nodes (row_written r t w)) w p plan ≡ None → has_empty t ≡ false
@@ -483,12 +458,9 @@ mutual
   unfolding nodes_of has_empty
 
   pub back : (w : SpecVersion) (d : Depth) (t : Tree) (k : Kind) → Held w d t k → Back w t k
-  back w d absent k h tag p e = refl
-  back w d (text s) k h tag p e = refl
-  back w d (number n) k h tag p e = refl
-  back w d (boolean b) k h tag p e = refl
   back w d (items ts) k h tag p e = items_case w d ts k h (λ j n plan q g i z. items_back w d ts j n plan q g i z) tag p e
   back w d (fields n ts) k h tag p e = fields_case w d n ts k h (λ plan q c i z. rows_back w (inside n d) ts (rows n) plan q c h.2 i z) tag p e
+  back w d _ k h tag p e = refl
 
   pub items_back : (w : SpecVersion) (d : Depth) (ts : Trees) (k : Kind) (tag : List ℕ) (plan : Plan) (p : ℕ) → AllHeld w d ts k → ItemFinds w d plan k tag → holes (lean_nodes (items_nodes ts w (named tag) k)) w p plan ≡ None → have_empty ts ≡ false
   items_back w d none k tag plan p h i e = refl
@@ -497,12 +469,9 @@ mutual
       or_both (has_empty t) (have_empty ts) (item_back w d t k tag plan p (is_passed_over t) refl h.0 (i t h.0) (λ a b c. back w d t k h.0 a b c) s.0) (items_back w d ts k tag plan s.1.0 h.1 i s.1.1)
 
   pub tree_items : (w : SpecVersion) (d : Depth) (t : Tree) → ItemsBack w d t
-  tree_items w d absent l plan p h c i e = absurd (true≢false h)
-  tree_items w d (text s) l plan p h c i e = absurd (true≢false h)
-  tree_items w d (number s) l plan p h c i e = absurd (true≢false h)
-  tree_items w d (boolean s) l plan p h c i e = absurd (true≢false h)
   tree_items w d (fields n s) l plan p h c i e = absurd (true≢false h.0)
   tree_items w d (items ts) l plan p h c i e = items_back w d ts (list l).kind (list l).name plan p h.1 (λ t g. subst (λ (q : List ℕ). Found w plan q (list l).kind) (sym (tag_plain (list l).kind t (list l).name c)) i) e
+  tree_items w d _ l plan p h c i e = absurd (true≢false h)
 
   pub rows_back : (w : SpecVersion) (d : Depth) (ts : Trees) (rs : List Row) (plan : Plan) (p : ℕ) → all_right rs ≡ true → FieldsHeld w d ts rs → RowsFind plan w rs → holes (lean_nodes (fields_nodes ts w rs)) w p plan ≡ None → have_empty ts ≡ false
   rows_back w d none rs plan p c h i e = refl

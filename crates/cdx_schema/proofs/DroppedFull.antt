@@ -273,15 +273,12 @@ row_whole w d plan t r clear known finds held full h its = by r.kind r.xml clear
     filled false xs f = f
 
     by : (k : Kind) (x : Spelled) → is_clear k x ≡ true → RowFinds w plan (record r { kind = k; xml = x }) x → Held w d t k → Whole w t k → HasNone (lean_nodes (row_nodes x t w k (nodes_of t w k))) w plan
-    by k (attribute n) c f g e = nothing_none w plan
-    by k (attribute_or n m) c f g e = nothing_none w plan
     by k content c f g e = absurd (true≢false (sym c))
     by k one_text c f g e = absurd (true≢false (sym c))
     by k as_cdata c f g e = absurd (true≢false (sym c))
     by k (child n) c f g e = one_child w plan t k n n e (tag_plain k t n c) f
     by k (filled_child n) c f g e = filled (is_hollow t) (lone (wrapped t w n k (nodes_of t w k))) (one_child w plan t k n n e (tag_plain k t n c) f)
     by k (children n) c f g e = lists k n c f g
-    by k the_version c f g e = nothing_none w plan
     by k (either_child m n) c f g e = either k m n c f g e
       where
         either : (k : Kind) (m n : List ℕ) → is_clear k (either_child m n) ≡ true → Found w plan m k × (bytes_eq n m ≡ false → Found w plan n k) → Held w d t k → Whole w t k → HasNone (lean_nodes (lone (wrapped t w m k (nodes_of t w k)))) w plan
@@ -297,12 +294,10 @@ row_whole w d plan t r clear known finds held full h its = by r.kind r.xml clear
                 named_by : (o : Name) → (o ≡ spdx_id) ⊎ (o ≡ license_name) → Whole w (fields o ts) a_license_identifier → HasNone (lean_nodes (lone (wrapped (fields o ts) w m a_license_identifier (nodes_of (fields o ts) w a_license_identifier)))) w plan
                 named_by o (inl q) = subst (λ (z : Name). Whole w (fields z ts) a_license_identifier → HasNone (lean_nodes (lone (wrapped (fields z ts) w m a_license_identifier (nodes_of (fields z ts) w a_license_identifier)))) w plan) (sym q) (λ e. one_child w plan (fields spdx_id ts) a_license_identifier m (codes "id") e refl i)
                 named_by o (inr q) = subst (λ (z : Name). Whole w (fields z ts) a_license_identifier → HasNone (lean_nodes (lone (wrapped (fields z ts) w m a_license_identifier (nodes_of (fields z ts) w a_license_identifier)))) w plan) (sym q) (λ e. one_child w plan (fields license_name ts) a_license_identifier m (codes "name") e refl j)
-            at absent g e i j = absurd (true≢false g)
-            at (text s) g e i j = absurd (true≢false g)
-            at (number s) g e i j = absurd (true≢false g)
-            at (boolean s) g e i j = absurd (true≢false g)
             at (items s) g e i j = absurd (true≢false g.0)
+            at _ g e i j = absurd (true≢false g)
         either _ m n c f g e = absurd (true≢false (sym c))
+    by k _ c f g e = nothing_none w plan
 
 list_held : (w : SpecVersion) (d : Depth) (k : Kind) (n : List ℕ) → clear_list k n ≡ true → Held w d (items none) k
 list_held w d (a_list l) n c = (tt, tt)
@@ -507,12 +502,9 @@ mutual
       (items_whole w d ts k tag plan h.1 e.1 i)
 
   pub tree_items : (w : SpecVersion) (d : Depth) (t : Tree) → ItemsWhole w d t
-  tree_items w d absent l plan h f c i = absurd (true≢false h)
-  tree_items w d (text s) l plan h f c i = absurd (true≢false h)
-  tree_items w d (number s) l plan h f c i = absurd (true≢false h)
-  tree_items w d (boolean s) l plan h f c i = absurd (true≢false h)
   tree_items w d (fields n s) l plan h f c i = absurd (true≢false h.0)
   tree_items w d (items ts) l plan h f c i = items_whole w d ts (list l).kind (list l).name plan h.1 f (λ t g. subst (λ (q : List ℕ). Found w plan q (list l).kind) (sym (tag_plain (list l).kind t (list l).name c)) i)
+  tree_items w d _ l plan h f c i = absurd (true≢false h)
 
   pub rows_whole : (w : SpecVersion) (d : Depth) (ts : Trees) (rs : List Row) (plan : Plan) → all_clear rs ≡ true → FieldsHeld w d ts rs → have_empty ts ≡ false → RowsFind plan w rs → HasNone (lean_nodes (fields_nodes ts w rs)) w plan
   rows_whole w d none rs plan c h f i = nothing_none w plan

@@ -209,11 +209,7 @@ mutual
 
   own_or : (t : Tree) (w : SpecVersion) (ms : Members) (q : List ℕ) → get_member q (own_members t w ms) ≡ or_else (get_member q (own_members t w no_members)) (get_member q ms)
   own_or (fields n ts) w ms q = sets_members (rows n) ts w ms q
-  own_or absent w ms q = refl
-  own_or (text s) w ms q = refl
-  own_or (number n) w ms q = refl
-  own_or (boolean b) w ms q = refl
-  own_or (items ts) w ms q = refl
+  own_or _ w ms q = refl
 
 pub writes_rows : WritesRows
 unfolding nodes_of

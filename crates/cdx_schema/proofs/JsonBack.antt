@@ -154,18 +154,7 @@ unfolding rows
 own_name q a_license_identifier n (inl e) h = subst (λ (m : Name). is_in q (names (rows m)) ≡ false) (sym e) (both_false (bytes_eq q (codes "id")) false (or_false (bytes_eq q (codes "id")) _ h).0 refl)
 own_name q a_license_identifier n (inr e) h = subst (λ (m : Name). is_in q (names (rows m)) ≡ false) (sym e) (or_false (bytes_eq q (codes "id")) _ h).1
 own_name q (a_record m) n e h = subst (λ (l : Name). is_in q (names (rows l)) ≡ false) (sym e.0) (ap (is_in q) (sym e.1) ∙ h)
-own_name q a_text n e h = absurd (true≢false e)
-own_name q a_boolean n e h = absurd (true≢false e)
-own_name q a_number n e h = absurd (true≢false e)
-own_name q a_version n e h = absurd (true≢false e)
-own_name q (a_list l) n e h = absurd (true≢false e)
-own_name q a_reference n e h = absurd (true≢false e)
-own_name q a_license_choice n e h = absurd (true≢false e)
-own_name q a_tools n e h = absurd (true≢false e)
-own_name q a_data n e h = absurd (true≢false e)
-own_name q an_entry n e h = absurd (true≢false e)
-own_name q a_signature n e h = absurd (true≢false e)
-own_name q a_bill n e h = absurd (true≢false e)
+own_name q _ n e h = absurd (true≢false e)
 
 pub left_at : (q : List ℕ) (b : Bool) (r : Row) (x : Data) (own : Members → Members) (ms : Members) → is_in q (row_names r.old_name r.json (own_names r.kind)) ≡ false
     → (r.json ≡ merged → get_member q (own ms) ≡ get_member q ms)
@@ -192,12 +181,8 @@ mutual
 
   own_other : (q : List ℕ) (t : Tree) (w : SpecVersion) (k : Kind) (ms : Members) → IsOwn t merged k → is_in q (own_names k) ≡ false
       → get_member q (own_members t w ms) ≡ get_member q ms
-  own_other q absent w k ms own h = refl
-  own_other q (text s) w k ms own h = refl
-  own_other q (number n) w k ms own h = refl
-  own_other q (boolean b) w k ms own h = refl
-  own_other q (items ts) w k ms own h = refl
   own_other q (fields n ts) w k ms own h = other q ts w (rows n) ms own.1 (own_name q k n own.0 h)
+  own_other q _ w k ms own h = refl
 
 -- ---- rows that are read back
 
@@ -473,17 +458,7 @@ unfolding jspell jread
 text_back w d s a_text h = (refl, refl)
 text_back w d s a_reference h = (refl, refl)
 text_back w d s a_version h = (refl, if_true (is_label s) (Ok (text s)) _ h)
-text_back w d s a_boolean h = absurd (true≢false h)
-text_back w d s a_number h = absurd (true≢false h)
-text_back w d s (a_list l) h = absurd (true≢false h)
-text_back w d s (a_record n) h = absurd (true≢false h)
-text_back w d s a_license_choice h = absurd (true≢false h)
-text_back w d s a_license_identifier h = absurd (true≢false h)
-text_back w d s a_tools h = absurd (true≢false h)
-text_back w d s a_data h = absurd (true≢false h)
-text_back w d s an_entry h = absurd (true≢false h)
-text_back w d s a_signature h = absurd (true≢false h)
-text_back w d s a_bill h = absurd (true≢false h)
+text_back w d s _ h = absurd (true≢false h)
 
 pub number_back : (w : SpecVersion) (d : Depth) (n : ℕ) (k : Kind) → IsNumberHeld k n → IsRead w d (number n) k
 unfolding jspell jread
@@ -524,12 +499,10 @@ own_back_named own w (more t ts) (r ∷ rs) h = (by r.json (and_true (is_named r
     by merged e = absurd (true≢false (sym e))
 
 pub held_text : (w : SpecVersion) (d : Depth) (t : Tree) → Held w d t a_text → (s : List ℕ) × (t ≡ text s)
-held_text w d absent h = absurd (true≢false h)
 held_text w d (text s) h = (s, refl)
-held_text w d (number n) h = absurd (true≢false h)
-held_text w d (boolean b) h = absurd (true≢false h)
 held_text w d (items ts) h = absurd (true≢false h.0)
 held_text w d (fields n ts) h = absurd (true≢false h.0)
+held_text w d _ h = absurd (true≢false h)
 
 abbrev pub RowHeld : SpecVersion → Depth → Tree → Row → Type 0
 RowHeld w d t r = ((knows r.since w ≡ false) × (t ≡ absent))
@@ -595,10 +568,6 @@ name_gets w d b s us owns =
 pub identifier_of : (w : SpecVersion) (d : Depth) (t : Tree) → Held w d t a_license_identifier
     → ((s : List ℕ) × (t ≡ fields spdx_id (one (text s)))) ⊎ ((s : List ℕ) × (t ≡ fields license_name (one (text s))))
 unfolding rows
-identifier_of w d absent h = absurd (true≢false h)
-identifier_of w d (text s) h = absurd (true≢false h)
-identifier_of w d (number n) h = absurd (true≢false h)
-identifier_of w d (boolean b) h = absurd (true≢false h)
 identifier_of w d (items ts) h = absurd (true≢false h.0)
 identifier_of w d (fields n ts) h = by h.0
   where
@@ -611,6 +580,7 @@ identifier_of w d (fields n ts) h = by h.0
       where
         by_text : (m : Name) → n ≡ m → (s : List ℕ) × (ts ≡ one (text s)) → (s : List ℕ) × (fields n ts ≡ fields m (one (text s)))
         by_text m e' p = (p.0, rw (e', p.1) refl)
+identifier_of w d _ h = absurd (true≢false h)
 
 abbrev pub IdGets : SpecVersion → Depth → Tree → Trees → Tree → Type 0
 IdGets w d b us j = AreOwn (more b (more j us)) (rows license) → identifier_read (seen (spelled license (more b (more j us)) w)) w d ≡ Ok j
@@ -648,14 +618,11 @@ two_texts_of w d (more t us) r s a b c a' b' c' h =
 
 pub class_of : (w : SpecVersion) (d : Depth) (t : Tree) → Held w d t (a_record classification) → (f : List ℕ) × (g : List ℕ) × (t ≡ fields classification (two (text f) (text g)))
 unfolding rows
-class_of w d absent h = absurd (true≢false h)
-class_of w d (text s) h = absurd (true≢false h)
-class_of w d (number n) h = absurd (true≢false h)
-class_of w d (boolean b) h = absurd (true≢false h)
 class_of w d (items ts) h = absurd (true≢false h.0)
 class_of w d (fields n ts) h =
     let e : (f : List ℕ) × (g : List ℕ) × (ts ≡ two (text f) (text g)) = two_texts_of w d ts _ _ refl refl refl refl refl refl (subst (λ (m : Name). FieldsHeld w (inside m d) ts (rows m)) h.0 h.2) in
     (e.0, e.1, fields_same h.0 e.2)
+class_of w d _ h = absurd (true≢false h)
 
 pub class_gets : (w : SpecVersion) (d : Depth) (a b : Tree) (f g : List ℕ)
     → own_read (seen (spelled service_data (more a (more b (one (fields classification (two (text f) (text g)))))) w)) w d (a_record classification) ≡ Ok (fields classification (two (text f) (text g)))
@@ -709,9 +676,7 @@ must_held w d t r must h = by r.need r.since refl refl must
     by required V1_3 e f g = required_held w d t r e f h
     by required V1_4 e f g = absurd (true≢false (sym g))
     by required V1_5 e f g = absurd (true≢false (sym g))
-    by optional s e f g = absurd (true≢false (sym g))
-    by required_first s e f g = absurd (true≢false (sym g))
-    by else_empty s e f g = absurd (true≢false (sym g))
+    by _ s e f g = absurd (true≢false (sym g))
 
 pub is_own_member : (t : Tree) (n : List ℕ) (k : Kind) → IsOwn t (member n) k
 is_own_member t n k = tt
@@ -911,13 +876,7 @@ fields_back w d n ts a_signature (inl e) deep h o b = by_name w d n signers a_si
 fields_back w d n ts a_signature (inr (inl e)) deep h o b = by_name w d n chain a_signature ts e (λ h' o' b'. chain_back w d ts b') h o b
 fields_back w d n ts a_signature (inr (inr e)) deep h o b = by_name w d n signer a_signature ts e (signer_back w d ts) h o b
 fields_back w d n ts a_bill e deep h o b = by_name w d n bill a_bill ts e (bill_back w d ts) h o b
-fields_back w d n ts a_text e deep h o b = absurd (true≢false e)
-fields_back w d n ts a_boolean e deep h o b = absurd (true≢false e)
-fields_back w d n ts a_number e deep h o b = absurd (true≢false e)
-fields_back w d n ts a_version e deep h o b = absurd (true≢false e)
-fields_back w d n ts (a_list l) e deep h o b = absurd (true≢false e)
-fields_back w d n ts a_reference e deep h o b = absurd (true≢false e)
-fields_back w d n ts a_data e deep h o b = absurd (true≢false e)
+fields_back w d n ts _ e deep h o b = absurd (true≢false e)
 
 pub field_back : (w : SpecVersion) (d : Depth) (t : Tree) (r : Row) → (Held w d t r.kind → IsRead w d t r.kind) → RowHeld w d t r → IsBack w d t r
 field_back w d t r f (inl h) = inl h

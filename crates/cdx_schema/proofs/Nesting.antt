@@ -76,36 +76,24 @@ abbrev inner : Name → Height
 inner component = above_component 2
 inner pedigree = above_component 1
 inner service = above_service 1
-inner hash = at_most 0
-inner property = at_most 0
-inner attached_text = at_most 0
-inner contact = at_most 0
 inner entity = at_most 2
 inner commit = at_most 1
-inner action = at_most 0
 inner patch = at_most 3
 inner diff = at_most 1
 inner issue = at_most 1
-inner source = at_most 0
 inner reference = at_most 2
 inner dependency = at_most 1
 inner composition = at_most 3
 inner license = at_most 2
-inner expression = at_most 0
-inner spdx_id = at_most 0
-inner license_name = at_most 0
 inner tool = at_most 4
 inner swid = at_most 1
 inner evidence = at_most 5
-inner copyright = at_most 0
-inner classification = at_most 0
-inner service_data = at_most 0
-inner signer = at_most 0
 inner signers = at_most 2
 inner chain = at_most 2
 inner tools_object = at_most 101
 inner metadata = at_most 102
 inner bill = at_most 103
+inner _ = at_most 0
 
 -- the record itself, at the depth where it stands
 abbrev name_height : Name → Height
@@ -116,10 +104,7 @@ name_height n = up (inner n)
 abbrev list_height : Lists → Height
 list_height components = above_component 1
 list_height services = above_service 1
-list_height hashes = at_most 2
-list_height properties = at_most 2
 list_height urls = at_most 1
-list_height contacts = at_most 2
 list_height commits = at_most 3
 list_height patches = at_most 5
 list_height resolved = at_most 3
@@ -132,14 +117,9 @@ list_height assemblies = at_most 1
 list_height composed = at_most 1
 list_height vulnerabilities = at_most 1
 list_height licenses = at_most 5
-list_height copyright_texts = at_most 2
 list_height endpoints = at_most 1
-list_height authors = at_most 2
 list_height tool_list = at_most 6
-list_height signer_list = at_most 2
-list_height chain_list = at_most 2
-list_height classifications = at_most 2
-list_height flows = at_most 2
+list_height _ = at_most 2
 
 abbrev kind_height : Kind → Height
 kind_height (a_list l) = list_height l
@@ -277,9 +257,6 @@ mutual
 
   deep : (t : Tree) (w : SpecVersion) (k : Kind) (d : Depth) → HasShape t k → is_shallow t d ≡ true → depth (jspell t w k) ≤ value (kind_height k) d
   deep absent w k d is s = absurd (true≢false is)
-  deep (text x) w k d is s = omega arith
-  deep (number x) w k d is s = omega arith
-  deep (boolean x) w k d is s = omega arith
   deep (items ts) w k d is s = trans (suc (items_depth (items_spelled ts w (held_kind k)))) (suc (value (kind_height (held_kind k)) d)) (value (kind_height k) d) (omega (arith, deep_items ts w (held_kind k) d is.1 s)) (held_value k d is.0)
   deep (fields n ts) w k d is s =
       let p : (not (name_too_deep n d) ≡ true) × (are_shallow ts (inside n d) ≡ true) = and_true (not (name_too_deep n d)) (are_shallow ts (inside n d)) s in
@@ -288,6 +265,7 @@ mutual
       trans (depth (in_choice k n (object m))) (value (wrapped k n) d) (value (kind_height k) d)
       (choice_depth k n m d (trans (suc (members_depth m)) (suc (value (inner n) (inside n d))) (value (name_height n) d) (omega (arith, i)) (name_value n d (not_true (name_too_deep n d) p.0))))
       (record_value k n ts d is.0)
+  deep _ w k d is s = omega arith
 
   deep_items : (ts : Trees) (w : SpecVersion) (k : Kind) (d : Depth) → HaveShape ts k → are_shallow ts d ≡ true → items_depth (items_spelled ts w k) ≤ value (kind_height k) d
   deep_items none w k d is s = omega arith
@@ -308,15 +286,11 @@ mutual
       (λ g. absent_own t w r b ms is.0 p (λ o. deep_own t w r.kind d b ms o q.0 g p)))
 
   deep_own : (t : Tree) (w : SpecVersion) (k : Kind) (d : Depth) (b : ℕ) (ms : Members) → HasShape t k → is_shallow t d ≡ true → value (kind_height k) d ≤ suc b → members_depth ms ≤ b → members_depth (own_members t w ms) ≤ b
-  deep_own absent w k d b ms is s v p = p
-  deep_own (text x) w k d b ms is s v p = p
-  deep_own (number x) w k d b ms is s v p = p
-  deep_own (boolean x) w k d b ms is s v p = p
-  deep_own (items x) w k d b ms is s v p = p
   deep_own (fields n ts) w k d b ms is s v p =
       let q : (not (name_too_deep n d) ≡ true) × (are_shallow ts (inside n d) ≡ true) = and_true (not (name_too_deep n d)) (are_shallow ts (inside n d)) s in
       deep_rows ts w (rows n) (inside n d) (inner n) b ms is.1 q.1 (within n)
       (omega (arith, name_value n d (not_true (name_too_deep n d) q.0), wrapped_more k n d, record_value k n ts d is.0, v)) p
+  deep_own _ w k d b ms is s v p = p
 
 -- The JSON spelling of a shallow bill nests at most 104 arrays and objects.
 pub bill_nests : (b : Tree) (w : SpecVersion) → HasShape b a_bill → is_shallow b top ≡ true → depth (jspell b w a_bill) ≤ 104

@@ -215,12 +215,9 @@ unfolding is_shallow
 flat_is Q k n d t h deep f = subst (λ (x : Tree). IsReadOf Q k d x) (sym h.1) (f h.0 h.2.0, both (not (name_too_deep n d)) (are_shallow h.0 (inside n d)) (ap not deep) h.2.1)
 
 license_choice : (Q : List ℕ → Type 0) (t : Tree) → IsOfAll Q t (a_record license) → IsOfAll Q t a_license_choice
-license_choice Q absent h = h
-license_choice Q (text s) h = h
-license_choice Q (number n) h = h
-license_choice Q (boolean b) h = h
 license_choice Q (items ts) h = absurd (true≢false h.0)
 license_choice Q (fields n ts) h = (inl h.0, h.1)
+license_choice Q _ h = h
 
 license_good : (Q : List ℕ → Type 0) (f : Found) (v : SpecVersion) (d : Depth) (t : Tree) → GoodFound Q f → license_read f v d ≡ Ok t → IsReadOf Q a_license_choice d t
 license_good Q nothing v d t g e = absurd (err_ok e)

@@ -133,11 +133,7 @@ appended_slot : (Q : List ℕ → Type 0) (u t : Tree) (s : Kind) (d : Depth) �
 unfolding is_shallow
 appended_slot Q (items ts) t s d l (inr h, e) g f = ((l, append_of Q ts t (held_kind s) h.1 g), append_shallow ts t d e f)
 appended_slot Q (items ts) t s d l (inl h, e) g f = absurd (true≢false (sym (ap is_absent h)))
-appended_slot Q absent t s d l h g f = alone Q t s d l g f
-appended_slot Q (text x) t s d l h g f = alone Q t s d l g f
-appended_slot Q (number x) t s d l h g f = alone Q t s d l g f
-appended_slot Q (boolean x) t s d l h g f = alone Q t s d l g f
-appended_slot Q (fields n x) t s d l h g f = alone Q t s d l g f
+appended_slot Q _ t s d l h g f = alone Q t s d l g f
 
 -- Both: the row_kinds of all, and the fields that are there.
 abbrev Holds : (Q : List ℕ → Type 0) → Trees → List Kind → List Bool → Depth → Type 0
@@ -428,13 +424,7 @@ row_attributed Q r as' v around p d t u h e = by r.xml h e
         (λ k o. read_attributed Q r.kind d (knows r.since v) t (attribute_or_good Q (find_attribute q as') q m (record r { xml = attribute_or q m }) p d t (find_texts Q q as' u) a.0 a.1 o)) (λ k. k) f
     by the_version g f = known_attributed Q (knows r.since v) r.kind d (knows r.since v) (Ok (text (label v))) t
         (λ k o. read_attributed Q r.kind d (knows r.since v) t (version_good Q r.kind v d t g (ok_same o))) (λ k. k) f
-    by content g f = absent_attributed Q r.kind d false t refl (ok_same f)
-    by one_text g f = absent_attributed Q r.kind d false t refl (ok_same f)
-    by as_cdata g f = absent_attributed Q r.kind d false t refl (ok_same f)
-    by (child q) g f = absent_attributed Q r.kind d false t refl (ok_same f)
-    by (filled_child q) g f = absent_attributed Q r.kind d false t refl (ok_same f)
-    by (children q) g f = absent_attributed Q r.kind d false t refl (ok_same f)
-    by (either_child q m) g f = absent_attributed Q r.kind d false t refl (ok_same f)
+    by _ g f = absent_attributed Q r.kind d false t refl (ok_same f)
 
 attributes_hold : (Q : List ℕ → Type 0) (rs : List Row) (as' : List OwnedAttribute) (v : SpecVersion) (around : List ℕ) (p : ℕ) (d : Depth) (ts : Trees) → AttributeTexts Q as' → all_xml rs ≡ true → attributes_read rs as' v around p ≡ Ok ts → Holds Q ts (row_kinds rs) (flags rs v) d
 unfolding attributes_read
@@ -528,13 +518,11 @@ absent_ended Q r v d s h l f = by r.xml h l f
     by (attribute q) g o e = (inl (refl, attribute_lacks (knows r.since v) r v refl s (and_true (is_leaf r.kind) (is_plain_need r.need) g).1 e), refl)
     by (attribute_or q m) g o e = (inl (refl, known_lacks (knows r.since v) r v refl s e), refl)
     by the_version g o e = (inl (refl, known_lacks (knows r.since v) r v refl s e), refl)
-    by content g o e = absurd (true≢false (e refl))
-    by one_text g o e = absurd (true≢false (e refl))
-    by as_cdata g o e = absurd (true≢false (e refl))
     by (child q) g o e = (inl (refl, child_lacks (knows r.since v) r v refl s g o), refl)
     by (filled_child q) g o e = (inl (refl, child_lacks (knows r.since v) r v refl s g o), refl)
     by (either_child q m) g o e = (inl (refl, child_lacks (knows r.since v) r v refl s g o), refl)
     by (children q) g o e = children_ended Q r.need q r d g
+    by _ g o e = absurd (true≢false (e refl))
 
 row_ended : (Q : List ℕ → Type 0) (r : Row) (v : SpecVersion) (d : Depth) (t : Tree) → sound_since r.since r.need r.kind ≡ true → reads_xml r.xml r.need r.kind ≡ true → SlotOf Q r.kind d t → lacks (owed r.xml) r t v ≡ false
     → (last_flag_by (knows r.since v) r.xml r.need v ≡ true → is_absent t ≡ false) → Ended Q r d (filled r t)
@@ -659,16 +647,12 @@ lists_good Q _ = ((tt, λ t h. h), tt)
 list_of_good : (Q : List ℕ → Type 0) (t : Tree) (l : Lists) (d : Depth) → SlotOf Q (a_list l) d t → IsReadOf Q (a_list l) d (list_of t)
 unfolding is_shallow
 list_of_good Q absent l d h = ((tt, tt), refl)
-list_of_good Q (text s) l d (inr h, e) = (h, e)
-list_of_good Q (number s) l d (inr h, e) = (h, e)
-list_of_good Q (boolean s) l d (inr h, e) = (h, e)
-list_of_good Q (items s) l d (inr h, e) = (h, e)
-list_of_good Q (fields n s) l d (inr h, e) = (h, e)
 list_of_good Q (text s) l d (inl h, e) = absurd (true≢false (sym (ap is_absent h)))
 list_of_good Q (number s) l d (inl h, e) = absurd (true≢false (sym (ap is_absent h)))
 list_of_good Q (boolean s) l d (inl h, e) = absurd (true≢false (sym (ap is_absent h)))
 list_of_good Q (items s) l d (inl h, e) = absurd (true≢false (sym (ap is_absent h)))
 list_of_good Q (fields n s) l d (inl h, e) = absurd (true≢false (sym (ap is_absent h)))
+list_of_good Q _ l d (inr h, e) = (h, e)
 
 list_good : (Q : List ℕ → Type 0) (e : Element) (l : Lists) (v : SpecVersion) (d : Depth) (t : Tree) → GoodElement Q e → list_read e l v d ≡ Ok t → IsReadOf Q (a_list l) d t
 list_good Q e l v d t g o =
@@ -722,12 +706,8 @@ tools_children Q = ((tt, λ t h. h), ((λ t h. h), ((λ t h. h), tt)))
 
 tool_list_tools : (Q : List ℕ → Type 0) (t : Tree) → IsOfAll Q t (a_list tool_list) → IsOfAll Q t a_tools
 unfolding list
-tool_list_tools Q absent h = h
-tool_list_tools Q (text s) h = h
-tool_list_tools Q (number s) h = h
-tool_list_tools Q (boolean s) h = h
-tool_list_tools Q (items ts) h = h
 tool_list_tools Q (fields n ts) h = absurd (true≢false h.0)
+tool_list_tools Q _ h = h
 
 part_of : (Q : List ℕ → Type 0) (k : Kind) (d : Depth) (t : Tree) → SlotOf Q k d t → ((t ≡ absent) × (true ≡ true)) ⊎ IsOfAll Q t k
 part_of Q k d t (inl h, e) = inl (h, refl)
@@ -762,11 +742,7 @@ tools_of_good Q e v ts d t h o = by (field 0 ts) (slot_at Q 0 ts tools_kinds d h
 
     by : (x : Tree) → SlotOf Q (a_list tool_list) d x → way x ≡ Ok t → IsReadOf Q a_tools d t
     by absent s g = subst (λ (y : Tree). IsReadOf Q a_tools d y) (ok_same g) (object_good Q v ts d h)
-    by (text x) s g = listed (text x) refl s (is_absent (field 1 ts) && is_absent (field 2 ts)) g
-    by (number x) s g = listed (number x) refl s (is_absent (field 1 ts) && is_absent (field 2 ts)) g
-    by (boolean x) s g = listed (boolean x) refl s (is_absent (field 1 ts) && is_absent (field 2 ts)) g
-    by (items x) s g = listed (items x) refl s (is_absent (field 1 ts) && is_absent (field 2 ts)) g
-    by (fields n x) s g = listed (fields n x) refl s (is_absent (field 1 ts) && is_absent (field 2 ts)) g
+    by t s g = listed t refl s (is_absent (field 1 ts) && is_absent (field 2 ts)) g
 
 no_flags : List Bool
 no_flags = []
@@ -792,12 +768,9 @@ entries_of Q (more t ts) h = (class_entry Q t h.0, entries_of Q ts h.1)
 
 classes_data : (Q : List ℕ → Type 0) (t : Tree) → IsOfAll Q t (a_list classifications) → IsOfAll Q t a_data
 unfolding list
-classes_data Q absent h = h
-classes_data Q (text s) h = h
-classes_data Q (number s) h = h
-classes_data Q (boolean s) h = h
 classes_data Q (items ts) h = (tt, entries_of Q ts h.1)
 classes_data Q (fields n ts) h = absurd (true≢false h.0)
+classes_data Q _ h = h
 
 data_of_good : (Q : List ℕ → Type 0) (ts : Trees) (d : Depth) → AreSlots Q ts data_kinds d → IsReadOf Q a_data d (data_of ts)
 data_of_good Q ts d h = by (field 1 ts) (slot_at Q 1 ts data_kinds d h)
@@ -811,11 +784,7 @@ data_of_good Q ts d h = by (field 1 ts) (slot_at Q 1 ts data_kinds d h)
 
     by : (x : Tree) → SlotOf Q a_data d x → IsReadOf Q a_data d (way x)
     by absent s = classes
-    by (text x) s = there_good Q a_data d (text x) refl s
-    by (number x) s = there_good Q a_data d (number x) refl s
-    by (boolean x) s = there_good Q a_data d (boolean x) refl s
-    by (items x) s = there_good Q a_data d (items x) refl s
-    by (fields n x) s = there_good Q a_data d (fields n x) refl s
+    by t s = there_good Q a_data d t refl s
 
 data_good : (Q : List ℕ → Type 0) (e : Element) (v : SpecVersion) (d : Depth) (t : Tree) → GoodElement Q e → data_read e v d ≡ Ok t → IsReadOf Q a_data d t
 data_good Q e v d t g o =
@@ -829,20 +798,14 @@ abbrev signature_kinds : List Kind
 signature_kinds = a_signature ∷ a_text ∷ a_text ∷ []
 
 signers_signature : (Q : List ℕ → Type 0) (t : Tree) → IsOfAll Q t (a_record signers) → IsOfAll Q t a_signature
-signers_signature Q absent h = h
-signers_signature Q (text s) h = h
-signers_signature Q (number s) h = h
-signers_signature Q (boolean s) h = h
 signers_signature Q (items ts) h = absurd (true≢false h.0)
 signers_signature Q (fields n ts) h = (inl h.0, h.1)
+signers_signature Q _ h = h
 
 chain_signature : (Q : List ℕ → Type 0) (t : Tree) → IsOfAll Q t (a_record chain) → IsOfAll Q t a_signature
-chain_signature Q absent h = h
-chain_signature Q (text s) h = h
-chain_signature Q (number s) h = h
-chain_signature Q (boolean s) h = h
 chain_signature Q (items ts) h = absurd (true≢false h.0)
 chain_signature Q (fields n ts) h = (inr (inl h.0), h.1)
+chain_signature Q _ h = h
 
 signature_of_good : (Q : List ℕ → Type 0) (e : Element) (v : SpecVersion) (ts : Trees) (d : Depth) (t : Tree) → AreSlots Q ts signature_kinds d → signature_of e v ts ≡ Ok t → IsReadOf Q a_signature d t
 signature_of_good Q e v ts d t h o = by (field 0 ts) (slot_at Q 0 ts signature_kinds d h) o
@@ -866,11 +829,7 @@ signature_of_good Q e v ts d t h o = by (field 0 ts) (slot_at Q 0 ts signature_k
 
     by : (x : Tree) → SlotOf Q a_signature d x → way x ≡ Ok t → IsReadOf Q a_signature d t
     by absent s g = single g
-    by (text x) s g = listed (text x) refl s refl g
-    by (number x) s g = listed (number x) refl s refl g
-    by (boolean x) s g = listed (boolean x) refl s refl g
-    by (items x) s g = listed (items x) refl s refl g
-    by (fields n x) s g = listed (fields n x) refl s refl g
+    by t s g = listed t refl s refl g
 
 signature_good : (Q : List ℕ → Type 0) (e : Element) (v : SpecVersion) (d : Depth) (t : Tree) → GoodElement Q e → signature_read e v d ≡ Ok t → IsReadOf Q a_signature d t
 signature_good Q e v d t g o =

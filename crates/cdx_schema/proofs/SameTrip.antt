@@ -78,14 +78,7 @@ field_alike w t r l e = by r.xml l
         at true = refl
         at false = e
     by (children n) l' = children_alike w t r.kind r.need l' e
-    by (attribute n) l' = e
-    by (attribute_or n m) l' = e
-    by content l' = e
-    by one_text l' = e
-    by as_cdata l' = e
-    by (child n) l' = e
-    by (either_child m n) l' = e
-    by the_version l' = e
+    by _ l' = e
 
 more_alike : {t u : Tree} {ts us : Trees} → t ≡ u → ts ≡ us → more t ts ≡ more u us
 more_alike p q = rw (p, q) refl
@@ -99,12 +92,9 @@ mutual
   unfolding tripped bare settled
 
   pub trip_same : (w : SpecVersion) (t : Tree) (k : Kind) → settled (tripped w t k) k ≡ settled (bare t) k
-  trip_same w absent k = refl
-  trip_same w (text s) k = refl
-  trip_same w (number n) k = refl
-  trip_same w (boolean b) k = refl
   trip_same w (items ts) k = settled_list k w (items_tripped w ts (held_kind k)) ∙ ap (settled_items k) (items_same w ts (held_kind k))
   trip_same w (fields n ts) k = ap (fields n) (rows_same w ts (rows n) (all_listed_rows n))
+  trip_same w _ k = refl
 
   items_same : (w : SpecVersion) (ts : Trees) (k : Kind) → items_settled (items_tripped w ts k) k ≡ items_settled (items_bare ts) k
   items_same w none k = refl

@@ -92,12 +92,9 @@ mutual
   unfolding has_versions
 
   pub free_there : (t : Tree) (k : Kind) → HasShape t k → free_kind k ≡ true → has_versions t k ≡ true
-  free_there absent k h f = refl
-  free_there (text s) k h f = refl
-  free_there (number n) k h f = refl
-  free_there (boolean b) k h f = refl
   free_there (items ts) k h f = free_items ts (held_kind k) h.1 (held_free k f)
   free_there (fields n ts) k h f = fields_free n ts k h.0 f (λ g. free_rows ts (rows n) h.1 (rows_free n g))
+  free_there _ k h f = refl
 
   pub free_items : (ts : Trees) (k : Kind) → HaveShape ts k → free_kind k ≡ true → items_have_versions ts k ≡ true
   free_items none k h f = refl

@@ -57,18 +57,13 @@ find_none_row w q i r h = by r.xml h
     passed n k place' cs e = passes_first w q (record { name = n; since = r.since; kind = k; field = i; place = place' }) cs e
 
     by : (x : Spelled) → is_in q (child_names x) ≡ false → find_child w q (row_children i (record r { xml = x })) ≡ None
-    by (attribute n) e = refl
-    by (attribute_or n m) e = refl
-    by content e = refl
-    by one_text e = refl
-    by as_cdata e = refl
     by (child n) e = passed n r.kind last [] (or_false (bytes_eq q n) false e).0
     by (filled_child n) e = passed n r.kind last [] (or_false (bytes_eq q n) false e).0
     by (children n) e = passed n (held_kind r.kind) all [] (or_false (bytes_eq q n) false e).0
     by (either_child m n) e =
         passed m r.kind once (record { name = n; since = r.since; kind = r.kind; field = i; place = once } ∷ []) (or_false (bytes_eq q m) (is_in q (n ∷ [])) e).0
         ∙ passed n r.kind once [] (or_false (bytes_eq q n) false (or_false (bytes_eq q m) (is_in q (n ∷ [])) e).1).0
-    by the_version e = refl
+    by _ e = refl
 
 pub find_none : (w : SpecVersion) (q : List ℕ) (i : ℕ) (rs : List Row) → is_in q (all_child_names rs) ≡ false → find_child w q (children_from i rs) ≡ None
 find_none w q i [] h = refl

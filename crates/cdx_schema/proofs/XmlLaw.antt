@@ -87,14 +87,7 @@ skip_row q r t w as' h = at (knows r.since w)
     by : (x : Spelled) → is_in q (attribute_names x) ≡ false → find_attribute q (row_attributes (record r { xml = x }) t ++ as') ≡ find_attribute q as'
     by (attribute n) e = skip_one q n t as' (or_false (bytes_eq q n) false e).0
     by (attribute_or n m) e = skip_one q n t as' (or_false (bytes_eq q n) false e).0
-    by content e = refl
-    by one_text e = refl
-    by as_cdata e = refl
-    by (child n) e = refl
-    by (filled_child n) e = refl
-    by (children n) e = refl
-    by (either_child m n) e = refl
-    by the_version e = refl
+    by _ e = refl
 
     at : (b : Bool) → find_attribute q ((if b then row_attributes r t else []) ++ as') ≡ find_attribute q as'
     at true = by r.xml h
@@ -245,15 +238,12 @@ second_fields w (more t ts) (r ∷ rs) = more (second_field w r t) (second_field
 pub tripped_there : (w : SpecVersion) (t : Tree) (k : Kind) → is_absent t ≡ false → is_absent (tripped w t k) ≡ false
 unfolding tripped
 tripped_there w absent k h = h
-tripped_there w (text s) k h = refl
-tripped_there w (number s) k h = refl
-tripped_there w (boolean s) k h = refl
 tripped_there w (items ts) k h = by k w (items_tripped w ts (held_kind k))
   where
     by : (l : Kind) (v : SpecVersion) (us : Trees) → is_absent (list_after l v us) ≡ false
     by a_tools V1_5 none = refl
     by l v us = refl
-tripped_there w (fields n ts) k h = refl
+tripped_there w _ k h = refl
 
 -- Rows whose children the law speaks of.
 abbrev pub is_optional : Need → Bool
@@ -285,11 +275,7 @@ not_required required_first V1_5 t h = refl
 
 pub absent_is : (t : Tree) → is_absent t ≡ true → t ≡ absent
 absent_is absent h = refl
-absent_is (text s) h = absurd (true≢false (sym h))
-absent_is (number s) h = absurd (true≢false (sym h))
-absent_is (boolean s) h = absurd (true≢false (sym h))
-absent_is (items s) h = absurd (true≢false (sym h))
-absent_is (fields n s) h = absurd (true≢false (sym h))
+absent_is _ h = absurd (true≢false (sym h))
 
 pub not_false : (b : Bool) → not b ≡ false → b ≡ true
 not_false true h = refl
@@ -302,10 +288,8 @@ row_cases w d t r well (inl h) = inl (h.1, inl h.0)
 row_cases w d t r well (inr (inl h)) = inl (absent_is t (by r.need well h.1), inr (not_required r.need w t h.2))
   where
     by : (n : Need) → not (is_else_empty n) ≡ true → is_written n t ≡ false → is_absent t ≡ true
-    by optional e f = not_false (is_absent t) f
-    by required e f = not_false (is_absent t) f
-    by required_first e f = not_false (is_absent t) f
     by else_empty e f = absurd (true≢false (sym e))
+    by _ e f = not_false (is_absent t) f
 row_cases w d t r well (inr (inr h)) = inr (h.0, held_there w d t r.kind h.2, h.2)
 
 pub and_false : (b : Bool) → (b && false) ≡ false
@@ -352,14 +336,10 @@ is_plain a_license_identifier = false
 is_plain _ = true
 
 pub tag_plain : (k : Kind) (t : Tree) (tag : List ℕ) → is_plain k ≡ true → tag_of k t tag ≡ tag
-tag_plain k absent tag h = refl
-tag_plain k (text s) tag h = refl
-tag_plain k (number s) tag h = refl
-tag_plain k (boolean s) tag h = refl
-tag_plain k (items s) tag h = refl
 tag_plain a_license_choice (fields n ts) tag h = absurd (true≢false (sym h))
 tag_plain a_license_identifier (fields n ts) tag h = absurd (true≢false (sym h))
 tag_plain _ (fields n ts) tag h = refl
+tag_plain k _ tag h = refl
 
 pub wrapped_plain : (w : SpecVersion) (t : Tree) (tag : List ℕ) (k : Kind) (xs : Nodes) → is_plain k ≡ true → wrapped t w tag k xs ≡ plain_element tag (attributes_of t w k) xs
 wrapped_plain w t tag k xs h = ap (λ n. plain_element n (attributes_of t w k) xs) (tag_plain k t tag h)
@@ -433,9 +413,7 @@ list_row_held w d r ts (inr (inl h)) = by r.need ts h.1
     by : (n : Need) (us : Trees) → is_written n (items us) ≡ false → AllHeld w d us (held_kind r.kind)
     by else_empty none e = tt
     by else_empty (more u us) e = absurd (true≢false e)
-    by optional us e = absurd (true≢false e)
-    by required us e = absurd (true≢false e)
-    by required_first us e = absurd (true≢false e)
+    by _ us e = absurd (true≢false e)
 list_row_held w d r ts (inr (inr h)) = h.2.1
 
 -- what else a row of children can't hold
@@ -462,30 +440,22 @@ children_row_back w d (text s) l n r e x name h f = absurd (true≢false (no_lea
   where
     by : (m : Need) → is_written m (text s) ≡ true
     by optional = refl
-    by required = refl
-    by required_first = refl
-    by else_empty = refl
+    by _ = refl
 children_row_back w d (number s) l n r e x name h f = absurd (true≢false (no_leaf w d r (number s) refl (λ m. by m) (λ g. subst (λ (k : Kind). Held w d (number s) k) e g) h))
   where
     by : (m : Need) → is_written m (number s) ≡ true
     by optional = refl
-    by required = refl
-    by required_first = refl
-    by else_empty = refl
+    by _ = refl
 children_row_back w d (boolean s) l n r e x name h f = absurd (true≢false (no_leaf w d r (boolean s) refl (λ m. by m) (λ g. subst (λ (k : Kind). Held w d (boolean s) k) e g) h))
   where
     by : (m : Need) → is_written m (boolean s) ≡ true
     by optional = refl
-    by required = refl
-    by required_first = refl
-    by else_empty = refl
+    by _ = refl
 children_row_back w d (fields m s) l n r e x name h f = absurd (true≢false (no_leaf w d r (fields m s) refl (λ q. by q) (λ g. (subst (λ (k : Kind). Held w d (fields m s) k) e g).0) h))
   where
     by : (q : Need) → is_written q (fields m s) ≡ true
     by optional = refl
-    by required = refl
-    by required_first = refl
-    by else_empty = refl
+    by _ = refl
 
 -- ---- any row
 
@@ -525,10 +495,8 @@ all_read_well [] = true
 all_read_well (r ∷ rs) = reads_well r.need r.kind r.xml && all_read_well rs
 
 pub optional_cases : (n : Need) → is_optional n ≡ true → not (is_else_empty n) ≡ true
-optional_cases optional h = refl
-optional_cases required h = refl
-optional_cases required_first h = refl
 optional_cases else_empty h = sym (sym h)
+optional_cases _ h = refl
 
 pub spdx_id_row : (w : SpecVersion) (d : Depth) (s : List ℕ) (r : Row) → r.xml ≡ either_child (codes "id") (codes "name") → r.kind ≡ a_license_identifier → knows r.since w ≡ true
     → RowRead w d (fields spdx_id (one (text s))) r absent (tripped w (fields spdx_id (one (text s))) r.kind)
@@ -595,7 +563,6 @@ row_back w d t r well h f g = by r.xml refl well
 
     by : (x : Spelled) → r.xml ≡ x → reads_well r.need r.kind x ≡ true → RowRead w d t r (first_at w x t) (second_at w x r.kind t)
     by (attribute n) e v = silent_row w d t r t (silent (attribute n) e refl)
-    by (attribute_or n m) e v = absurd (true≢false (sym v))
     by (child n) e v =
         let p : (not (is_else_empty r.need) ≡ true) × (is_well_kind r.kind ≡ true) = and_true (not (is_else_empty r.need)) (is_well_kind r.kind) v in
         let q : (is_plain r.kind ≡ true) × (is_elem r.kind ≡ true) = and_true (is_plain r.kind) (is_elem r.kind) p.1 in
@@ -617,10 +584,7 @@ row_back w d t r well h f g = by r.xml refl well
         identifier_kind : (k : Kind) → is_identifier k ≡ true → k ≡ a_license_identifier
         identifier_kind a_license_identifier i = refl
         identifier_kind _ i = absurd (true≢false (sym i))
-    by content e v = absurd (true≢false (sym v))
-    by one_text e v = absurd (true≢false (sym v))
-    by as_cdata e v = absurd (true≢false (sym v))
-    by the_version e v = absurd (true≢false (sym v))
+    by _ e v = absurd (true≢false (sym v))
 
 pub gone : (w : SpecVersion) (t : Tree) (k : Kind) → t ≡ absent → t ≡ tripped w t k
 unfolding tripped
@@ -630,19 +594,13 @@ gone w t k h = subst (λ (x : Tree). x ≡ tripped w x k) (sym h) refl
 
 pub optional_not : (n : Need) (w : SpecVersion) → is_optional n ≡ true → is_required n w ≡ false
 optional_not optional w h = refl
-optional_not required w h = absurd (true≢false (sym h))
-optional_not required_first w h = absurd (true≢false (sym h))
-optional_not else_empty w h = absurd (true≢false (sym h))
+optional_not _ w h = absurd (true≢false (sym h))
 
 pub lacks_optional : (w : SpecVersion) (r : Row) (u : Tree) (q : List ℕ) → is_optional r.need ≡ true → lacks (Some q) r u w ≡ false
 lacks_optional w r u q h = rw (optional_not r.need w h) refl
 
 pub leaf_same : (w : SpecVersion) (d : Depth) (t : Tree) (k : Kind) → is_leaf k ≡ true → Held w d t k → t ≡ tripped w t k
 unfolding tripped
-leaf_same w d absent k l h = refl
-leaf_same w d (text s) k l h = refl
-leaf_same w d (number s) k l h = refl
-leaf_same w d (boolean s) k l h = refl
 leaf_same w d (items ts) k l h = absurd (true≢false (by k l h.0))
   where
     by : (j : Kind) → is_leaf j ≡ true → IsListOf j → Never
@@ -657,6 +615,7 @@ leaf_same w d (fields n ts) k l h = absurd (true≢false (by k l h.0))
     by a_boolean e g = g
     by a_number e g = g
     by _ e g = sym e
+leaf_same w d _ k l h = refl
 
 -- Rows of children that aren't optional are known to every version.
 abbrev pub is_always : Need → SpecVersion → Bool
@@ -687,41 +646,31 @@ list_end w d absent r n l e listed always h = by r.need r.since listed always h
 list_end w d (items ts) r n l e listed always h = by r.need listed (items_tripped w ts (list l).kind)
   where
     by : (m : Need) → is_listed m ≡ true → (us : Trees) → filled (record r { xml = children n; need = m }) (gathered us) ≡ none_is_absent m (items us)
-    by optional i none = refl
     by optional i (more u us) = refl
-    by required i none = refl
     by required i (more u us) = refl
     by required_first i us = absurd (true≢false (sym i))
-    by else_empty i none = refl
     by else_empty i (more u us) = refl
+    by _ i none = refl
 list_end w d (text s) r n l e listed always h = absurd (true≢false (no_leaf w d r (text s) refl (λ m. by m) (λ g. subst (λ (k : Kind). Held w d (text s) k) e g) h))
   where
     by : (m : Need) → is_written m (text s) ≡ true
     by optional = refl
-    by required = refl
-    by required_first = refl
-    by else_empty = refl
+    by _ = refl
 list_end w d (number s) r n l e listed always h = absurd (true≢false (no_leaf w d r (number s) refl (λ m. by m) (λ g. subst (λ (k : Kind). Held w d (number s) k) e g) h))
   where
     by : (m : Need) → is_written m (number s) ≡ true
     by optional = refl
-    by required = refl
-    by required_first = refl
-    by else_empty = refl
+    by _ = refl
 list_end w d (boolean s) r n l e listed always h = absurd (true≢false (no_leaf w d r (boolean s) refl (λ m. by m) (λ g. subst (λ (k : Kind). Held w d (boolean s) k) e g) h))
   where
     by : (m : Need) → is_written m (boolean s) ≡ true
     by optional = refl
-    by required = refl
-    by required_first = refl
-    by else_empty = refl
+    by _ = refl
 list_end w d (fields m s) r n l e listed always h = absurd (true≢false (no_leaf w d r (fields m s) refl (λ q. by q) (λ g. (subst (λ (k : Kind). Held w d (fields m s) k) e g).0) h))
   where
     by : (q : Need) → is_written q (fields m s) ≡ true
     by optional = refl
-    by required = refl
-    by required_first = refl
-    by else_empty = refl
+    by _ = refl
 
 -- ---- rows together
 
@@ -749,7 +698,6 @@ row_end w d t r well always h = by r.xml well always
 
     by : (x : Spelled) → reads_well r.need r.kind x ≡ true → ends_well x r.need r.since ≡ true → IsEnd w t r x
     by (attribute n) v a = let p : (not (is_else_empty r.need) ≡ true) × (is_leaf r.kind ≡ true) = and_true (not (is_else_empty r.need)) (is_leaf r.kind) v in (refl, leaf r.kind p.1 p.0 refl)
-    by (attribute_or n m) v a = absurd (true≢false (sym v))
     by (child n) v a = (lacks_not w d t (tripped w t r.kind) r (Some n) (row_cases w d t r (and_true (not (is_else_empty r.need)) (is_well_kind r.kind) v).0 h) (tripped_there w t r.kind), refl)
     by (filled_child n) v a = (lacks_optional w r _ n (and_true (is_optional r.need) (is_well_kind r.kind) v).0, refl)
     by (children n) v a = (refl, list_kind r.kind refl (and_true (is_listed r.need) (is_well_list r.kind n) v))
@@ -758,10 +706,7 @@ row_end w d t r well always h = by r.xml well always
         list_kind (a_list l) e p = subst (λ (j : Kind). filled (record r { xml = children n }) (regathered (tripped w t j)) ≡ none_is_absent r.need (tripped w t j)) (sym e) (list_end w d t r n l e p.0 a h)
         list_kind _ e p = absurd (true≢false (sym p.1))
     by (either_child m n) v a = (lacks_not w d t (tripped w t r.kind) r (owed (either_child m n)) (row_cases w d t r (and_true (not (is_else_empty r.need)) (is_identifier r.kind && (bytes_eq m (codes "id") && bytes_eq n (codes "name"))) v).0 h) (tripped_there w t r.kind), refl)
-    by content v a = absurd (true≢false (sym v))
-    by one_text v a = absurd (true≢false (sym v))
-    by as_cdata v a = absurd (true≢false (sym v))
-    by the_version v a = absurd (true≢false (sym v))
+    by _ v a = absurd (true≢false (sym v))
 
 pub rows_end : (w : SpecVersion) (d : Depth) (ts : Trees) (rs : List Row) → all_well rs ≡ true → FieldsHeld w d ts rs → Ends w (second_fields w ts rs) rs (rows_tripped w ts rs)
 unfolding tripped
@@ -784,19 +729,15 @@ text_leaf w d t h = let e : (s : List ℕ) × (t ≡ text s) = held_text w d t h
 pub boolean_leaf : (w : SpecVersion) (d : Depth) (t : Tree) → Held w d t a_boolean → of_text a_boolean (text_of t) ≡ Some t
 boolean_leaf w d (boolean true) h = refl
 boolean_leaf w d (boolean false) h = refl
-boolean_leaf w d absent h = absurd (true≢false h)
-boolean_leaf w d (text s) h = absurd (true≢false h)
-boolean_leaf w d (number s) h = absurd (true≢false h)
 boolean_leaf w d (items s) h = absurd (true≢false h.0)
 boolean_leaf w d (fields n s) h = absurd (true≢false h.0)
+boolean_leaf w d _ h = absurd (true≢false h)
 
 pub number_leaf : Decimals → (w : SpecVersion) (d : Depth) (t : Tree) → Held w d t a_number → of_text a_number (text_of t) ≡ Some t
 number_leaf dec w d (number n) h = ap number_tree (dec n h)
-number_leaf dec w d absent h = absurd (true≢false h)
-number_leaf dec w d (text s) h = absurd (true≢false h)
-number_leaf dec w d (boolean s) h = absurd (true≢false h)
 number_leaf dec w d (items s) h = absurd (true≢false h.0)
 number_leaf dec w d (fields n s) h = absurd (true≢false h.0)
+number_leaf dec w d _ h = absurd (true≢false h)
 
 pub leaf_text : Decimals → (w : SpecVersion) (d : Depth) (t : Tree) (k : Kind) → is_leaf k ≡ true → Held w d t k → of_text k (text_of t) ≡ Some t
 leaf_text dec w d t a_text l h = text_leaf w d t h
@@ -815,13 +756,7 @@ attribute_held dec w d t r v h = by r.xml v
     by (attribute n) v' = let p : (not (is_else_empty r.need) ≡ true) × (is_leaf r.kind ≡ true) = and_true (not (is_else_empty r.need)) (is_leaf r.kind) v' in at p.1 (row_cases w d t r p.0 h)
     by (attribute_or n m) v' = absurd (true≢false (sym v'))
     by the_version v' = absurd (true≢false (sym v'))
-    by content v' = tt
-    by one_text v' = tt
-    by as_cdata v' = tt
-    by (child n) v' = tt
-    by (filled_child n) v' = tt
-    by (children n) v' = tt
-    by (either_child m n) v' = tt
+    by _ v' = tt
 
 pub attributes_held : Decimals → (w : SpecVersion) (d : Depth) (ts : Trees) (rs : List Row) → all_well rs ≡ true → FieldsHeld w d ts rs → AttributesHeld w ts rs
 attributes_held dec w d none [] v h = tt
@@ -1250,14 +1185,10 @@ mutual
       (λ g. item_set w d t k (tripped w t k) plan i tag h.0 f (xml_back dec w d t k e h.0)) (items_back dec w d ts k tag plan i e h.1 f)
 
   pub tree_items : Decimals → (w : SpecVersion) → (d : Depth) (t : Tree) → ItemsRead w d t
-  tree_items dec w d absent ts is l v plan i h f = grind arith
-  tree_items dec w d (text s) ts is l v plan i h f = grind arith
-  tree_items dec w d (number s) ts is l v plan i h f = grind arith
-  tree_items dec w d (boolean s) ts is l v plan i h f = grind arith
-  tree_items dec w d (fields n s) ts is l v plan i h f = grind arith
   tree_items dec w d (items us) ts is l v plan i h f =
       subst (λ (vs : Trees). AllHeld w d vs (list l).kind → SetItems plan w d i (nodes_of (items vs) w (a_list l)) (items_tripped w vs (list l).kind)) (ap items_in is)
       (λ g. items_back dec w d us (list l).kind (list l).name plan i (and_true (is_plain (list l).kind) (is_elem (list l).kind) v).1 g f) h
+  tree_items dec w d _ ts is l v plan i h f = grind arith
 
   pub rows_back : Decimals → (w : SpecVersion) → (d : Depth) (ts : Trees) (rs : List Row) → all_well rs ≡ true → FieldsHeld w d ts rs → RowsRead w d ts rs (first_fields w ts rs) (second_fields w ts rs)
   rows_back dec w d none [] v h = tt
