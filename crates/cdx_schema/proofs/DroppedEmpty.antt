@@ -254,10 +254,6 @@ child_back w plan t k n q p b e f h =
 abbrev ItemsBack : SpecVersion → Depth → Tree → Type 0
 ItemsBack w d t = (l : Lists) (plan : Plan) (p : ℕ) → Held w d t (a_list l) → is_plain (list l).kind ≡ true → Found w plan (list l).name (list l).kind → holes (lean_nodes (nodes_of t w (a_list l))) w p plan ≡ None → has_empty t ≡ false
 
-abbrev is_signature : Kind → Bool
-is_signature a_signature = true
-is_signature _ = false
-
 abbrev is_sound : Kind → Spelled → Bool
 is_sound k (attribute n) = is_bare k
 is_sound k (attribute_or n m) = is_bare k
@@ -271,10 +267,6 @@ is_right r = (clear_need r.need r.xml && is_clear r.kind r.xml) && is_sound r.ki
 abbrev all_right : List Row → Bool
 all_right [] = true
 all_right (r ∷ rs) = is_right r && all_right rs
-
-signed : (w : SpecVersion) (d : Depth) (t : Tree) (k : Kind) → is_signature k ≡ true → Held w d t k → has_empty t ≡ false
-signed w d t a_signature e h = signature_solid w d t h
-signed w d t _ e h = absurd (true≢false (sym e))
 
 either_back : (w : SpecVersion) (d : Depth) (plan : Plan) (t : Tree) (m : List ℕ) (p : ℕ) → Held w d t a_license_identifier → Back w t a_license_identifier → Found w plan (codes "id") a_license_identifier → Found w plan (codes "name") a_license_identifier
     → holes (lean_nodes (lone (wrapped t w m a_license_identifier (nodes_of t w a_license_identifier)))) w p plan ≡ None → has_empty t ≡ false

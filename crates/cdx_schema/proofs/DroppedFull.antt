@@ -8,7 +8,7 @@ use Rattle.cdx_models.specs.declared.bom.SpecVersion.{SpecVersion}
 use Rattle.cdx_models.specs.declared.bom.SpecVersion.TheVariants.{V1_5}
 use Rattle.cdx_models.specs.Versions.{knows}
 use Rattle.cdx_models.specs.Trees.{Name, hash, property, attached_text, license, expression, spdx_id, license_name, tool, copyright, classification, service_data, tools_object, signer, signers, chain, Tree, absent, text, number, boolean, items, fields, Trees, none, more, one, is_absent}
-use Rattle.cdx_schema.specs.Kinds.{Lists, Kind, a_text, a_boolean, a_number, a_version, a_list, a_record, a_reference, a_license_choice, a_license_identifier, a_tools, a_data, an_entry, a_signature, a_bill, Rule, Spelled, attribute, attribute_or, content, one_text, as_cdata, child, filled_child, children, either_child, the_version, Need, optional, required, required_first, else_empty, Row}
+use Rattle.cdx_schema.specs.Kinds.{Lists, Kind, a_text, a_boolean, a_number, a_version, a_list, a_record, a_reference, a_license_choice, a_license_identifier, a_tools, a_data, an_entry, a_signature, a_bill, Rule, Spelled, attribute, content, one_text, as_cdata, child, filled_child, children, either_child, Need, optional, required, required_first, else_empty, Row}
 use Rattle.cdx_schema.specs.Table.{rows, rule, list}
 use Rattle.cdx_schema.specs.Depth.{Depth, inside}
 use Rattle.cdx_schema.specs.Held.{held_kind}

@@ -11,7 +11,7 @@ use Rattle.serde_json.proofs.Views.{get_member-put, get_member-put_other}
 use Rattle.cdx_models.specs.declared.bom.SpecVersion.{SpecVersion}
 use Rattle.cdx_models.specs.declared.bom.SpecVersion.TheVariants.{V1_3, V1_4, V1_5}
 use Rattle.cdx_models.specs.Versions.{knows}
-use Rattle.cdx_models.specs.Trees.{Name, Tree, absent, text, number, boolean, items, fields, Trees, none, more, one, ◌⧺◌}
+use Rattle.cdx_models.specs.Trees.{Name, Tree, absent, fields, Trees, none, more, one, ◌⧺◌}
 use Rattle.cdx_schema.specs.Kinds.{Kind, Row, Member, member, merged}
 use Rattle.cdx_schema.specs.Depth.{Depth, inside, name_too_deep}
 use Rattle.cdx_schema.specs.Table.{rows}

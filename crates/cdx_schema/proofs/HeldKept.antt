@@ -7,7 +7,7 @@ use Rattle.cdx_models.specs.declared.bom.SpecVersion.{SpecVersion}
 use Rattle.cdx_models.specs.declared.bom.SpecVersion.TheVariants.{V1_3, V1_4, V1_5}
 use Rattle.cdx_models.specs.Versions.{knows, is_label, is_first, label}
 use Rattle.cdx_models.specs.Trees.{Name, classification, service_data, tools_object, Tree, absent, text, number, boolean, items, fields, Trees, none, more, is_absent, field}
-use Rattle.cdx_schema.specs.Kinds.{Kind, a_text, a_boolean, a_number, a_version, a_list, a_record, a_reference, a_license_choice, a_license_identifier, a_tools, a_data, an_entry, a_signature, a_bill, Need, optional, required, required_first, else_empty, Row}
+use Rattle.cdx_schema.specs.Kinds.{Kind, a_text, a_number, a_version, a_record, a_reference, a_license_choice, a_license_identifier, a_tools, an_entry, a_signature, a_bill, Need, optional, required, required_first, else_empty, Row}
 use Rattle.cdx_schema.specs.Table.{rows, class_row}
 use Rattle.cdx_schema.specs.Held.{held_kind}
 use Rattle.cdx_models.specs.Entries.{is_flow}

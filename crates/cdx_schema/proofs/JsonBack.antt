@@ -15,7 +15,7 @@ use Rattle.cdx_models.specs.declared.bom.SpecVersion.{SpecVersion}
 use Rattle.cdx_models.specs.declared.bom.SpecVersion.TheVariants.{V1_3, V1_4, V1_5}
 use Rattle.cdx_models.specs.Versions.{knows, is_label}
 use Rattle.cdx_models.specs.Trees.{Name, hash, attached_text, license, expression, spdx_id, license_name, classification, service_data, tools_object, signer, signers, chain, bill, Tree, absent, text, number, boolean, items, fields, Trees, none, more, one, two}
-use Rattle.cdx_schema.specs.Kinds.{properties, signer_list, chain_list, Kind, a_text, a_boolean, a_number, a_version, a_list, a_record, a_reference, a_license_choice, a_license_identifier, a_tools, a_data, an_entry, a_signature, a_bill, Member, member, merged, Need, optional, required, required_first, else_empty, content, children, Row}
+use Rattle.cdx_schema.specs.Kinds.{properties, signer_list, chain_list, Kind, a_text, a_boolean, a_number, a_version, a_list, a_record, a_reference, a_license_choice, a_license_identifier, a_tools, a_data, an_entry, a_signature, a_bill, Member, member, merged, Need, required, content, children, Row}
 use Rattle.cdx_schema.specs.Table.{rows, from, of, at, row, must, respelled_reference, identifier_row, class_row}
 use Rattle.cdx_schema.specs.Results.{◌>>=◌}
 use Rattle.cdx_models.specs.declared.errors.Step.{Step}
@@ -385,10 +385,6 @@ abbrev pub is_own_kind : Kind → Bool
 is_own_kind a_license_identifier = true
 is_own_kind (a_record n) = all_named (rows n)
 is_own_kind _ = false
-
-abbrev pub is_entry : Kind → Bool
-is_entry an_entry = true
-is_entry _ = false
 
 abbrev pub is_must : Row → Bool
 is_must r = by r.need r.since

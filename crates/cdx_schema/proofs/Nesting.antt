@@ -2,13 +2,13 @@
 use Rattle.std.specs.Prelude.{◌≡◌, refl, ℕ, suc, ◌+◌, ◌-◌, ◌*◌, ◌≤◌, List, [], ◌∷◌, Bool, true, false, not, ◌&&◌, nat_lt, nat_le, if◌then◌else◌, ◌⊎◌}
 use Rattle.std.proofs.Common.{true≢false, inl, inr, Ordering, Less, Equal, Greater}
 use Rattle.std.specs.Ordering.{match_ordering}
-use mathlib.Core.Path.{ap, sym, ◌∙◌, subst}
+use mathlib.Core.Path.{sym, subst}
 use native.Mathlib.Omega.{arith}
 use Rattle.serde_json.specs.Data.{Data, object, Members, no_members, put, depth, items_depth, members_depth}
 use Rattle.serde_json.specs.Data as json
 use Rattle.cdx_models.specs.declared.bom.SpecVersion.{SpecVersion}
-use Rattle.cdx_models.specs.Trees.{Name, hash, property, attached_text, contact, entity, commit, action, patch, diff, issue, source, reference, dependency, composition, license, expression, spdx_id, license_name, tool, component, swid, pedigree, evidence, copyright, service, classification, service_data, tools_object, metadata, signer, signers, chain, bill, Tree, absent, text, number, boolean, items, fields, Trees, none, more}
-use Rattle.cdx_schema.specs.Kinds.{Lists, hashes, properties, urls, contacts, commits, patches, resolved, links, external_references, dependencies, depended, compositions, assemblies, composed, vulnerabilities, licenses, components, services, copyright_texts, endpoints, authors, tool_list, signer_list, chain_list, classifications, flows, Kind, a_list, a_record, a_license_choice, a_license_identifier, a_tools, a_data, an_entry, a_signature, a_bill, Member, member, merged, Row}
+use Rattle.cdx_models.specs.Trees.{Name, hash, entity, commit, patch, diff, issue, reference, dependency, composition, license, tool, component, swid, pedigree, evidence, service, tools_object, metadata, signers, chain, bill, Tree, absent, items, fields, Trees, none, more}
+use Rattle.cdx_schema.specs.Kinds.{Lists, hashes, urls, commits, patches, resolved, links, external_references, dependencies, depended, compositions, assemblies, composed, vulnerabilities, licenses, components, services, endpoints, tool_list, Kind, a_list, a_record, a_license_choice, a_license_identifier, a_tools, a_data, an_entry, a_signature, a_bill, Member, member, merged, Row}
 use Rattle.cdx_schema.specs.Table.{rows, list}
 use Rattle.cdx_schema.specs.Held.{held_kind}
 use Rattle.cdx_schema.specs.Depth.{Depth, top, inside, name_too_deep}
@@ -173,9 +173,6 @@ name_value _ d h = omega arith
 abbrev wrapped : Kind → Name → Height
 wrapped a_license_choice license = up (name_height license)
 wrapped _ n = name_height n
-
-not_name : {A : Type 0} {n m : Name} → n ≡ m → (f : Name → Bool) → f n ≡ true → f m ≡ false → A
-not_name e f p q = absurd (true≢false (sym p ∙ (ap f e ∙ q)))
 
 record_within : (k : Kind) (n : Name) (ts : Trees) → IsRecordOf k n ts → lower (wrapped k n) (kind_height k) ≡ true
 record_within (a_record m) n ts is = subst (λ (j : Name). lower (name_height j) (name_height m) ≡ true) (sym is) (itself m)

@@ -7,7 +7,7 @@ use mathlib.Core.Path.{ap, ◌∙◌}
 use Rattle.serde_json.specs.Data.{Data, Members, no_members, put}
 use Rattle.serde_json.specs.Data as json
 use Rattle.cdx_models.specs.declared.bom.SpecVersion.{SpecVersion}
-use Rattle.cdx_models.specs.Trees.{Name, license, bill, Tree, absent, text, number, boolean, items, fields, Trees, none, more}
+use Rattle.cdx_models.specs.Trees.{Name, license, bill, Tree, items, fields, Trees, none, more}
 use Rattle.cdx_schema.specs.Kinds.{Kind, a_license_choice, Member, member, merged, Row}
 use Rattle.cdx_schema.specs.Table.{rows}
 use Rattle.cdx_schema.specs.Held.{held_kind}

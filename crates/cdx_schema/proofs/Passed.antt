@@ -10,7 +10,7 @@ use Rattle.cdx_models.specs.declared.bom.SpecVersion.TheVariants.{V1_3, V1_4, V1
 use Rattle.cdx_models.specs.Versions.{knows}
 use Rattle.cdx_models.specs.Entries.{entry_of}
 use Rattle.cdx_models.specs.Trees.{Name, classification, service_data, tools_object, bill, Tree, absent, Trees, more}
-use Rattle.cdx_schema.specs.Kinds.{Kind, a_text, a_boolean, a_number, a_version, a_list, a_record, a_reference, a_license_choice, a_license_identifier, a_tools, a_data, an_entry, a_signature, a_bill, Row, Member, member, merged}
+use Rattle.cdx_schema.specs.Kinds.{Kind, a_record, a_license_identifier, a_tools, an_entry, a_bill, Row, Member, member, merged}
 use Rattle.cdx_schema.specs.Table.{rows}
 use Rattle.cdx_schema.specs.Results.{◌>>=◌}
 use Rattle.cdx_schema.specs.Faults.{JsonFault, under, to_member}

@@ -360,12 +360,6 @@ flags (r ∷ rs) v = flag_by (knows r.since v) r.xml r.need v ∷ flags rs v
 abbrev Attributed : (Q : List ℕ → Type 0) → Kind → Depth → Bool → Tree → Type 0
 Attributed Q k d b t = SlotOf Q k d t × (b ≡ true → is_absent t ≡ false)
 
-no_flag : (x : Spelled) (n : Need) (v : SpecVersion) → flag_by false x n v ≡ false
-no_flag (attribute q) n v = refl
-no_flag (attribute_or q m) n v = refl
-no_flag the_version n v = refl
-no_flag _ n v = refl
-
 absent_attributed : (Q : List ℕ → Type 0) (k : Kind) (d : Depth) (b : Bool) (t : Tree) → b ≡ false → absent ≡ t → Attributed Q k d b t
 absent_attributed Q k d b t h e = subst (λ (x : Tree). Attributed Q k d b x) e (absent_slot Q k d, λ g. absurd (true≢false (sym g ∙ h)))
 
@@ -743,9 +737,6 @@ tools_of_good Q e v ts d t h o = by (field 0 ts) (slot_at Q 0 ts tools_kinds d h
     by : (x : Tree) → SlotOf Q (a_list tool_list) d x → way x ≡ Ok t → IsReadOf Q a_tools d t
     by absent s g = subst (λ (y : Tree). IsReadOf Q a_tools d y) (ok_same g) (object_good Q v ts d h)
     by t s g = listed t refl s (is_absent (field 1 ts) && is_absent (field 2 ts)) g
-
-no_flags : List Bool
-no_flags = []
 
 tools_good : (Q : List ℕ → Type 0) (e : Element) (v : SpecVersion) (d : Depth) (t : Tree) → GoodElement Q e → tools_read e v d ≡ Ok t → IsReadOf Q a_tools d t
 tools_good Q e v d t g o =

@@ -4,7 +4,7 @@ use Rattle.std.proofs.Common.{true≢false, inl, inr}
 use mathlib.Core.Path.{ap, sym, ◌∙◌}
 use Rattle.cdx_models.specs.declared.bom.SpecVersion.{SpecVersion}
 use Rattle.cdx_models.specs.declared.bom.SpecVersion.TheVariants.{V1_3}
-use Rattle.cdx_models.specs.Trees.{Name, hash, contact, entity, diff, source, license, expression, spdx_id, license_name, component, pedigree, evidence, classification, service_data, tools_object, metadata, signer, signers, chain, bill, Tree, absent, text, number, boolean, items, fields, Trees, none, more}
+use Rattle.cdx_models.specs.Trees.{Name, hash, contact, entity, diff, source, license, expression, spdx_id, license_name, component, pedigree, evidence, classification, service_data, tools_object, metadata, signer, signers, chain, bill, Tree, items, fields, Trees, none, more}
 use Rattle.cdx_schema.specs.Kinds.{Lists, components, Kind, a_list, a_record, a_license_choice, a_license_identifier, a_tools, a_data, an_entry, a_signature, a_bill, Need, optional, required_first, Spelled, filled_child, children, Row}
 use Rattle.cdx_schema.specs.Table.{rows, list}
 use Rattle.cdx_schema.specs.Held.{held_kind}

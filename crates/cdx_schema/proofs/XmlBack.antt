@@ -6,14 +6,14 @@ use mathlib.Core.Path.{ap, sym, ◌∙◌, subst}
 use native.Mathlib.Omega.{arith}
 use Rattle.cdx_models.specs.declared.bom.SpecVersion.{SpecVersion}
 use Rattle.cdx_models.specs.Versions.{knows}
-use Rattle.cdx_models.specs.Trees.{Name, hash, copyright, classification, Tree, absent, text, boolean, items, fields, Trees, none, more, one, ◌⧺◌, is_absent, field, with_field}
-use Rattle.cdx_schema.specs.Kinds.{Lists, Kind, a_text, a_reference, a_boolean, a_list, a_record, Rule, Spelled, attribute, attribute_or, content, one_text, as_cdata, child, filled_child, children, either_child, the_version, Row}
+use Rattle.cdx_models.specs.Trees.{Name, hash, Tree, absent, text, boolean, items, fields, Trees, none, more, one, ◌⧺◌, is_absent, field, with_field}
+use Rattle.cdx_schema.specs.Kinds.{Lists, Kind, a_text, a_reference, a_boolean, a_list, a_record, Rule, Spelled, child, filled_child, children, either_child, Row}
 use Rattle.cdx_schema.specs.Table.{rows, rule}
 use Rattle.cdx_schema.specs.Results.{◌>>=◌}
 use Rattle.cdx_schema.specs.Depth.{Depth, inside, name_too_deep}
 use Rattle.cdx_schema.specs.Held.{held_kind}
 use Rattle.cdx_schema.specs.XmlReading.{xread, nodes_read, node_read, Plan, Child, Place, last, once, all, find_child, row_children, children_from, stored, appended, is_second, plan_of_list, list_of, lacks, owed, filled, ended, attributes_read, in_force, content_from, no_content, content_read, Element, end_of}
-use Rattle.cdx_schema.specs.XmlSpelling.{nodes_of, fields_nodes, row_nodes, wrapped, lone, tag_of, plain_element, attributes_of}
+use Rattle.cdx_schema.specs.XmlSpelling.{nodes_of, fields_nodes, row_nodes, wrapped, lone, attributes_of}
 use Rattle.cdx_schema.proofs.JsonBack.{is_in, distinct, same_itself, or_false, if_true, if_false, not_in_append, apart_first, is_in_first}
 use Rattle.cdx_schema.proofs.Groups.{nodes_in_groups, count}
 use Rattle.cdx_events.specs.declared.name.OwnedAttribute.{OwnedAttribute}
@@ -113,20 +113,6 @@ pub node_step : (plan : Plan) (around : List ℕ) (w : SpecVersion) (d : Depth) 
 unfolding xread
 node_step plan around w d p n as' default xs c u ts found first read = rw (found, first, read) refl
 
--- A row's nodes set its field.
-abbrev pub Sets : Plan → List ℕ → SpecVersion → Depth → Trees → Trees → Nodes → Tree → Tree → Type 0
-Sets plan around w d before_it rest xs t u = (p : ℕ) → nodes_read xs plan around w d p (before_it ⧺ more t rest) ≡ Ok (before_it ⧺ more u rest)
-
-pub child_sets : (front : List Row) (r : Row) (rs : List Row) (rule' : Rule) (around : List ℕ) (w : SpecVersion) (d : Depth) (before_it rest : Trees) (name : List ℕ) (as' : List OwnedAttribute) (xs : Nodes) (t u : Tree)
-    → count before_it ≡ length front → r.xml ≡ child name → is_in name (all_child_names front) ≡ false → knows r.since w ≡ true
-    → ((p : ℕ) → xread (plain_element name as' xs) w r.kind p d ≡ Ok u)
-    → Sets (record { rule = rule'; children = children_from 0 (front ++ r ∷ rs) }) around w d before_it rest (lone (plain_element name as' xs)) t u
-child_sets front r rs rule' around w d before_it rest name as' xs t u same spelled before known read p =
-    node_step _ around w d p _ as' _ xs (record { name = name; since = r.since; kind = r.kind; field = length front; place = last }) u (before_it ⧺ more t rest)
-    (find_row w name front r rs _ before (λ cs. subst (λ (x : Spelled). find_child w name (row_children (length front) (record r { xml = x }) ++ cs) ≡ Some (record { name = name; since = r.since; kind = r.kind; field = length front; place = last })) (sym spelled) (finds_first w name _ cs (same_itself name) known)))
-    refl (read p)
-    ∙ ap Ok (ap (λ i. with_field i u (before_it ⧺ more t rest)) (sym same) ∙ with_field_at before_it rest t u)
-
 -- ---- the rows one after the other
 
 -- what a row is written as
@@ -199,16 +185,6 @@ silent_row w d t r c silent front rs rule' around ds rest p same apart' = ap (λ
 -- A kind's element is read as u, under whatever name it is written.
 abbrev pub IsXRead : SpecVersion → Depth → Tree → Kind → Tree → Type 0
 IsXRead w d t k u = (tag : List ℕ) (p : ℕ) → xread (wrapped t w tag k (nodes_of t w k)) w k p d ≡ Ok u
-
-pub child_row : (w : SpecVersion) (d : Depth) (t : Tree) (r : Row) (c u : Tree) (name : List ℕ) → r.xml ≡ child name → knows r.since w ≡ true → is_absent t ≡ false
-    → tag_of r.kind t name ≡ name → IsXRead w d t r.kind u → RowRead w d t r c u
-unfolding xread
-child_row w d t r c u name spelled known there tagged read front rs rule' around ds rest p same apart' =
-    ap (λ xs. nodes_read xs (plan_of rule' (front ++ r ∷ rs)) around w d p (ds ⧺ more c rest))
-    (if_true (knows r.since w && not (is_absent t)) _ _ (rw (known, there) refl) ∙ (ap (λ x. row_nodes x t w r.kind (nodes_of t w r.kind)) spelled ∙ ap (λ n. lone (plain_element n (attributes_of t w r.kind) (nodes_of t w r.kind))) tagged))
-    ∙ child_sets front r rs rule' around w d ds rest name (attributes_of t w r.kind) (nodes_of t w r.kind) c u same spelled
-    (apart' name (subst (λ (x : Spelled). is_in name (child_names x) ≡ true) (sym spelled) (rw (same_itself name) refl))) known
-    (λ q. ap (λ n. xread (plain_element n (attributes_of t w r.kind) (nodes_of t w r.kind)) w r.kind q d) (sym tagged) ∙ read name q) p
 
 -- ---- children that are appended
 
@@ -317,18 +293,6 @@ pub boolean_xread : (w : SpecVersion) (d : Depth) (b : Bool) → IsXRead w d (bo
 unfolding xread nodes_of
 boolean_xread w d true tag p = refl
 boolean_xread w d false tag p = refl
-
-pub hash_xread : (w : SpecVersion) (d : Depth) (a c : List ℕ) → IsXRead w d (fields hash (more (text a) (one (text c)))) (a_record hash) (fields hash (more (text a) (one (text c))))
-unfolding xread nodes_of rows attributes_read ended
-hash_xread w d a c tag p = refl
-
-pub copyright_xread : (w : SpecVersion) (d : Depth) (c : List ℕ) → IsXRead w d (fields copyright (one (text c))) (a_record copyright) (fields copyright (one (text c)))
-unfolding xread nodes_of rows attributes_read ended
-copyright_xread w d c tag p = refl
-
-pub class_xread : (w : SpecVersion) (d : Depth) (f c : List ℕ) → IsXRead w d (fields classification (more (text f) (one (text c)))) (a_record classification) (fields classification (more (text f) (one (text c))))
-unfolding xread nodes_of rows attributes_read ended
-class_xread w d f c tag p = refl
 
 -- ---- the table: no two children of a record have one name
 

@@ -17,15 +17,14 @@ use Rattle.cdx_schema.specs.Held.{held_kind}
 use Rattle.cdx_models.specs.Entries.{is_flow}
 use Rattle.cdx_schema.specs.XmlTexts.{of_text, text_of, number_of, number_tree}
 use Rattle.cdx_schema.specs.XmlReading.{xread, nodes_read, Plan, Child, Place, last, once, all, stored, is_second, row_children, find_child, find_attribute, attributes_read, attribute_read, attribute_or_read, parsed, row_attribute, filled, lacks, owed, ended, in_force, content_from, no_content, plan_of_list, tools_plan, tools_of, signature_plan, signature_of, data_plan, data_of, Element}
-use Rattle.cdx_schema.specs.XmlSpelling.{nodes_of, fields_nodes, row_nodes, wrapped, attributes_in, row_attributes, attribute_of, tag_of, plain_element, attributes_of, lone, spelled, items_nodes, named, as_flows, any_flow, flow_of, name_in, plain_name}
+use Rattle.cdx_schema.specs.XmlSpelling.{nodes_of, fields_nodes, row_nodes, wrapped, attributes_in, row_attributes, attribute_of, tag_of, plain_element, attributes_of, lone, items_nodes, named, as_flows, any_flow, flow_of, name_in, plain_name}
 use Rattle.cdx_schema.specs.Trips.{is_hollow, is_passed_over, field_after, none_is_absent}
 use Rattle.cdx_schema.specs.JsonReading.{is_required, when_nothing}
 use Rattle.cdx_schema.specs.JsonSpelling.{is_written}
 use Rattle.cdx_schema.proofs.JsonBack.{is_in, distinct, same_itself, or_false, if_true, if_false, not_in_append, apart, apart_first, is_in_first, is_in_later, distinct_later, Held, IsRecordHeld, IsTextHeld, IsNumberHeld, AllHeld, FieldsHeld, RowHeld, same_name, err_ok, identifier_of, and_true, held_text, one_text_of, two_texts_of, class_of, required_held}
-use Rattle.cdx_schema.proofs.HeldKept.{held_there, held_kept, fits_first}
-use Rattle.cdx_schema.specs.Keeping.{keep, fits, is_shallow}
+use Rattle.cdx_schema.proofs.HeldKept.{held_there}
 use Rattle.cdx_models.specs.Trees.{spdx_id, license_name}
-use Rattle.cdx_schema.specs.Membership.{Never, HasShape, IsListOf, IsBooleanOf}
+use Rattle.cdx_schema.specs.Membership.{Never, IsListOf, IsBooleanOf}
 use Rattle.cdx_schema.proofs.XmlBack.{finds_first, plan_of, node_step, find_row, field_at, with_field_at, child_names, RowRead, RowsRead, Ends, IsXRead, silent_row, items_row, gathered, row_written, SetItems, SetsItem, gather, list_is, rows_read, record_xread, child_names_distinct, list_xread, text_xread, reference_xread, boolean_xread}
 use Rattle.cdx_events.specs.declared.name.OwnedAttribute.{OwnedAttribute}
 use Rattle.cdx_events.specs.Nodes.{Node, Nodes, characters, no_nodes}
@@ -258,13 +257,6 @@ abbrev pub is_else_empty : Need → Bool
 is_else_empty else_empty = true
 is_else_empty _ = false
 
-abbrev pub is_well : Row → Spelled → Bool
-is_well r (child n) = not (is_else_empty r.need)
-is_well r (filled_child n) = is_optional r.need
-is_well r (children n) = is_list_kind r.kind
-is_well r (either_child m n) = not (is_else_empty r.need)
-is_well r _ = true
-
 pub not_required : (n : Need) (w : SpecVersion) (t : Tree) → when_nothing n w ≡ Ok t → is_required n w ≡ false
 not_required optional w t h = refl
 not_required required w t h = absurd (err_ok h)
@@ -489,10 +481,6 @@ reads_well n k (filled_child q) = is_optional n && is_well_kind k
 reads_well n k (children q) = is_listed n && is_well_list k q
 reads_well n k (either_child p q) = not (is_else_empty n) && (is_identifier k && (bytes_eq p (codes "id") && bytes_eq q (codes "name")))
 reads_well n k _ = false
-
-abbrev pub all_read_well : List Row → Bool
-all_read_well [] = true
-all_read_well (r ∷ rs) = reads_well r.need r.kind r.xml && all_read_well rs
 
 pub optional_cases : (n : Need) → is_optional n ≡ true → not (is_else_empty n) ≡ true
 optional_cases else_empty h = sym (sym h)
@@ -1163,9 +1151,6 @@ abbrev pub items_in : Tree → Trees
 items_in (items ts) = ts
 items_in _ = none
 
-pub not_items : (t : Tree) (ts : Trees) → (is_items : Tree → Bool) → is_items t ≡ false → is_items (items ts) ≡ true → t ≡ items ts → ⊥
-not_items t ts f a b e = true≢false (sym b ∙ (sym (ap f e) ∙ a))
-
 mutual
   unfolding tripped nodes_of
 
@@ -1199,9 +1184,3 @@ mutual
         row_back w d t r (and_true (reads_well r.need r.kind r.xml) (ends_well r.xml r.need r.since) p.0).0 h.0 (λ e plain g. xml_back dec w d t r.kind e g) (tree_items dec w d t),
         rows_back dec w d ts rs p.1 h.1,
       )
-
--- The element of what a version keeps is read back as what the trip makes of it.
-pub xml_law : Decimals → (w : SpecVersion) (d : Depth) (t : Tree) (k : Kind) → is_elem k ≡ true → HasShape t k → fits w t k ≡ true → is_shallow t d ≡ true
-    → (tag : List ℕ) (p : ℕ) → xread (spelled (keep w t k) w tag k) w k p d ≡ Ok (tripped w (keep w t k) k)
-unfolding nodes_of
-xml_law dec w d t k e h f s tag p = xml_back dec w d (keep w t k) k e (held_kept w w d t k h (fits_first w t k f) s) tag p
