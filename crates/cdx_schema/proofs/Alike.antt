@@ -6,7 +6,7 @@ use Rattle.cdx_models.specs.declared.bom.SpecVersion.{SpecVersion}
 use Rattle.cdx_models.specs.declared.bom.SpecVersion.TheVariants.{V1_3, V1_4, V1_5}
 use Rattle.cdx_models.specs.Versions.{knows}
 use Rattle.cdx_models.specs.Trees.{Name, contact, classification, service_data, tools_object, Tree, absent, text, number, boolean, items, fields, Trees, none, more, two, field, is_absent}
-use Rattle.cdx_schema.specs.Kinds.{Kind, a_list, a_record, a_tools, an_entry, Need, optional, Spelled, attribute, attribute_or, content, one_text, as_cdata, child, filled_child, children, either_child, the_version, Row}
+use Rattle.cdx_schema.specs.Kinds.{Kind, a_list, a_record, a_tools, an_entry, Need, optional, Spelled, filled_child, children, Row}
 use Rattle.cdx_schema.specs.Table.{rows}
 use Rattle.cdx_schema.specs.Held.{held_kind}
 use Rattle.cdx_schema.specs.Keeping.{kept, items_kept, rows_kept, kept_record, before_1_5}
@@ -27,12 +27,8 @@ list_there _ ts = refl
 
 pub settled_there : (t : Tree) (k : Kind) → is_absent (settled t k) ≡ is_absent t
 unfolding settled
-settled_there absent k = refl
-settled_there (text s) k = refl
-settled_there (number s) k = refl
-settled_there (boolean s) k = refl
 settled_there (items ts) k = list_there k (items_settled ts (held_kind k))
-settled_there (fields n ts) k = refl
+settled_there _ k = refl
 
 -- ---- a version
 
@@ -50,11 +46,7 @@ none_kept w l _ = refl
 entry_settled : (t : Tree) → settled t an_entry ≡ settled t (a_record classification)
 unfolding settled
 entry_settled absent = refl
-entry_settled (text s) = refl
-entry_settled (number s) = refl
-entry_settled (boolean s) = refl
-entry_settled (items ts) = refl
-entry_settled (fields n ts) = refl
+entry_settled _ = refl
 
 third_settled : (us : Trees) → settled (field 2 us) (a_record classification) ≡ field 2 (rows_settled us (rows service_data))
 unfolding settled rows
@@ -85,15 +77,12 @@ mutual
   unfolding kept settled
 
   kept_settled : (w l : SpecVersion) (t : Tree) (k : Kind) → settled (kept w l (settled t k) k) k ≡ settled (kept w l t k) k
-  kept_settled w l absent k = refl
-  kept_settled w l (text s) k = refl
-  kept_settled w l (number n) k = refl
-  kept_settled w l (boolean b) k = refl
   kept_settled w l (items none) k = none_kept w l k
   kept_settled w l (items (more t ts)) k =
       ap (λ x. settled (kept w l x k) k) (settled_more k (settled t (held_kind k)) (items_settled ts (held_kind k)))
       ∙ ap (settled_items k) (more_is (kept_settled w l t (held_kind k)) (items_kept_settled w l ts (held_kind k)))
   kept_settled w l (fields n ts) k = record_settled w k n (rows_kept w l (rows_settled ts (rows n)) (rows n)) (rows_kept w l ts (rows n)) (rows_kept_settled w l ts (rows n))
+  kept_settled w l _ k = refl
 
   items_kept_settled : (w l : SpecVersion) (ts : Trees) (k : Kind) → items_settled (items_kept w l (items_settled ts k) k) k ≡ items_settled (items_kept w l ts k) k
   items_kept_settled w l none k = refl
@@ -118,13 +107,10 @@ no_child_settled (more t ts) (r ∷ rs) = no_child_row r (settled t r.kind) t (r
 
 pub hollow_settled : (t : Tree) (k : Kind) → whole_kind k ≡ true → is_hollow (settled t k) ≡ is_hollow t
 unfolding settled is_hollow
-hollow_settled absent k e = refl
-hollow_settled (text s) k e = refl
-hollow_settled (number s) k e = refl
-hollow_settled (boolean s) k e = refl
 hollow_settled (items ts) (a_record m) e = refl
 hollow_settled (items ts) _ e = absurd (true≢false (sym e))
 hollow_settled (fields n ts) k e = no_child_settled ts (rows n)
+hollow_settled _ k e = refl
 
 list_passed : (k : Kind) (ts : Trees) → is_passed_over (settled_items k ts) ≡ false
 list_passed a_tools none = refl
@@ -134,12 +120,8 @@ list_passed _ ts = refl
 pub passed_settled : (t : Tree) (k : Kind) → is_passed_over (settled t k) ≡ is_passed_over t
 unfolding settled is_hollow
 passed_settled (fields contact ts) k = no_child_settled ts (rows contact)
-passed_settled (fields _ ts) k = refl
-passed_settled absent k = refl
-passed_settled (text s) k = refl
-passed_settled (number s) k = refl
-passed_settled (boolean s) k = refl
 passed_settled (items ts) k = list_passed k (items_settled ts (held_kind k))
+passed_settled _ k = refl
 
 none_settled : (n : Need) (u : Tree) (k : Kind) → is_list_kind k ≡ true → settled (none_is_absent n u) k ≡ none_is_absent n (settled u k)
 unfolding settled
@@ -164,14 +146,7 @@ field_alike r t u x y s h e = by r.xml s
         at true = refl
         at false = e
     by (children q) g = none_settled r.need x r.kind g ∙ (ap (none_is_absent r.need) e ∙ sym (none_settled r.need y r.kind g))
-    by (attribute q) g = e
-    by (attribute_or q m) g = e
-    by content g = e
-    by one_text g = e
-    by as_cdata g = e
-    by (child q) g = e
-    by (either_child q m) g = e
-    by the_version g = e
+    by _ g = e
 
 none_bare : (k : Kind) → settled (bare (settled_items k none)) k ≡ settled_items k none
 unfolding bare settled rows
@@ -188,15 +163,12 @@ mutual
   unfolding bare settled
 
   bare_settled : (t : Tree) (k : Kind) → settled (bare (settled t k)) k ≡ settled (bare t) k
-  bare_settled absent k = refl
-  bare_settled (text s) k = refl
-  bare_settled (number n) k = refl
-  bare_settled (boolean b) k = refl
   bare_settled (items none) k = none_bare k
   bare_settled (items (more t ts)) k =
       ap (λ x. settled (bare x) k) (settled_more k (settled t (held_kind k)) (items_settled ts (held_kind k)))
       ∙ ap (settled_items k) (item_alike (is_passed_over (settled t (held_kind k))) (is_passed_over t) (bare (settled t (held_kind k))) (bare t) (items_bare (items_settled ts (held_kind k))) (items_bare ts) (held_kind k) (passed_settled t (held_kind k)) (bare_settled t (held_kind k)) (items_bare_settled ts (held_kind k)))
   bare_settled (fields n ts) k = ap (fields n) (rows_bare_settled ts (rows n) (sound n))
+  bare_settled _ k = refl
 
   items_bare_settled : (ts : Trees) (k : Kind) → items_settled (items_bare (items_settled ts k)) k ≡ items_settled (items_bare ts) k
   items_bare_settled none k = refl

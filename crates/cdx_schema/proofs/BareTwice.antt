@@ -3,7 +3,7 @@ use Rattle.std.specs.Prelude.{◌≡◌, refl, ℕ, List, [], ◌∷◌, Bool, t
 use Rattle.std.proofs.Common.{true≢false, inl, inr}
 use mathlib.Core.Path.{ap, sym, ◌∙◌}
 use Rattle.cdx_models.specs.Trees.{Name, contact, entity, diff, source, evidence, Tree, absent, text, number, boolean, items, fields, Trees, none, more, is_absent}
-use Rattle.cdx_schema.specs.Kinds.{Kind, a_record, Need, optional, Spelled, attribute, attribute_or, content, one_text, as_cdata, child, filled_child, children, either_child, the_version, Row}
+use Rattle.cdx_schema.specs.Kinds.{Kind, a_record, Need, optional, Spelled, filled_child, children, Row}
 use Rattle.cdx_schema.specs.Table.{rows}
 use Rattle.cdx_schema.specs.Held.{held_kind}
 use Rattle.cdx_schema.specs.Membership.{AnyText, HasShape, HaveShape, FieldsHaveShape}
@@ -19,11 +19,7 @@ use Rattle.cdx_schema.proofs.Commute.{no_child_row, filled_whole}
 bare_there : (t : Tree) → is_absent (bare t) ≡ is_absent t
 unfolding bare
 bare_there absent = refl
-bare_there (text s) = refl
-bare_there (number s) = refl
-bare_there (boolean s) = refl
-bare_there (items ts) = refl
-bare_there (fields n ts) = refl
+bare_there _ = refl
 
 -- rows whose fields a trip looks into and never takes
 abbrev is_steady : Spelled → Bool
@@ -41,14 +37,7 @@ steady_after r t u h = by r.xml h
     by : (x : Spelled) → is_steady x ≡ true → field_after (record r { xml = x }) t u ≡ u
     by (filled_child q) e = absurd (true≢false (sym e))
     by (children q) e = absurd (true≢false (sym e))
-    by (attribute q) e = refl
-    by (attribute_or q m) e = refl
-    by content e = refl
-    by one_text e = refl
-    by as_cdata e = refl
-    by (child q) e = refl
-    by (either_child q m) e = refl
-    by the_version e = refl
+    by _ e = refl
 
 no_child_bare : (ts : Trees) (rs : List Row) → all_steady rs ≡ true → no_child (rows_bare ts rs) rs ≡ no_child ts rs
 unfolding bare
@@ -69,23 +58,14 @@ steady_rows _ h e = absurd (true≢false (sym h))
 
 hollow_bare : (t : Tree) (k : Kind) → whole_kind k ≡ true → is_entity_kind k ≡ false → HasShape t k → is_hollow (bare t) ≡ is_hollow t
 unfolding bare is_hollow
-hollow_bare absent k w e h = refl
-hollow_bare (text s) k w e h = refl
-hollow_bare (number s) k w e h = refl
-hollow_bare (boolean s) k w e h = refl
-hollow_bare (items s) k w e h = refl
 hollow_bare (fields n ts) (a_record m) w e h = no_child_bare ts (rows n) (steady_rows n (ap whole_name h.0 ∙ w) (ap is_entity h.0 ∙ e))
 hollow_bare (fields n ts) _ w e h = absurd (true≢false (sym w))
+hollow_bare _ k w e h = refl
 
 passed_bare : (t : Tree) → is_passed_over (bare t) ≡ is_passed_over t
 unfolding bare is_hollow
 passed_bare (fields contact ts) = no_child_bare ts (rows contact) (unfold rows in refl)
-passed_bare (fields _ ts) = refl
-passed_bare absent = refl
-passed_bare (text s) = refl
-passed_bare (number s) = refl
-passed_bare (boolean s) = refl
-passed_bare (items ts) = refl
+passed_bare _ = refl
 
 lists_twice : (n : Need) (x : Tree) → bare x ≡ unsupplied x → none_is_absent n (bare (none_is_absent n x)) ≡ unsupplied (none_is_absent n x)
 unfolding bare unsupplied
@@ -120,14 +100,7 @@ field_twice r t s h e = by r.xml s
     by : (x : Spelled) → sound_xml x r.need r.kind ≡ true → Twice x r (field_after (record r { xml = x }) t (bare t))
     by (filled_child q) g = filled_twice r t q (filled_whole r.need r.kind g) h e (is_hollow t) refl
     by (children q) g = lists_twice r.need (bare t) e
-    by (attribute q) g = e
-    by (attribute_or q m) g = e
-    by content g = e
-    by one_text g = e
-    by as_cdata g = e
-    by (child q) g = e
-    by (either_child q m) g = e
-    by the_version g = e
+    by _ g = e
 
 item_twice : (b : Bool) (t : Tree) (ts : Trees) → is_passed_over t ≡ b → bare t ≡ unsupplied t → items_bare ts ≡ items_unsupplied ts → (b ≡ false → items_bare (more t ts) ≡ items_unsupplied (more t ts))
 unfolding bare unsupplied
@@ -148,12 +121,9 @@ mutual
 
   -- What the second trip takes.
   pub bare_twice : (t : Tree) (k : Kind) → HasShape t k → bare (bare t) ≡ unsupplied (bare t)
-  bare_twice absent k h = refl
-  bare_twice (text s) k h = refl
-  bare_twice (number n) k h = refl
-  bare_twice (boolean b) k h = refl
   bare_twice (items ts) k h = ap items (items_bare_twice ts (held_kind k) h.1)
   bare_twice (fields n ts) k h = ap (fields n) (rows_bare_twice ts (rows n) (sound n) h.1)
+  bare_twice _ k h = refl
 
   items_bare_twice : (ts : Trees) (k : Kind) → HaveShape ts k → items_bare (items_bare ts) ≡ items_unsupplied (items_bare ts)
   items_bare_twice none k h = refl
@@ -169,11 +139,7 @@ mutual
 pub unsupplied_there : (t : Tree) → is_absent (unsupplied t) ≡ is_absent t
 unfolding unsupplied
 unsupplied_there absent = refl
-unsupplied_there (text s) = refl
-unsupplied_there (number s) = refl
-unsupplied_there (boolean s) = refl
-unsupplied_there (items ts) = refl
-unsupplied_there (fields n ts) = refl
+unsupplied_there _ = refl
 
 abbrev pub no_supplier : List Row → Bool
 no_supplier [] = true
@@ -198,13 +164,9 @@ entity_rows _ h = absurd (true≢false (sym h))
 
 hollow_unsupplied : (t : Tree) (k : Kind) → is_entity_kind k ≡ true → HasShape t k → is_hollow (unsupplied t) ≡ is_hollow t
 unfolding unsupplied is_hollow
-hollow_unsupplied absent k e h = refl
-hollow_unsupplied (text s) k e h = refl
-hollow_unsupplied (number s) k e h = refl
-hollow_unsupplied (boolean s) k e h = refl
-hollow_unsupplied (items s) k e h = refl
 hollow_unsupplied (fields n ts) (a_record m) e h = no_child_unsupplied ts (rows n) (entity_rows n (ap is_entity h.0 ∙ e))
 hollow_unsupplied (fields n ts) _ e h = absurd (true≢false (sym e))
+hollow_unsupplied _ k e h = refl
 
 supplier_entity : (x : Spelled) (k : Kind) → is_supplier x k ≡ true → is_entity_kind k ≡ true
 supplier_entity (filled_child q) k h = h
@@ -232,12 +194,9 @@ mutual
   unfolding unsupplied
 
   unsupplied_twice : (t : Tree) (k : Kind) → HasShape t k → unsupplied (unsupplied t) ≡ unsupplied t
-  unsupplied_twice absent k h = refl
-  unsupplied_twice (text s) k h = refl
-  unsupplied_twice (number n) k h = refl
-  unsupplied_twice (boolean b) k h = refl
   unsupplied_twice (items ts) k h = ap items (items_unsupplied_twice ts (held_kind k) h.1)
   unsupplied_twice (fields n ts) k h = ap (fields n) (rows_unsupplied_twice ts (rows n) h.1)
+  unsupplied_twice _ k h = refl
 
   items_unsupplied_twice : (ts : Trees) (k : Kind) → HaveShape ts k → items_unsupplied (items_unsupplied ts) ≡ items_unsupplied ts
   items_unsupplied_twice none k h = refl

@@ -6,11 +6,11 @@ use mathlib.Core.Path.{ap, sym, ◌∙◌, subst}
 use Rattle.cdx_models.specs.declared.bom.SpecVersion.{SpecVersion}
 use Rattle.cdx_models.specs.Versions.{knows, label, namespace}
 use Rattle.cdx_models.specs.Trees.{bill, Tree, absent, text, number, fields, Trees, none, more, two}
-use Rattle.cdx_schema.specs.Kinds.{Row, lax, Spelled, attribute, content, one_text, as_cdata, child, filled_child, children, either_child, a_text, a_number, a_version, a_bill, the_version, attribute_or}
+use Rattle.cdx_schema.specs.Kinds.{Row, lax, Spelled, attribute, a_text, a_number, a_version, a_bill, the_version, attribute_or}
 use Rattle.cdx_schema.specs.Table.{rows, rule, list, row, must, at, bill_children}
 use Rattle.cdx_schema.specs.Results.{◌>>=◌}
 use Rattle.cdx_schema.specs.Depth.{Depth}
-use Rattle.cdx_schema.specs.XmlTexts.{text_of, decimal, number_tree}
+use Rattle.cdx_schema.specs.XmlTexts.{decimal, number_tree}
 use Rattle.cdx_schema.specs.XmlReading.{xread, nodes_read, attributes_read, ended, end_of, Element, content_read, content_from, no_content, record_plan}
 use Rattle.cdx_schema.specs.XmlSpelling.{root, nodes_of, fields_nodes, attributes_in, attributes_of, attribute_of, row_attributes, plain_name}
 use Rattle.cdx_schema.proofs.JsonBack.{FieldsHeld, if_true, same_itself, and_true}
@@ -39,14 +39,7 @@ row_bears_none r t h = by r.xml h
     by : (x : Spelled) → bears_none x ≡ true → row_attributes (record r { xml = x }) t ≡ []
     by (attribute n) e = absurd (true≢false (sym e))
     by (attribute_or n m) e = absurd (true≢false (sym e))
-    by content e = refl
-    by one_text e = refl
-    by as_cdata e = refl
-    by (child n) e = refl
-    by (filled_child n) e = refl
-    by (children n) e = refl
-    by (either_child m n) e = refl
-    by the_version e = refl
+    by _ e = refl
 
 no_attributes : (w : SpecVersion) (ts : Trees) (rs : List Row) → bear_none rs ≡ true → attributes_in ts rs w ≡ []
 no_attributes w none rs h = refl
@@ -72,10 +65,6 @@ whole w n s ts = more (text (label w)) (more (number n) (more s ts))
 
 abbrev version_attribute : ℕ → OwnedAttribute
 version_attribute n = record { name = plain_name (codes "version"); value = decimal n }
-
-abbrev serial_attribute : Tree → List OwnedAttribute
-serial_attribute absent = []
-serial_attribute t = record { name = plain_name (codes "serialNumber"); value = text_of t } ∷ []
 
 abbrev pub IsSerial : Tree → Type 0
 IsSerial s = (s ≡ absent) ⊎ ((x : List ℕ) × (s ≡ text x))

@@ -77,12 +77,9 @@ of_record : (w : SpecVersion) (n : Name) (ts : Trees) → n ≡ bill → FieldsH
 of_record w n ts is = subst (λ (m : Name). FieldsHaveShape ts (rows m) → Held w top (kept w w (fields m ts) a_bill) a_bill → Reads w (kept w w (fields m ts) a_bill)) (sym is) (of_fields w ts)
 
 of_bill : (b : Tree) (w : SpecVersion) → HasShape b a_bill → Held w top (kept w w b a_bill) a_bill → Reads w (kept w w b a_bill)
-of_bill absent w h held = absurd (true≢false h)
-of_bill (text x) w h held = absurd (true≢false h)
-of_bill (number x) w h held = absurd (true≢false h)
-of_bill (boolean x) w h held = absurd (true≢false h)
 of_bill (items x) w h held = absurd (true≢false h.0)
 of_bill (fields n ts) w h held = of_record w n ts h.0 h.1 held
+of_bill _ w h held = absurd (true≢false h)
 
 -- The XML spelling is read back as exactly what the trip makes of it.
 pub reads_xml : (b : Tree) (w : SpecVersion) → HasShape b a_bill → fits w b a_bill ≡ true → is_shallow b top ≡ true

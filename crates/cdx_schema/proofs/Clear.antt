@@ -1,7 +1,7 @@
 -- A value without a first float holds none, and so does no JSON spelling.
 use Rattle.std.proofs.Common.{◌≡◌, ℕ, suc, List, [], ◌∷◌, Bool, false, ◌||◌, Option, Some, None, refl, sym}
 use Rattle.std.proofs.lemmas.Option.{none-some}
-use Rattle.serde_json.specs.Data.{unsigned, negative, float, Data, null, boolean, number, string, array, object, Items, no_items, item, Members, no_members, member}
+use Rattle.serde_json.specs.Data.{unsigned, negative, float, Data, number, array, object, Items, no_items, item, Members, no_members, member}
 use Rattle.serde_json.specs.Written.{has_float, items_have_float, members_have_float}
 use Rattle.cdx_models.specs.declared.errors.Step.{Step}
 use Rattle.cdx_schema.specs.Faults.{to_member, to_item}
@@ -21,14 +21,12 @@ mutual
   unfolding first_float
 
   clear : (d : Data) → first_float d ≡ None → has_float d ≡ false
-  clear null h = refl
-  clear (boolean b) h = refl
   clear (number (unsigned n)) h = refl
   clear (number (negative z)) h = refl
   clear (number (float x)) h = absurd (none-some {A = List Step} [] (sym h))
-  clear (string s) h = refl
   clear (array ds) h = items_clear ds 0 h
   clear (object ms) h = members_clear ms h
+  clear _ h = refl
 
   items_clear : (ds : Items) (n : ℕ) → float_of_items n ds ≡ None → items_have_float ds ≡ false
   items_clear no_items n h = refl

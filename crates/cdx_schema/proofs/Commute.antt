@@ -6,7 +6,7 @@ use Rattle.cdx_models.specs.declared.bom.SpecVersion.{SpecVersion}
 use Rattle.cdx_models.specs.declared.bom.SpecVersion.TheVariants.{V1_3, V1_4, V1_5}
 use Rattle.cdx_models.specs.Versions.{knows}
 use Rattle.cdx_models.specs.Trees.{Name, contact, entity, diff, source, evidence, service_data, tools_object, signer, signers, chain, Tree, absent, text, number, boolean, items, fields, Trees, none, more, field, is_absent}
-use Rattle.cdx_schema.specs.Kinds.{Kind, a_version, a_list, a_record, a_license_choice, a_license_identifier, a_tools, an_entry, a_signature, a_bill, Need, optional, Spelled, attribute, attribute_or, content, one_text, as_cdata, child, filled_child, children, either_child, the_version, Row}
+use Rattle.cdx_schema.specs.Kinds.{Kind, a_version, a_list, a_record, a_license_choice, a_license_identifier, a_tools, an_entry, a_signature, a_bill, Need, optional, Spelled, filled_child, children, Row}
 use Rattle.cdx_schema.specs.Table.{rows}
 use Rattle.cdx_schema.specs.Held.{held_kind}
 use Rattle.cdx_schema.specs.Keeping.{kept, items_kept, rows_kept, kept_text, kept_record, before_1_5}
@@ -97,11 +97,7 @@ record_passed _ n ts e is = absurd (true≢false is)
 
 pub passed_not : (t : Tree) (k : Kind) → is_contact_kind k ≡ false → HasShape t k → is_passed_over t ≡ false
 passed_not (fields n ts) k e h = name_passed n ts (record_passed k n ts e h.0)
-passed_not absent k e h = refl
-passed_not (text s) k e h = refl
-passed_not (number s) k e h = refl
-passed_not (boolean s) k e h = refl
-passed_not (items s) k e h = refl
+passed_not _ k e h = refl
 
 contact_is : (n : Name) → is_contact n ≡ true → n ≡ contact
 contact_is contact h = refl
@@ -121,12 +117,9 @@ unfolding kept is_hollow
 passed_contact w l ts h = ap is_passed_over (stays w (a_record contact) contact (rows_kept w l ts (rows contact)) refl) ∙ no_child_kept w l ts (rows contact) (unfold rows in refl) h
 
 passed_at : (w l : SpecVersion) (t : Tree) → HasShape t (a_record contact) → is_passed_over (kept w l t (a_record contact)) ≡ is_passed_over t
-passed_at w l absent h = absurd (true≢false h)
-passed_at w l (text s) h = absurd (true≢false h)
-passed_at w l (number s) h = absurd (true≢false h)
-passed_at w l (boolean s) h = absurd (true≢false h)
 passed_at w l (items s) h = absurd (true≢false h.0)
 passed_at w l (fields n ts) h = subst (λ (m : Name). FieldsHaveShape ts (rows m) → is_passed_over (kept w l (fields m ts) (a_record contact)) ≡ is_passed_over (fields m ts)) (sym h.0) (passed_contact w l ts) h.1
+passed_at w l _ h = absurd (true≢false h)
 
 pub passed_kept : (w l : SpecVersion) (t : Tree) (k : Kind) → HasShape t k → is_passed_over (kept w l t k) ≡ is_passed_over t
 passed_kept w l t k h = by (contact_cases k)
@@ -179,14 +172,7 @@ gone_after r = by r.xml
     by : (x : Spelled) → field_after (record r { xml = x }) absent absent ≡ absent
     by (filled_child q) = unfold is_hollow in refl
     by (children q) = none_gone r.need
-    by (attribute q) = refl
-    by (attribute_or q m) = refl
-    by content = refl
-    by one_text = refl
-    by as_cdata = refl
-    by (child q) = refl
-    by (either_child q m) = refl
-    by the_version = refl
+    by _ = refl
 
 none_kept : (w l : SpecVersion) (n : Need) (u : Tree) (k : Kind) → is_list_kind k ≡ true → none_is_absent n (kept w l u k) ≡ kept w l (none_is_absent n u) k
 unfolding kept
@@ -223,14 +209,7 @@ field_commute w l r t s h e = by r.xml s
         at : (b c : Bool) → b ≡ c → (if b then absent else bare (kept w l t r.kind)) ≡ kept w l (if c then absent else bare t) r.kind
         at b c i = ap (λ x. if x then absent else bare (kept w l t r.kind)) i ∙ to c
     by (children q) g = ap (none_is_absent r.need) e ∙ none_kept w l r.need (bare t) r.kind g
-    by (attribute q) g = e
-    by (attribute_or q m) g = e
-    by content g = e
-    by one_text g = e
-    by as_cdata g = e
-    by (child q) g = e
-    by (either_child q m) g = e
-    by the_version g = e
+    by _ g = e
 
 row_commute : (w l : SpecVersion) (r : Row) (t : Tree) (b : Bool) → sound_xml r.xml r.need r.kind ≡ true → IsField t r → bare (kept w l t r.kind) ≡ kept w l (bare t) r.kind
     → field_after r (if b then kept w l t r.kind else absent) (bare (if b then kept w l t r.kind else absent)) ≡ (if b then kept w l (field_after r t (bare t)) r.kind else absent)
@@ -247,12 +226,10 @@ mutual
   unfolding kept bare
 
   pub bare_kept : (w l : SpecVersion) (t : Tree) (k : Kind) → HasShape t k → bare (kept w l t k) ≡ kept w l (bare t) k
-  bare_kept w l absent k h = refl
   bare_kept w l (text s) k h = text_bare l k s
-  bare_kept w l (number n) k h = refl
-  bare_kept w l (boolean b) k h = refl
   bare_kept w l (items ts) k h = ap items (items_bare_kept w l ts (held_kind k) h.1)
   bare_kept w l (fields n ts) k h = record_bare w k n (rows_kept w l ts (rows n)) ∙ ap (kept_record w k n) (rows_bare_kept w l ts (rows n) (sound n) h.1)
+  bare_kept w l _ k h = refl
 
   items_bare_kept : (w l : SpecVersion) (ts : Trees) (k : Kind) → HaveShape ts k → items_bare (items_kept w l ts k) ≡ items_kept w l (items_bare ts) k
   items_bare_kept w l none k h = refl

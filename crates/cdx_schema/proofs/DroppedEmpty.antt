@@ -6,7 +6,7 @@ use mathlib.Core.Path.{ap, sym, ◌∙◌, subst}
 use Rattle.cdx_models.specs.declared.bom.SpecVersion.{SpecVersion}
 use Rattle.cdx_models.specs.declared.bom.SpecVersion.TheVariants.{V1_5}
 use Rattle.cdx_models.specs.Versions.{knows}
-use Rattle.cdx_models.specs.Trees.{Name, hash, property, attached_text, contact, entity, commit, action, patch, diff, issue, source, reference, dependency, composition, license, expression, spdx_id, license_name, tool, component, swid, pedigree, evidence, copyright, service, classification, service_data, tools_object, metadata, signer, signers, chain, bill, Tree, absent, text, number, boolean, items, fields, Trees, none, more, one, is_absent}
+use Rattle.cdx_models.specs.Trees.{Name, hash, property, attached_text, contact, license, expression, spdx_id, license_name, tool, copyright, classification, service_data, tools_object, signer, signers, chain, Tree, absent, text, number, boolean, items, fields, Trees, none, more, one, is_absent}
 use Rattle.cdx_schema.specs.Kinds.{Lists, Kind, a_text, a_boolean, a_number, a_version, a_list, a_record, a_reference, a_license_choice, a_license_identifier, a_tools, a_data, an_entry, a_signature, a_bill, signer_list, chain_list, Spelled, attribute, attribute_or, content, one_text, as_cdata, child, filled_child, children, either_child, the_version, Need, optional, required, required_first, else_empty, Row}
 use Rattle.cdx_schema.specs.Table.{rows, list}
 use Rattle.cdx_models.specs.Entries.{is_flow}
@@ -54,10 +54,6 @@ is_bare _ = false
 
 bare_solid : (w : SpecVersion) (k : Kind) → is_bare k ≡ true → KindSolid w k
 unfolding has_empty
-bare_solid w k e d absent h = refl
-bare_solid w k e d (text s) h = refl
-bare_solid w k e d (number s) h = refl
-bare_solid w k e d (boolean s) h = refl
 bare_solid w k e d (items ts) h = by k e h.0
   where
     by : (j : Kind) → is_bare j ≡ true → IsListOf j → have_empty ts ≡ false
@@ -76,6 +72,7 @@ bare_solid w k e d (fields n ts) h = by k e h.0
     by a_version e h = absurd (true≢false h)
     by a_reference e h = absurd (true≢false h)
     by _ e h = absurd (true≢false (sym e))
+bare_solid w k e d _ h = refl
 
 absent_solid : (t : Tree) → is_absent t ≡ true → has_empty t ≡ false
 unfolding has_empty
@@ -90,10 +87,6 @@ row_solid w d t r (inr (inl h)) f = by r.need t h.1
     by : (n : Need) (u : Tree) → is_written n u ≡ false → has_empty u ≡ false
     by else_empty (items none) e = refl
     by else_empty (items (more x xs)) e = absurd (true≢false e)
-    by n absent e = refl
-    by n (text s) e = refl
-    by n (number s) e = refl
-    by n (boolean s) e = refl
     by optional (items s) e = absurd (true≢false e)
     by required (items s) e = absurd (true≢false e)
     by required_first (items s) e = absurd (true≢false e)
@@ -101,9 +94,8 @@ row_solid w d t r (inr (inl h)) f = by r.need t h.1
       where
         written : (n : Need) → is_written n (fields m s) ≡ true
         written optional = refl
-        written required = refl
-        written required_first = refl
-        written else_empty = refl
+        written _ = refl
+    by n _ e = refl
 
 abbrev RowsSolid : SpecVersion → List Row → Type 0
 RowsSolid w [] = Unit {0}
@@ -138,21 +130,15 @@ all_solid w k s d none h = refl
 all_solid w k s d (more t ts) h = or_both (has_empty t) (have_empty ts) (s d t h.0) (all_solid w k s d ts h.1)
 
 record_solid : (w : SpecVersion) (n : Name) → RowsSolid w (rows n) → no_one_text (rows n) ≡ true → KindSolid w (a_record n)
-record_solid w n s c d absent h = absurd (true≢false h)
-record_solid w n s c d (text x) h = absurd (true≢false h)
-record_solid w n s c d (number x) h = absurd (true≢false h)
-record_solid w n s c d (boolean x) h = absurd (true≢false h)
 record_solid w n s c d (items x) h = absurd (true≢false h.0)
 record_solid w n s c d (fields m ts) h = subst (λ (j : Name). FieldsHeld w (inside j d) ts (rows j) → has_empty (fields j ts) ≡ false) (sym h.0) (fields_solid w (inside n d) n ts s c) h.2
+record_solid w n s c d _ h = absurd (true≢false h)
 
 list_solid : (w : SpecVersion) (l : Lists) → KindSolid w (list l).kind → KindSolid w (a_list l)
 unfolding has_empty
-list_solid w l s d absent h = absurd (true≢false h)
-list_solid w l s d (text x) h = absurd (true≢false h)
-list_solid w l s d (number x) h = absurd (true≢false h)
-list_solid w l s d (boolean x) h = absurd (true≢false h)
 list_solid w l s d (fields m ts) h = absurd (true≢false h.0)
 list_solid w l s d (items ts) h = all_solid w (list l).kind s d ts h.1
+list_solid w l s d _ h = absurd (true≢false h)
 
 words : (w : SpecVersion) → KindSolid w a_text
 words w = bare_solid w a_text refl
@@ -171,10 +157,6 @@ chain_solid w = (list_solid w chain_list (record_solid w signer (signer_solid w)
 
 signature_solid : (w : SpecVersion) → KindSolid w a_signature
 unfolding rows
-signature_solid w d absent h = absurd (true≢false h)
-signature_solid w d (text x) h = absurd (true≢false h)
-signature_solid w d (number x) h = absurd (true≢false h)
-signature_solid w d (boolean x) h = absurd (true≢false h)
 signature_solid w d (items x) h = absurd (true≢false h.0)
 signature_solid w d (fields n ts) h = by h.0
   where
@@ -182,6 +164,7 @@ signature_solid w d (fields n ts) h = by h.0
     by (inl e) = subst (λ (j : Name). FieldsHeld w (inside j d) ts (rows j) → has_empty (fields j ts) ≡ false) (sym e) (fields_solid w d signers ts (signers_solid w) refl) h.2
     by (inr (inl e)) = subst (λ (j : Name). FieldsHeld w (inside j d) ts (rows j) → has_empty (fields j ts) ≡ false) (sym e) (fields_solid w d chain ts (chain_solid w) refl) h.2
     by (inr (inr e)) = subst (λ (j : Name). FieldsHeld w (inside j d) ts (rows j) → has_empty (fields j ts) ≡ false) (sym e) (fields_solid w d signer ts (signer_solid w) refl) h.2
+signature_solid w d _ h = absurd (true≢false h)
 
 class_solid : (w : SpecVersion) → RowsSolid w (rows classification)
 unfolding rows
@@ -193,16 +176,13 @@ flow_solid w = (words w, (words w, (record_solid w classification (class_solid w
 
 entry_solid : (w : SpecVersion) → KindSolid w an_entry
 unfolding rows
-entry_solid w d absent h = absurd (true≢false h)
-entry_solid w d (text x) h = absurd (true≢false h)
-entry_solid w d (number x) h = absurd (true≢false h)
-entry_solid w d (boolean x) h = absurd (true≢false h)
 entry_solid w d (items x) h = absurd (true≢false h.0)
 entry_solid w d (fields n ts) h = by h.0
   where
     by : (n ≡ classification) ⊎ ((n ≡ service_data) × (is_flow n ts ≡ true) × (w ≡ V1_5)) → has_empty (fields n ts) ≡ false
     by (inl e) = subst (λ (j : Name). FieldsHeld w (inside j d) ts (rows j) → has_empty (fields j ts) ≡ false) (sym e) (fields_solid w d classification ts (class_solid w) refl) h.2
     by (inr e) = subst (λ (j : Name). FieldsHeld w (inside j d) ts (rows j) → has_empty (fields j ts) ≡ false) (sym e.0) (fields_solid w d service_data ts (flow_solid w) refl) h.2
+entry_solid w d _ h = absurd (true≢false h)
 
 -- ---- what isn't written
 
@@ -274,10 +254,6 @@ child_back w plan t k n q p b e f h =
 abbrev ItemsBack : SpecVersion → Depth → Tree → Type 0
 ItemsBack w d t = (l : Lists) (plan : Plan) (p : ℕ) → Held w d t (a_list l) → is_plain (list l).kind ≡ true → Found w plan (list l).name (list l).kind → holes (lean_nodes (nodes_of t w (a_list l))) w p plan ≡ None → has_empty t ≡ false
 
-abbrev is_signature : Kind → Bool
-is_signature a_signature = true
-is_signature _ = false
-
 abbrev is_sound : Kind → Spelled → Bool
 is_sound k (attribute n) = is_bare k
 is_sound k (attribute_or n m) = is_bare k
@@ -292,10 +268,6 @@ abbrev all_right : List Row → Bool
 all_right [] = true
 all_right (r ∷ rs) = is_right r && all_right rs
 
-signed : (w : SpecVersion) (d : Depth) (t : Tree) (k : Kind) → is_signature k ≡ true → Held w d t k → has_empty t ≡ false
-signed w d t a_signature e h = signature_solid w d t h
-signed w d t _ e h = absurd (true≢false (sym e))
-
 either_back : (w : SpecVersion) (d : Depth) (plan : Plan) (t : Tree) (m : List ℕ) (p : ℕ) → Held w d t a_license_identifier → Back w t a_license_identifier → Found w plan (codes "id") a_license_identifier → Found w plan (codes "name") a_license_identifier
     → holes (lean_nodes (lone (wrapped t w m a_license_identifier (nodes_of t w a_license_identifier)))) w p plan ≡ None → has_empty t ≡ false
 either_back w d plan (fields o ts) m p g e i j h = by o g.0 e h
@@ -303,11 +275,8 @@ either_back w d plan (fields o ts) m p g e i j h = by o g.0 e h
     by : (o : Name) → (o ≡ spdx_id) ⊎ (o ≡ license_name) → Back w (fields o ts) a_license_identifier → holes (lean_nodes (lone (wrapped (fields o ts) w m a_license_identifier (nodes_of (fields o ts) w a_license_identifier)))) w p plan ≡ None → has_empty (fields o ts) ≡ false
     by o (inl q) = subst (λ (z : Name). Back w (fields z ts) a_license_identifier → holes (lean_nodes (lone (wrapped (fields z ts) w m a_license_identifier (nodes_of (fields z ts) w a_license_identifier)))) w p plan ≡ None → has_empty (fields z ts) ≡ false) (sym q) (λ e h. child_back w plan (fields spdx_id ts) a_license_identifier m (codes "id") p e refl i h)
     by o (inr q) = subst (λ (z : Name). Back w (fields z ts) a_license_identifier → holes (lean_nodes (lone (wrapped (fields z ts) w m a_license_identifier (nodes_of (fields z ts) w a_license_identifier)))) w p plan ≡ None → has_empty (fields z ts) ≡ false) (sym q) (λ e h. child_back w plan (fields license_name ts) a_license_identifier m (codes "name") p e refl j h)
-either_back w d plan absent m p g e i j h = absurd (true≢false g)
-either_back w d plan (text s) m p g e i j h = absurd (true≢false g)
-either_back w d plan (number s) m p g e i j h = absurd (true≢false g)
-either_back w d plan (boolean s) m p g e i j h = absurd (true≢false g)
 either_back w d plan (items s) m p g e i j h = absurd (true≢false g.0)
+either_back w d plan _ m p g e i j h = absurd (true≢false g)
 
 row_back : (w : SpecVersion) (d : Depth) (plan : Plan) (t : Tree) (r : Row) (p : ℕ) → is_clear r.kind r.xml ≡ true → is_sound r.kind r.xml ≡ true → RowFinds w plan r r.xml
     → Held w d t r.kind → Back w t r.kind → ItemsBack w d t → holes (lean_nodes (row_nodes r.xml t w r.kind (nodes_of t w r.kind))) w p plan ≡ None → has_empty t ≡ false
@@ -329,16 +298,14 @@ row_back w d plan t r p clear sound finds held b its = by r.kind r.xml clear sou
     either _ m n c f g e h = absurd (true≢false (sym c))
 
     by : (k : Kind) (x : Spelled) → is_clear k x ≡ true → is_sound k x ≡ true → RowFinds w plan (record r { kind = k; xml = x }) x → Held w d t k → Back w t k → holes (lean_nodes (row_nodes x t w k (nodes_of t w k))) w p plan ≡ None → has_empty t ≡ false
-    by k (attribute n) c s f g e h = bare_solid w k s d t g
-    by k (attribute_or n m) c s f g e h = bare_solid w k s d t g
     by k content c s f g e h = absurd (true≢false (sym c))
     by k one_text c s f g e h = absurd (true≢false (sym c))
     by k as_cdata c s f g e h = absurd (true≢false (sym c))
     by k (child n) c s f g e h = child_back w plan t k n n p e (tag_plain k t n c) f h
     by k (filled_child n) c s f g e h = filled k n (is_hollow t) refl s g (child_back w plan t k n n p e (tag_plain k t n c) f) h
     by k (children n) c s f g e h = lists k n c f g h
-    by k the_version c s f g e h = bare_solid w k s d t g
     by k (either_child m n) c s f g e h = either k m n c f g e h
+    by k _ c s f g e h = bare_solid w k s d t g
 
 written_back : (w : SpecVersion) (d : Depth) (plan : Plan) (t : Tree) (r : Row) (p : ℕ) → is_right r ≡ true → (knows r.since w ≡ true → RowFinds w plan r r.xml)
     → RowHeld w d t r → (Held w d t r.kind → Back w t r.kind) → ItemsBack w d t → holes (lean_nodes (row_written r t w)) w p plan ≡ None → has_empty t ≡ false
@@ -426,31 +393,7 @@ record_back w d copyright ts h g tag p e = fields_solid w d copyright ts (words 
 record_back w d attached_text ts h g tag p e = attached_back w d ts h tag p e
 record_back w d spdx_id ts h g tag p e = id_back w d ts h tag p e
 record_back w d license_name ts h g tag p e = name_back w d ts h tag p e
-record_back w d contact ts h g tag p e = full_of contact ts refl (g (record_plan contact) (suc p) refl (record_finds contact w) e)
-record_back w d entity ts h g tag p e = full_of entity ts refl (g (record_plan entity) (suc p) refl (record_finds entity w) e)
-record_back w d commit ts h g tag p e = full_of commit ts refl (g (record_plan commit) (suc p) refl (record_finds commit w) e)
-record_back w d action ts h g tag p e = full_of action ts refl (g (record_plan action) (suc p) refl (record_finds action w) e)
-record_back w d patch ts h g tag p e = full_of patch ts refl (g (record_plan patch) (suc p) refl (record_finds patch w) e)
-record_back w d diff ts h g tag p e = full_of diff ts refl (g (record_plan diff) (suc p) refl (record_finds diff w) e)
-record_back w d issue ts h g tag p e = full_of issue ts refl (g (record_plan issue) (suc p) refl (record_finds issue w) e)
-record_back w d source ts h g tag p e = full_of source ts refl (g (record_plan source) (suc p) refl (record_finds source w) e)
-record_back w d reference ts h g tag p e = full_of reference ts refl (g (record_plan reference) (suc p) refl (record_finds reference w) e)
-record_back w d dependency ts h g tag p e = full_of dependency ts refl (g (record_plan dependency) (suc p) refl (record_finds dependency w) e)
-record_back w d composition ts h g tag p e = full_of composition ts refl (g (record_plan composition) (suc p) refl (record_finds composition w) e)
-record_back w d license ts h g tag p e = full_of license ts refl (g (record_plan license) (suc p) refl (record_finds license w) e)
-record_back w d tool ts h g tag p e = full_of tool ts refl (g (record_plan tool) (suc p) refl (record_finds tool w) e)
-record_back w d component ts h g tag p e = full_of component ts refl (g (record_plan component) (suc p) refl (record_finds component w) e)
-record_back w d swid ts h g tag p e = full_of swid ts refl (g (record_plan swid) (suc p) refl (record_finds swid w) e)
-record_back w d pedigree ts h g tag p e = full_of pedigree ts refl (g (record_plan pedigree) (suc p) refl (record_finds pedigree w) e)
-record_back w d evidence ts h g tag p e = full_of evidence ts refl (g (record_plan evidence) (suc p) refl (record_finds evidence w) e)
-record_back w d service ts h g tag p e = full_of service ts refl (g (record_plan service) (suc p) refl (record_finds service w) e)
-record_back w d service_data ts h g tag p e = full_of service_data ts refl (g (record_plan service_data) (suc p) refl (record_finds service_data w) e)
-record_back w d tools_object ts h g tag p e = full_of tools_object ts refl (g (record_plan tools_object) (suc p) refl (record_finds tools_object w) e)
-record_back w d metadata ts h g tag p e = full_of metadata ts refl (g (record_plan metadata) (suc p) refl (record_finds metadata w) e)
-record_back w d signer ts h g tag p e = full_of signer ts refl (g (record_plan signer) (suc p) refl (record_finds signer w) e)
-record_back w d signers ts h g tag p e = full_of signers ts refl (g (record_plan signers) (suc p) refl (record_finds signers w) e)
-record_back w d chain ts h g tag p e = full_of chain ts refl (g (record_plan chain) (suc p) refl (record_finds chain w) e)
-record_back w d bill ts h g tag p e = full_of bill ts refl (g (record_plan bill) (suc p) refl (record_finds bill w) e)
+record_back w d n ts h g tag p e = full_of n ts refl (g (record_plan n) (suc p) refl (record_finds n w) e)
 
 -- ---- kinds
 
@@ -507,12 +450,9 @@ mutual
   unfolding nodes_of has_empty
 
   pub back : (w : SpecVersion) (d : Depth) (t : Tree) (k : Kind) → Held w d t k → Back w t k
-  back w d absent k h tag p e = refl
-  back w d (text s) k h tag p e = refl
-  back w d (number n) k h tag p e = refl
-  back w d (boolean b) k h tag p e = refl
   back w d (items ts) k h tag p e = items_case w d ts k h (λ j n plan q g i z. items_back w d ts j n plan q g i z) tag p e
   back w d (fields n ts) k h tag p e = fields_case w d n ts k h (λ plan q c i z. rows_back w (inside n d) ts (rows n) plan q c h.2 i z) tag p e
+  back w d _ k h tag p e = refl
 
   pub items_back : (w : SpecVersion) (d : Depth) (ts : Trees) (k : Kind) (tag : List ℕ) (plan : Plan) (p : ℕ) → AllHeld w d ts k → ItemFinds w d plan k tag → holes (lean_nodes (items_nodes ts w (named tag) k)) w p plan ≡ None → have_empty ts ≡ false
   items_back w d none k tag plan p h i e = refl
@@ -521,12 +461,9 @@ mutual
       or_both (has_empty t) (have_empty ts) (item_back w d t k tag plan p (is_passed_over t) refl h.0 (i t h.0) (λ a b c. back w d t k h.0 a b c) s.0) (items_back w d ts k tag plan s.1.0 h.1 i s.1.1)
 
   pub tree_items : (w : SpecVersion) (d : Depth) (t : Tree) → ItemsBack w d t
-  tree_items w d absent l plan p h c i e = absurd (true≢false h)
-  tree_items w d (text s) l plan p h c i e = absurd (true≢false h)
-  tree_items w d (number s) l plan p h c i e = absurd (true≢false h)
-  tree_items w d (boolean s) l plan p h c i e = absurd (true≢false h)
   tree_items w d (fields n s) l plan p h c i e = absurd (true≢false h.0)
   tree_items w d (items ts) l plan p h c i e = items_back w d ts (list l).kind (list l).name plan p h.1 (λ t g. subst (λ (q : List ℕ). Found w plan q (list l).kind) (sym (tag_plain (list l).kind t (list l).name c)) i) e
+  tree_items w d _ l plan p h c i e = absurd (true≢false h)
 
   pub rows_back : (w : SpecVersion) (d : Depth) (ts : Trees) (rs : List Row) (plan : Plan) (p : ℕ) → all_right rs ≡ true → FieldsHeld w d ts rs → RowsFind plan w rs → holes (lean_nodes (fields_nodes ts w rs)) w p plan ≡ None → have_empty ts ≡ false
   rows_back w d none rs plan p c h i e = refl

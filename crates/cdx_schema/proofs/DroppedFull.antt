@@ -7,8 +7,8 @@ use mathlib.Core.Path.{ap, sym, ◌∙◌, subst}
 use Rattle.cdx_models.specs.declared.bom.SpecVersion.{SpecVersion}
 use Rattle.cdx_models.specs.declared.bom.SpecVersion.TheVariants.{V1_5}
 use Rattle.cdx_models.specs.Versions.{knows}
-use Rattle.cdx_models.specs.Trees.{Name, hash, property, attached_text, contact, entity, commit, action, patch, diff, issue, source, reference, dependency, composition, license, expression, spdx_id, license_name, tool, component, swid, pedigree, evidence, copyright, service, classification, service_data, tools_object, metadata, signer, signers, chain, bill, Tree, absent, text, number, boolean, items, fields, Trees, none, more, one, is_absent}
-use Rattle.cdx_schema.specs.Kinds.{Lists, Kind, a_text, a_boolean, a_number, a_version, a_list, a_record, a_reference, a_license_choice, a_license_identifier, a_tools, a_data, an_entry, a_signature, a_bill, Rule, Spelled, attribute, attribute_or, content, one_text, as_cdata, child, filled_child, children, either_child, the_version, Need, optional, required, required_first, else_empty, Row}
+use Rattle.cdx_models.specs.Trees.{Name, hash, property, attached_text, license, expression, spdx_id, license_name, tool, copyright, classification, service_data, tools_object, signer, signers, chain, Tree, absent, text, number, boolean, items, fields, Trees, none, more, one, is_absent}
+use Rattle.cdx_schema.specs.Kinds.{Lists, Kind, a_text, a_boolean, a_number, a_version, a_list, a_record, a_reference, a_license_choice, a_license_identifier, a_tools, a_data, an_entry, a_signature, a_bill, Rule, Spelled, attribute, content, one_text, as_cdata, child, filled_child, children, either_child, Need, optional, required, required_first, else_empty, Row}
 use Rattle.cdx_schema.specs.Table.{rows, rule, list}
 use Rattle.cdx_schema.specs.Depth.{Depth, inside}
 use Rattle.cdx_schema.specs.Held.{held_kind}
@@ -273,15 +273,12 @@ row_whole w d plan t r clear known finds held full h its = by r.kind r.xml clear
     filled false xs f = f
 
     by : (k : Kind) (x : Spelled) → is_clear k x ≡ true → RowFinds w plan (record r { kind = k; xml = x }) x → Held w d t k → Whole w t k → HasNone (lean_nodes (row_nodes x t w k (nodes_of t w k))) w plan
-    by k (attribute n) c f g e = nothing_none w plan
-    by k (attribute_or n m) c f g e = nothing_none w plan
     by k content c f g e = absurd (true≢false (sym c))
     by k one_text c f g e = absurd (true≢false (sym c))
     by k as_cdata c f g e = absurd (true≢false (sym c))
     by k (child n) c f g e = one_child w plan t k n n e (tag_plain k t n c) f
     by k (filled_child n) c f g e = filled (is_hollow t) (lone (wrapped t w n k (nodes_of t w k))) (one_child w plan t k n n e (tag_plain k t n c) f)
     by k (children n) c f g e = lists k n c f g
-    by k the_version c f g e = nothing_none w plan
     by k (either_child m n) c f g e = either k m n c f g e
       where
         either : (k : Kind) (m n : List ℕ) → is_clear k (either_child m n) ≡ true → Found w plan m k × (bytes_eq n m ≡ false → Found w plan n k) → Held w d t k → Whole w t k → HasNone (lean_nodes (lone (wrapped t w m k (nodes_of t w k)))) w plan
@@ -297,12 +294,10 @@ row_whole w d plan t r clear known finds held full h its = by r.kind r.xml clear
                 named_by : (o : Name) → (o ≡ spdx_id) ⊎ (o ≡ license_name) → Whole w (fields o ts) a_license_identifier → HasNone (lean_nodes (lone (wrapped (fields o ts) w m a_license_identifier (nodes_of (fields o ts) w a_license_identifier)))) w plan
                 named_by o (inl q) = subst (λ (z : Name). Whole w (fields z ts) a_license_identifier → HasNone (lean_nodes (lone (wrapped (fields z ts) w m a_license_identifier (nodes_of (fields z ts) w a_license_identifier)))) w plan) (sym q) (λ e. one_child w plan (fields spdx_id ts) a_license_identifier m (codes "id") e refl i)
                 named_by o (inr q) = subst (λ (z : Name). Whole w (fields z ts) a_license_identifier → HasNone (lean_nodes (lone (wrapped (fields z ts) w m a_license_identifier (nodes_of (fields z ts) w a_license_identifier)))) w plan) (sym q) (λ e. one_child w plan (fields license_name ts) a_license_identifier m (codes "name") e refl j)
-            at absent g e i j = absurd (true≢false g)
-            at (text s) g e i j = absurd (true≢false g)
-            at (number s) g e i j = absurd (true≢false g)
-            at (boolean s) g e i j = absurd (true≢false g)
             at (items s) g e i j = absurd (true≢false g.0)
+            at _ g e i j = absurd (true≢false g)
         either _ m n c f g e = absurd (true≢false (sym c))
+    by k _ c f g e = nothing_none w plan
 
 list_held : (w : SpecVersion) (d : Depth) (k : Kind) (n : List ℕ) → clear_list k n ≡ true → Held w d (items none) k
 list_held w d (a_list l) n c = (tt, tt)
@@ -406,36 +401,12 @@ unfolding rows list
 record_whole w d hash ts h f g tag p = refl
 record_whole w d property ts h f g tag p = refl
 record_whole w d attached_text ts h f g tag p = attached_whole w d ts h f tag p
-record_whole w d contact ts h f g tag p = g (record_plan contact) refl (record_finds contact w) (suc p)
-record_whole w d entity ts h f g tag p = g (record_plan entity) refl (record_finds entity w) (suc p)
-record_whole w d commit ts h f g tag p = g (record_plan commit) refl (record_finds commit w) (suc p)
-record_whole w d action ts h f g tag p = g (record_plan action) refl (record_finds action w) (suc p)
-record_whole w d patch ts h f g tag p = g (record_plan patch) refl (record_finds patch w) (suc p)
-record_whole w d diff ts h f g tag p = g (record_plan diff) refl (record_finds diff w) (suc p)
-record_whole w d issue ts h f g tag p = g (record_plan issue) refl (record_finds issue w) (suc p)
-record_whole w d source ts h f g tag p = g (record_plan source) refl (record_finds source w) (suc p)
-record_whole w d reference ts h f g tag p = g (record_plan reference) refl (record_finds reference w) (suc p)
-record_whole w d dependency ts h f g tag p = g (record_plan dependency) refl (record_finds dependency w) (suc p)
-record_whole w d composition ts h f g tag p = g (record_plan composition) refl (record_finds composition w) (suc p)
-record_whole w d license ts h f g tag p = g (record_plan license) refl (record_finds license w) (suc p)
 record_whole w d expression ts h f g tag p = refl
 record_whole w d spdx_id ts h f g tag p = id_whole w d ts h f tag p
 record_whole w d license_name ts h f g tag p = name_whole w d ts h f tag p
-record_whole w d tool ts h f g tag p = g (record_plan tool) refl (record_finds tool w) (suc p)
-record_whole w d component ts h f g tag p = g (record_plan component) refl (record_finds component w) (suc p)
-record_whole w d swid ts h f g tag p = g (record_plan swid) refl (record_finds swid w) (suc p)
-record_whole w d pedigree ts h f g tag p = g (record_plan pedigree) refl (record_finds pedigree w) (suc p)
-record_whole w d evidence ts h f g tag p = g (record_plan evidence) refl (record_finds evidence w) (suc p)
 record_whole w d copyright ts h f g tag p = refl
-record_whole w d service ts h f g tag p = g (record_plan service) refl (record_finds service w) (suc p)
 record_whole w d classification ts h f g tag p = refl
-record_whole w d service_data ts h f g tag p = g (record_plan service_data) refl (record_finds service_data w) (suc p)
-record_whole w d tools_object ts h f g tag p = g (record_plan tools_object) refl (record_finds tools_object w) (suc p)
-record_whole w d metadata ts h f g tag p = g (record_plan metadata) refl (record_finds metadata w) (suc p)
-record_whole w d signer ts h f g tag p = g (record_plan signer) refl (record_finds signer w) (suc p)
-record_whole w d signers ts h f g tag p = g (record_plan signers) refl (record_finds signers w) (suc p)
-record_whole w d chain ts h f g tag p = g (record_plan chain) refl (record_finds chain w) (suc p)
-record_whole w d bill ts h f g tag p = g (record_plan bill) refl (record_finds bill w) (suc p)
+record_whole w d n ts h f g tag p = g (record_plan n) refl (record_finds n w) (suc p)
 
 -- ---- kinds
 
@@ -531,12 +502,9 @@ mutual
       (items_whole w d ts k tag plan h.1 e.1 i)
 
   pub tree_items : (w : SpecVersion) (d : Depth) (t : Tree) → ItemsWhole w d t
-  tree_items w d absent l plan h f c i = absurd (true≢false h)
-  tree_items w d (text s) l plan h f c i = absurd (true≢false h)
-  tree_items w d (number s) l plan h f c i = absurd (true≢false h)
-  tree_items w d (boolean s) l plan h f c i = absurd (true≢false h)
   tree_items w d (fields n s) l plan h f c i = absurd (true≢false h.0)
   tree_items w d (items ts) l plan h f c i = items_whole w d ts (list l).kind (list l).name plan h.1 f (λ t g. subst (λ (q : List ℕ). Found w plan q (list l).kind) (sym (tag_plain (list l).kind t (list l).name c)) i)
+  tree_items w d _ l plan h f c i = absurd (true≢false h)
 
   pub rows_whole : (w : SpecVersion) (d : Depth) (ts : Trees) (rs : List Row) (plan : Plan) → all_clear rs ≡ true → FieldsHeld w d ts rs → have_empty ts ≡ false → RowsFind plan w rs → HasNone (lean_nodes (fields_nodes ts w rs)) w plan
   rows_whole w d none rs plan c h f i = nothing_none w plan

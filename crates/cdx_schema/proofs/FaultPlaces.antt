@@ -6,8 +6,8 @@ use mathlib.Core.Path.{ap, sym, ◌∙◌, subst}
 use native.Mathlib.Omega.{arith}
 use Rattle.cdx_models.specs.declared.bom.SpecVersion.{SpecVersion}
 use Rattle.cdx_models.specs.Versions.{knows, label, namespace}
-use Rattle.cdx_models.specs.Trees.{Name, hash, property, attached_text, contact, entity, commit, action, patch, diff, issue, source, reference, dependency, composition, license, expression, spdx_id, license_name, tool, component, swid, pedigree, evidence, copyright, service, classification, service_data, tools_object, metadata, signer, signers, chain, bill, Tree, absent, text, number, fields, Trees, none, more, one, two, field, with_field, is_absent}
-use Rattle.cdx_schema.specs.Kinds.{Lists, hashes, properties, urls, contacts, commits, patches, resolved, links, external_references, dependencies, depended, compositions, assemblies, composed, vulnerabilities, licenses, components, services, copyright_texts, endpoints, authors, tool_list, signer_list, chain_list, classifications, flows, Kind, a_text, a_boolean, a_number, a_version, a_list, a_record, a_reference, a_license_choice, a_license_identifier, a_tools, a_data, an_entry, a_signature, a_bill, Rule, lax, strict, passing, Spelled, attribute, attribute_or, child, filled_child, children, either_child, the_version, Row}
+use Rattle.cdx_models.specs.Trees.{Name, hash, license, expression, spdx_id, license_name, service_data, signer, bill, Tree, absent, text, number, fields, Trees, none, more, one, two, field, with_field, is_absent}
+use Rattle.cdx_schema.specs.Kinds.{Lists, hashes, Kind, a_text, a_boolean, a_number, a_version, a_list, a_record, a_reference, a_license_choice, a_license_identifier, a_tools, a_data, an_entry, a_signature, a_bill, Rule, lax, strict, passing, Spelled, attribute, attribute_or, child, filled_child, children, either_child, the_version, Row}
 use Rattle.cdx_schema.specs.Table.{rows, list}
 use Rattle.cdx_schema.specs.Held.{held_kind}
 use Rattle.cdx_schema.specs.Results.{◌>>=◌}
@@ -128,38 +128,7 @@ no_bill_rows (r ∷ rs) = (no_bill r.kind && no_bill (held_kind r.kind)) && no_b
 rows_no_bill : (n : Name) → no_bill_rows (rows n) ≡ true
 unfolding rows list
 rows_no_bill hash = refl
-rows_no_bill property = refl
-rows_no_bill attached_text = refl
-rows_no_bill contact = refl
-rows_no_bill entity = refl
-rows_no_bill commit = refl
-rows_no_bill action = refl
-rows_no_bill patch = refl
-rows_no_bill diff = refl
-rows_no_bill issue = refl
-rows_no_bill source = refl
-rows_no_bill reference = refl
-rows_no_bill dependency = refl
-rows_no_bill composition = refl
-rows_no_bill license = refl
-rows_no_bill expression = refl
-rows_no_bill spdx_id = refl
-rows_no_bill license_name = refl
-rows_no_bill tool = refl
-rows_no_bill component = refl
-rows_no_bill swid = refl
-rows_no_bill pedigree = refl
-rows_no_bill evidence = refl
-rows_no_bill copyright = refl
-rows_no_bill service = refl
-rows_no_bill classification = refl
-rows_no_bill service_data = refl
-rows_no_bill tools_object = refl
-rows_no_bill metadata = refl
-rows_no_bill signer = refl
-rows_no_bill signers = refl
-rows_no_bill chain = refl
-rows_no_bill bill = refl
+rows_no_bill _ = refl
 
 no_bills_append : (xs ys : List Child) → no_bills xs ≡ true → no_bills ys ≡ true → no_bills (xs ++ ys) ≡ true
 no_bills_append [] ys p q = q
@@ -185,31 +154,7 @@ children_no_bill i (r ∷ rs) h =
 list_no_bill : (l : Lists) → no_bills (plan_of_list l).children ≡ true
 unfolding list
 list_no_bill hashes = refl
-list_no_bill properties = refl
-list_no_bill urls = refl
-list_no_bill contacts = refl
-list_no_bill commits = refl
-list_no_bill patches = refl
-list_no_bill resolved = refl
-list_no_bill links = refl
-list_no_bill external_references = refl
-list_no_bill dependencies = refl
-list_no_bill depended = refl
-list_no_bill compositions = refl
-list_no_bill assemblies = refl
-list_no_bill composed = refl
-list_no_bill vulnerabilities = refl
-list_no_bill licenses = refl
-list_no_bill components = refl
-list_no_bill services = refl
-list_no_bill copyright_texts = refl
-list_no_bill endpoints = refl
-list_no_bill authors = refl
-list_no_bill tool_list = refl
-list_no_bill signer_list = refl
-list_no_bill chain_list = refl
-list_no_bill classifications = refl
-list_no_bill flows = refl
+list_no_bill _ = refl
 
 -- ---- one element beside another of the same start
 

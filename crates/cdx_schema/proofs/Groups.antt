@@ -11,7 +11,7 @@ use Rattle.serde_json.proofs.Views.{get_member-put, get_member-put_other}
 use Rattle.cdx_models.specs.declared.bom.SpecVersion.{SpecVersion}
 use Rattle.cdx_models.specs.declared.bom.SpecVersion.TheVariants.{V1_3, V1_4, V1_5}
 use Rattle.cdx_models.specs.Versions.{knows}
-use Rattle.cdx_models.specs.Trees.{Name, Tree, absent, text, number, boolean, items, fields, Trees, none, more, one, ◌⧺◌}
+use Rattle.cdx_models.specs.Trees.{Name, Tree, absent, fields, Trees, none, more, one, ◌⧺◌}
 use Rattle.cdx_schema.specs.Kinds.{Kind, Row, Member, member, merged}
 use Rattle.cdx_schema.specs.Depth.{Depth, inside, name_too_deep}
 use Rattle.cdx_schema.specs.Table.{rows}
@@ -209,11 +209,7 @@ mutual
 
   own_or : (t : Tree) (w : SpecVersion) (ms : Members) (q : List ℕ) → get_member q (own_members t w ms) ≡ or_else (get_member q (own_members t w no_members)) (get_member q ms)
   own_or (fields n ts) w ms q = sets_members (rows n) ts w ms q
-  own_or absent w ms q = refl
-  own_or (text s) w ms q = refl
-  own_or (number n) w ms q = refl
-  own_or (boolean b) w ms q = refl
-  own_or (items ts) w ms q = refl
+  own_or _ w ms q = refl
 
 pub writes_rows : WritesRows
 unfolding nodes_of

@@ -7,7 +7,7 @@ use Rattle.cdx_models.specs.declared.bom.SpecVersion.{SpecVersion}
 use Rattle.cdx_models.specs.declared.bom.SpecVersion.TheVariants.{V1_3, V1_4, V1_5}
 use Rattle.cdx_models.specs.Versions.{knows, is_label, is_first, label}
 use Rattle.cdx_models.specs.Trees.{Name, classification, service_data, tools_object, Tree, absent, text, number, boolean, items, fields, Trees, none, more, is_absent, field}
-use Rattle.cdx_schema.specs.Kinds.{Kind, a_text, a_boolean, a_number, a_version, a_list, a_record, a_reference, a_license_choice, a_license_identifier, a_tools, a_data, an_entry, a_signature, a_bill, Need, optional, required, required_first, else_empty, Row}
+use Rattle.cdx_schema.specs.Kinds.{Kind, a_text, a_number, a_version, a_record, a_reference, a_license_choice, a_license_identifier, a_tools, an_entry, a_signature, a_bill, Need, optional, required, required_first, else_empty, Row}
 use Rattle.cdx_schema.specs.Table.{rows, class_row}
 use Rattle.cdx_schema.specs.Held.{held_kind}
 use Rattle.cdx_models.specs.Entries.{is_flow}
@@ -28,17 +28,7 @@ pub text_held : (w l : SpecVersion) (d : Depth) (k : Kind) (s : List ℕ) → Is
 text_held w l d a_text s h = tt
 text_held w l d a_reference s h = tt
 text_held w l d a_version s h = label_is l
-text_held w l d a_boolean s h = absurd (true≢false h)
-text_held w l d a_number s h = absurd (true≢false h)
-text_held w l d (a_list x) s h = absurd (true≢false h)
-text_held w l d (a_record x) s h = absurd (true≢false h)
-text_held w l d a_license_choice s h = absurd (true≢false h)
-text_held w l d a_license_identifier s h = absurd (true≢false h)
-text_held w l d a_tools s h = absurd (true≢false h)
-text_held w l d a_data s h = absurd (true≢false h)
-text_held w l d an_entry s h = absurd (true≢false h)
-text_held w l d a_signature s h = absurd (true≢false h)
-text_held w l d a_bill s h = absurd (true≢false h)
+text_held w l d _ s h = absurd (true≢false h)
 
 pub below : (n m : ℕ) → n < m → nat_lt n m ≡ true
 below n m h = grind arith
@@ -49,19 +39,12 @@ number_held _ n h = absurd (true≢false h)
 
 pub held_there : (w : SpecVersion) (d : Depth) (x : Tree) (k : Kind) → Held w d x k → is_absent x ≡ false
 held_there w d absent k h = absurd (true≢false h)
-held_there w d (text s) k h = refl
-held_there w d (number s) k h = refl
-held_there w d (boolean s) k h = refl
-held_there w d (items s) k h = refl
-held_there w d (fields n s) k h = refl
+held_there w d _ k h = refl
 
 -- What is there is written, or is an empty list that stands for nothing.
 pub written : (n : Need) (x : Tree) → is_absent x ≡ false → (is_written n x ≡ true) ⊎ ((n ≡ else_empty) × (x ≡ items none))
-written optional x h = inl (ap not h)
-written required x h = inl (ap not h)
-written required_first x h = inl (ap not h)
 written else_empty (items none) h = inr (refl, refl)
-written else_empty x h = inl (ap not h)
+written _ x h = inl (ap not h)
 
 pub present_row : (w : SpecVersion) (d : Depth) (u : Tree) (r : Row) → knows r.since w ≡ true → Held w d u r.kind → RowHeld w d u r
 present_row w d u r known h = by (written r.need u (held_there w d u r.kind h))
@@ -76,9 +59,7 @@ absent_row w d r known lack there = inr (inl (known, by r.need, what r.need lack
   where
     by : (n : Need) → is_written n absent ≡ false
     by optional = refl
-    by required = refl
-    by required_first = refl
-    by else_empty = refl
+    by _ = refl
 
     what : (n : Need) → may_lack n ≡ true → (is_first w ≡ true → is_there n absent ≡ true) → when_nothing n w ≡ Ok absent
     what optional e f = refl
@@ -94,12 +75,8 @@ absent_row w d r known lack there = inr (inl (known, by r.need, what r.need lack
 
 pub absent_stays : (w l : SpecVersion) (t : Tree) → is_absent (kept w l t a_text) ≡ is_absent t
 unfolding kept
-absent_stays w l absent = refl
-absent_stays w l (text s) = refl
-absent_stays w l (number n) = refl
-absent_stays w l (boolean b) = refl
-absent_stays w l (items ts) = refl
 absent_stays w l (fields n ts) = ap is_absent (stays w a_text n (rows_kept w l ts (rows n)) refl)
+absent_stays w l _ = refl
 
 pub flow_stays : (w l : SpecVersion) (ts : Trees) → is_flow service_data (rows_kept w l ts (rows service_data)) ≡ is_flow service_data ts
 unfolding kept rows
@@ -108,12 +85,9 @@ flow_stays w l (more a none) = ap (λ x. not (x && true)) (absent_stays w l a)
 flow_stays w l (more a (more b ts)) = rw (absent_stays w l a, absent_stays w l b) refl
 
 pub class_is_entry : (w : SpecVersion) (d : Depth) (t : Tree) → Held w d t (a_record classification) → Held w d t an_entry
-class_is_entry w d absent h = h
-class_is_entry w d (text s) h = h
-class_is_entry w d (number n) h = h
-class_is_entry w d (boolean b) h = h
 class_is_entry w d (items ts) h = absurd (true≢false h.0)
 class_is_entry w d (fields n ts) h = (inl h.0, h.1, h.2)
+class_is_entry w d _ h = h
 
 pub third_held : (w : SpecVersion) (d : Depth) (ts : Trees) → FieldsHeld w d ts (rows service_data) → Held w d (field 2 ts) (a_record classification)
 unfolding rows
@@ -157,13 +131,7 @@ record_held w l d an_entry n ts (inr is) deep v h =
     subst (λ (m : Name). is_flow m ts ≡ true → Rows w l d m ts → Held w d (kept_record w an_entry m (rows_kept w l ts (rows m))) an_entry) (sym is.0) (flow_held w l d ts) is.1 (h v)
 record_held w l d a_signature n ts is deep v h = plain_held w l d a_signature n ts refl (is, deep, h v)
 record_held w l d a_bill n ts is deep v h = plain_held w l d a_bill n ts refl (is, deep, h v)
-record_held w l d a_text n ts is deep v h = absurd (true≢false is)
-record_held w l d a_boolean n ts is deep v h = absurd (true≢false is)
-record_held w l d a_number n ts is deep v h = absurd (true≢false is)
-record_held w l d a_version n ts is deep v h = absurd (true≢false is)
-record_held w l d (a_list x) n ts is deep v h = absurd (true≢false is)
-record_held w l d a_reference n ts is deep v h = absurd (true≢false is)
-record_held w l d a_data n ts is deep v h = absurd (true≢false is)
+record_held w l d _ n ts is deep v h = absurd (true≢false is)
 
 pub first_row : (w l : SpecVersion) (d : Depth) (t : Tree) (r : Row) (b : Bool) → knows r.since w ≡ b
     → ((t ≡ absent) × (may_lack r.need ≡ true)) ⊎ Held w d (kept w l t r.kind) r.kind → (is_first w ≡ true → is_there r.need t ≡ true)

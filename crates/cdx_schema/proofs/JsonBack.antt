@@ -14,8 +14,8 @@ use Rattle.serde_json.proofs.Views.{get_member-put, get_member-put_other}
 use Rattle.cdx_models.specs.declared.bom.SpecVersion.{SpecVersion}
 use Rattle.cdx_models.specs.declared.bom.SpecVersion.TheVariants.{V1_3, V1_4, V1_5}
 use Rattle.cdx_models.specs.Versions.{knows, is_label}
-use Rattle.cdx_models.specs.Trees.{Name, hash, property, attached_text, contact, entity, commit, action, patch, diff, issue, source, reference, dependency, composition, license, expression, spdx_id, license_name, tool, component, swid, pedigree, evidence, copyright, service, classification, service_data, tools_object, metadata, signer, signers, chain, bill, Tree, absent, text, number, boolean, items, fields, Trees, none, more, one, two}
-use Rattle.cdx_schema.specs.Kinds.{properties, signer_list, chain_list, Kind, a_text, a_boolean, a_number, a_version, a_list, a_record, a_reference, a_license_choice, a_license_identifier, a_tools, a_data, an_entry, a_signature, a_bill, Member, member, merged, Need, optional, required, required_first, else_empty, content, children, Row}
+use Rattle.cdx_models.specs.Trees.{Name, hash, attached_text, license, expression, spdx_id, license_name, classification, service_data, tools_object, signer, signers, chain, bill, Tree, absent, text, number, boolean, items, fields, Trees, none, more, one, two}
+use Rattle.cdx_schema.specs.Kinds.{properties, signer_list, chain_list, Kind, a_text, a_boolean, a_number, a_version, a_list, a_record, a_reference, a_license_choice, a_license_identifier, a_tools, a_data, an_entry, a_signature, a_bill, Member, member, merged, Need, required, content, children, Row}
 use Rattle.cdx_schema.specs.Table.{rows, from, of, at, row, must, respelled_reference, identifier_row, class_row}
 use Rattle.cdx_schema.specs.Results.{◌>>=◌}
 use Rattle.cdx_models.specs.declared.errors.Step.{Step}
@@ -79,38 +79,7 @@ are_distinct n = distinct (names (rows n))
 pub distinct_names : (n : Name) → are_distinct n ≡ true
 unfolding rows
 distinct_names hash = refl
-distinct_names property = refl
-distinct_names attached_text = refl
-distinct_names contact = refl
-distinct_names entity = refl
-distinct_names commit = refl
-distinct_names action = refl
-distinct_names patch = refl
-distinct_names diff = refl
-distinct_names issue = refl
-distinct_names source = refl
-distinct_names reference = refl
-distinct_names dependency = refl
-distinct_names composition = refl
-distinct_names license = refl
-distinct_names expression = refl
-distinct_names spdx_id = refl
-distinct_names license_name = refl
-distinct_names tool = refl
-distinct_names component = refl
-distinct_names swid = refl
-distinct_names pedigree = refl
-distinct_names evidence = refl
-distinct_names copyright = refl
-distinct_names service = refl
-distinct_names classification = refl
-distinct_names service_data = refl
-distinct_names tools_object = refl
-distinct_names metadata = refl
-distinct_names signer = refl
-distinct_names signers = refl
-distinct_names chain = refl
-distinct_names bill = refl
+distinct_names _ = refl
 
 pub same_name : (q n : List ℕ) → bytes_eq q n ≡ true → q ≡ n
 same_name q n h = (bytes_eq-Decides q n).0 h
@@ -185,18 +154,7 @@ unfolding rows
 own_name q a_license_identifier n (inl e) h = subst (λ (m : Name). is_in q (names (rows m)) ≡ false) (sym e) (both_false (bytes_eq q (codes "id")) false (or_false (bytes_eq q (codes "id")) _ h).0 refl)
 own_name q a_license_identifier n (inr e) h = subst (λ (m : Name). is_in q (names (rows m)) ≡ false) (sym e) (or_false (bytes_eq q (codes "id")) _ h).1
 own_name q (a_record m) n e h = subst (λ (l : Name). is_in q (names (rows l)) ≡ false) (sym e.0) (ap (is_in q) (sym e.1) ∙ h)
-own_name q a_text n e h = absurd (true≢false e)
-own_name q a_boolean n e h = absurd (true≢false e)
-own_name q a_number n e h = absurd (true≢false e)
-own_name q a_version n e h = absurd (true≢false e)
-own_name q (a_list l) n e h = absurd (true≢false e)
-own_name q a_reference n e h = absurd (true≢false e)
-own_name q a_license_choice n e h = absurd (true≢false e)
-own_name q a_tools n e h = absurd (true≢false e)
-own_name q a_data n e h = absurd (true≢false e)
-own_name q an_entry n e h = absurd (true≢false e)
-own_name q a_signature n e h = absurd (true≢false e)
-own_name q a_bill n e h = absurd (true≢false e)
+own_name q _ n e h = absurd (true≢false e)
 
 pub left_at : (q : List ℕ) (b : Bool) (r : Row) (x : Data) (own : Members → Members) (ms : Members) → is_in q (row_names r.old_name r.json (own_names r.kind)) ≡ false
     → (r.json ≡ merged → get_member q (own ms) ≡ get_member q ms)
@@ -223,12 +181,8 @@ mutual
 
   own_other : (q : List ℕ) (t : Tree) (w : SpecVersion) (k : Kind) (ms : Members) → IsOwn t merged k → is_in q (own_names k) ≡ false
       → get_member q (own_members t w ms) ≡ get_member q ms
-  own_other q absent w k ms own h = refl
-  own_other q (text s) w k ms own h = refl
-  own_other q (number n) w k ms own h = refl
-  own_other q (boolean b) w k ms own h = refl
-  own_other q (items ts) w k ms own h = refl
   own_other q (fields n ts) w k ms own h = other q ts w (rows n) ms own.1 (own_name q k n own.0 h)
+  own_other q _ w k ms own h = refl
 
 -- ---- rows that are read back
 
@@ -432,10 +386,6 @@ is_own_kind a_license_identifier = true
 is_own_kind (a_record n) = all_named (rows n)
 is_own_kind _ = false
 
-abbrev pub is_entry : Kind → Bool
-is_entry an_entry = true
-is_entry _ = false
-
 abbrev pub is_must : Row → Bool
 is_must r = by r.need r.since
   where
@@ -450,74 +400,12 @@ owns_well (r ∷ rs) = (is_named r.json || (is_own_kind r.kind && is_must r)) &&
 pub owns_well_all : (n : Name) → owns_well (rows n) ≡ true
 unfolding rows
 owns_well_all hash = refl
-owns_well_all property = refl
-owns_well_all attached_text = refl
-owns_well_all contact = refl
-owns_well_all entity = refl
-owns_well_all commit = refl
-owns_well_all action = refl
-owns_well_all patch = refl
-owns_well_all diff = refl
-owns_well_all issue = refl
-owns_well_all source = refl
-owns_well_all reference = refl
-owns_well_all dependency = refl
-owns_well_all composition = refl
-owns_well_all license = refl
-owns_well_all expression = refl
-owns_well_all spdx_id = refl
-owns_well_all license_name = refl
-owns_well_all tool = refl
-owns_well_all component = refl
-owns_well_all swid = refl
-owns_well_all pedigree = refl
-owns_well_all evidence = refl
-owns_well_all copyright = refl
-owns_well_all service = refl
-owns_well_all classification = refl
-owns_well_all service_data = refl
-owns_well_all tools_object = refl
-owns_well_all metadata = refl
-owns_well_all signer = refl
-owns_well_all signers = refl
-owns_well_all chain = refl
-owns_well_all bill = refl
+owns_well_all _ = refl
 
 pub heading_clear : (n : Name) → IsClear (names (rows n)) (heading n)
 unfolding rows
-heading_clear hash q h = refl
-heading_clear property q h = refl
-heading_clear attached_text q h = refl
-heading_clear contact q h = refl
-heading_clear entity q h = refl
-heading_clear commit q h = refl
-heading_clear action q h = refl
-heading_clear patch q h = refl
-heading_clear diff q h = refl
-heading_clear issue q h = refl
-heading_clear source q h = refl
-heading_clear reference q h = refl
-heading_clear dependency q h = refl
-heading_clear composition q h = refl
-heading_clear license q h = refl
-heading_clear expression q h = refl
-heading_clear spdx_id q h = refl
-heading_clear license_name q h = refl
-heading_clear tool q h = refl
-heading_clear component q h = refl
-heading_clear swid q h = refl
-heading_clear pedigree q h = refl
-heading_clear evidence q h = refl
-heading_clear copyright q h = refl
-heading_clear service q h = refl
-heading_clear classification q h = refl
-heading_clear service_data q h = refl
-heading_clear tools_object q h = refl
-heading_clear metadata q h = refl
-heading_clear signer q h = refl
-heading_clear signers q h = refl
-heading_clear chain q h = refl
 heading_clear bill q h = get_member-put_other q (codes "bomFormat") (json.string (codes "CycloneDX")) no_members (λ e. true≢false (sym h ∙ subst (λ (x : List ℕ). is_in x (names (rows bill)) ≡ false) (sym e) refl))
+heading_clear _ q h = refl
 
 -- ---- trees that a version holds at a depth
 
@@ -566,17 +454,7 @@ unfolding jspell jread
 text_back w d s a_text h = (refl, refl)
 text_back w d s a_reference h = (refl, refl)
 text_back w d s a_version h = (refl, if_true (is_label s) (Ok (text s)) _ h)
-text_back w d s a_boolean h = absurd (true≢false h)
-text_back w d s a_number h = absurd (true≢false h)
-text_back w d s (a_list l) h = absurd (true≢false h)
-text_back w d s (a_record n) h = absurd (true≢false h)
-text_back w d s a_license_choice h = absurd (true≢false h)
-text_back w d s a_license_identifier h = absurd (true≢false h)
-text_back w d s a_tools h = absurd (true≢false h)
-text_back w d s a_data h = absurd (true≢false h)
-text_back w d s an_entry h = absurd (true≢false h)
-text_back w d s a_signature h = absurd (true≢false h)
-text_back w d s a_bill h = absurd (true≢false h)
+text_back w d s _ h = absurd (true≢false h)
 
 pub number_back : (w : SpecVersion) (d : Depth) (n : ℕ) (k : Kind) → IsNumberHeld k n → IsRead w d (number n) k
 unfolding jspell jread
@@ -617,12 +495,10 @@ own_back_named own w (more t ts) (r ∷ rs) h = (by r.json (and_true (is_named r
     by merged e = absurd (true≢false (sym e))
 
 pub held_text : (w : SpecVersion) (d : Depth) (t : Tree) → Held w d t a_text → (s : List ℕ) × (t ≡ text s)
-held_text w d absent h = absurd (true≢false h)
 held_text w d (text s) h = (s, refl)
-held_text w d (number n) h = absurd (true≢false h)
-held_text w d (boolean b) h = absurd (true≢false h)
 held_text w d (items ts) h = absurd (true≢false h.0)
 held_text w d (fields n ts) h = absurd (true≢false h.0)
+held_text w d _ h = absurd (true≢false h)
 
 abbrev pub RowHeld : SpecVersion → Depth → Tree → Row → Type 0
 RowHeld w d t r = ((knows r.since w ≡ false) × (t ≡ absent))
@@ -688,10 +564,6 @@ name_gets w d b s us owns =
 pub identifier_of : (w : SpecVersion) (d : Depth) (t : Tree) → Held w d t a_license_identifier
     → ((s : List ℕ) × (t ≡ fields spdx_id (one (text s)))) ⊎ ((s : List ℕ) × (t ≡ fields license_name (one (text s))))
 unfolding rows
-identifier_of w d absent h = absurd (true≢false h)
-identifier_of w d (text s) h = absurd (true≢false h)
-identifier_of w d (number n) h = absurd (true≢false h)
-identifier_of w d (boolean b) h = absurd (true≢false h)
 identifier_of w d (items ts) h = absurd (true≢false h.0)
 identifier_of w d (fields n ts) h = by h.0
   where
@@ -704,6 +576,7 @@ identifier_of w d (fields n ts) h = by h.0
       where
         by_text : (m : Name) → n ≡ m → (s : List ℕ) × (ts ≡ one (text s)) → (s : List ℕ) × (fields n ts ≡ fields m (one (text s)))
         by_text m e' p = (p.0, rw (e', p.1) refl)
+identifier_of w d _ h = absurd (true≢false h)
 
 abbrev pub IdGets : SpecVersion → Depth → Tree → Trees → Tree → Type 0
 IdGets w d b us j = AreOwn (more b (more j us)) (rows license) → identifier_read (seen (spelled license (more b (more j us)) w)) w d ≡ Ok j
@@ -741,14 +614,11 @@ two_texts_of w d (more t us) r s a b c a' b' c' h =
 
 pub class_of : (w : SpecVersion) (d : Depth) (t : Tree) → Held w d t (a_record classification) → (f : List ℕ) × (g : List ℕ) × (t ≡ fields classification (two (text f) (text g)))
 unfolding rows
-class_of w d absent h = absurd (true≢false h)
-class_of w d (text s) h = absurd (true≢false h)
-class_of w d (number n) h = absurd (true≢false h)
-class_of w d (boolean b) h = absurd (true≢false h)
 class_of w d (items ts) h = absurd (true≢false h.0)
 class_of w d (fields n ts) h =
     let e : (f : List ℕ) × (g : List ℕ) × (ts ≡ two (text f) (text g)) = two_texts_of w d ts _ _ refl refl refl refl refl refl (subst (λ (m : Name). FieldsHeld w (inside m d) ts (rows m)) h.0 h.2) in
     (e.0, e.1, fields_same h.0 e.2)
+class_of w d _ h = absurd (true≢false h)
 
 pub class_gets : (w : SpecVersion) (d : Depth) (a b : Tree) (f g : List ℕ)
     → own_read (seen (spelled service_data (more a (more b (one (fields classification (two (text f) (text g)))))) w)) w d (a_record classification) ≡ Ok (fields classification (two (text f) (text g)))
@@ -789,39 +659,9 @@ own_back_flow w d d' (more a (more b (more c none))) h = (tt, (tt, (by (class_of
 pub own_back : (n : Name) (w : SpecVersion) (d d' : Depth) (ts : Trees) → FieldsHeld w d ts (rows n) → AreOwn ts (rows n)
     → OwnBack (own_read (seen (spelled n ts w)) w d') w ts (rows n)
 unfolding rows
-own_back hash w d d' ts h owns = own_back_named _ w ts (rows hash) refl
-own_back property w d d' ts h owns = own_back_named _ w ts (rows property) refl
-own_back attached_text w d d' ts h owns = own_back_named _ w ts (rows attached_text) refl
-own_back contact w d d' ts h owns = own_back_named _ w ts (rows contact) refl
-own_back entity w d d' ts h owns = own_back_named _ w ts (rows entity) refl
-own_back commit w d d' ts h owns = own_back_named _ w ts (rows commit) refl
-own_back action w d d' ts h owns = own_back_named _ w ts (rows action) refl
-own_back patch w d d' ts h owns = own_back_named _ w ts (rows patch) refl
-own_back diff w d d' ts h owns = own_back_named _ w ts (rows diff) refl
-own_back issue w d d' ts h owns = own_back_named _ w ts (rows issue) refl
-own_back source w d d' ts h owns = own_back_named _ w ts (rows source) refl
-own_back reference w d d' ts h owns = own_back_named _ w ts (rows reference) refl
-own_back dependency w d d' ts h owns = own_back_named _ w ts (rows dependency) refl
-own_back composition w d d' ts h owns = own_back_named _ w ts (rows composition) refl
 own_back license w d d' ts h owns = own_back_license w d d' ts h owns
-own_back expression w d d' ts h owns = own_back_named _ w ts (rows expression) refl
-own_back spdx_id w d d' ts h owns = own_back_named _ w ts (rows spdx_id) refl
-own_back license_name w d d' ts h owns = own_back_named _ w ts (rows license_name) refl
-own_back tool w d d' ts h owns = own_back_named _ w ts (rows tool) refl
-own_back component w d d' ts h owns = own_back_named _ w ts (rows component) refl
-own_back swid w d d' ts h owns = own_back_named _ w ts (rows swid) refl
-own_back pedigree w d d' ts h owns = own_back_named _ w ts (rows pedigree) refl
-own_back evidence w d d' ts h owns = own_back_named _ w ts (rows evidence) refl
-own_back copyright w d d' ts h owns = own_back_named _ w ts (rows copyright) refl
-own_back service w d d' ts h owns = own_back_named _ w ts (rows service) refl
-own_back classification w d d' ts h owns = own_back_named _ w ts (rows classification) refl
 own_back service_data w d d' ts h owns = own_back_flow w d d' ts h
-own_back tools_object w d d' ts h owns = own_back_named _ w ts (rows tools_object) refl
-own_back metadata w d d' ts h owns = own_back_named _ w ts (rows metadata) refl
-own_back signer w d d' ts h owns = own_back_named _ w ts (rows signer) refl
-own_back signers w d d' ts h owns = own_back_named _ w ts (rows signers) refl
-own_back chain w d d' ts h owns = own_back_named _ w ts (rows chain) refl
-own_back bill w d d' ts h owns = own_back_named _ w ts (rows bill) refl
+own_back n w d d' ts h owns = own_back_named _ w ts (rows n) refl
 
 -- ---- every kind
 
@@ -832,9 +672,7 @@ must_held w d t r must h = by r.need r.since refl refl must
     by required V1_3 e f g = required_held w d t r e f h
     by required V1_4 e f g = absurd (true≢false (sym g))
     by required V1_5 e f g = absurd (true≢false (sym g))
-    by optional s e f g = absurd (true≢false (sym g))
-    by required_first s e f g = absurd (true≢false (sym g))
-    by else_empty s e f g = absurd (true≢false (sym g))
+    by _ s e f g = absurd (true≢false (sym g))
 
 pub is_own_member : (t : Tree) (n : List ℕ) (k : Kind) → IsOwn t (member n) k
 is_own_member t n k = tt
@@ -1034,13 +872,7 @@ fields_back w d n ts a_signature (inl e) deep h o b = by_name w d n signers a_si
 fields_back w d n ts a_signature (inr (inl e)) deep h o b = by_name w d n chain a_signature ts e (λ h' o' b'. chain_back w d ts b') h o b
 fields_back w d n ts a_signature (inr (inr e)) deep h o b = by_name w d n signer a_signature ts e (signer_back w d ts) h o b
 fields_back w d n ts a_bill e deep h o b = by_name w d n bill a_bill ts e (bill_back w d ts) h o b
-fields_back w d n ts a_text e deep h o b = absurd (true≢false e)
-fields_back w d n ts a_boolean e deep h o b = absurd (true≢false e)
-fields_back w d n ts a_number e deep h o b = absurd (true≢false e)
-fields_back w d n ts a_version e deep h o b = absurd (true≢false e)
-fields_back w d n ts (a_list l) e deep h o b = absurd (true≢false e)
-fields_back w d n ts a_reference e deep h o b = absurd (true≢false e)
-fields_back w d n ts a_data e deep h o b = absurd (true≢false e)
+fields_back w d n ts _ e deep h o b = absurd (true≢false e)
 
 pub field_back : (w : SpecVersion) (d : Depth) (t : Tree) (r : Row) → (Held w d t r.kind → IsRead w d t r.kind) → RowHeld w d t r → IsBack w d t r
 field_back w d t r f (inl h) = inl h

@@ -19,12 +19,9 @@ use Rattle.cdx_schema.proofs.HeldKept.{label_is, flow_stays}
 use Rattle.cdx_schema.proofs.Sound.{both, free_kind, there, free_need, free_there, free_rows, sound_since, all_sound, sound, sound_parts}
 
 pub class_entry : (Q : List ℕ → Type 0) (t : Tree) → IsOfAll Q t (a_record classification) → IsOfAll Q t an_entry
-class_entry Q absent h = h
-class_entry Q (text s) h = h
-class_entry Q (number n) h = h
-class_entry Q (boolean b) h = h
 class_entry Q (items ts) h = absurd (true≢false h.0)
 class_entry Q (fields n ts) h = (inl h.0, h.1)
+class_entry Q _ h = h
 
 required_of : (Q : List ℕ → Type 0) (t : Tree) (k : Kind) → ((t ≡ absent) × (false ≡ true)) ⊎ IsOfAll Q t k → IsOfAll Q t k
 required_of Q t k (inl h) = absurd (true≢false (sym h.1))
@@ -114,11 +111,7 @@ mutual
 
 pub of_there : (Q : List ℕ → Type 0) (t : Tree) (k : Kind) → IsOfAll Q t k → is_absent t ≡ false
 of_there Q absent k h = absurd (true≢false h)
-of_there Q (text s) k h = refl
-of_there Q (number n) k h = refl
-of_there Q (boolean b) k h = refl
-of_there Q (items ts) k h = refl
-of_there Q (fields n ts) k h = refl
+of_there Q _ k h = refl
 
 pub absent_kept : (w l : SpecVersion) (t : Tree) (r : Row) → IsField t r → is_absent (kept w l t r.kind) ≡ is_absent t
 unfolding kept
@@ -191,12 +184,10 @@ mutual
   unfolding kept has_versions
 
   pub kept_versions : (w l : SpecVersion) (t : Tree) (k : Kind) → HasShape t k → has_versions (kept w l t k) k ≡ has_versions t k
-  kept_versions w l absent k h = refl
   kept_versions w l (text s) k h = text_versions l k s
-  kept_versions w l (number n) k h = refl
-  kept_versions w l (boolean b) k h = refl
   kept_versions w l (items ts) k h = items_kept_versions w l ts (held_kind k) h.1
   kept_versions w l (fields n ts) k h = record_versions w l k n ts h.0 h.1 (rows_kept_of AnyText w l ts (rows n) (sound n) h.1) (rows_kept_versions w l ts (rows n) (sound n) h.1)
+  kept_versions w l _ k h = refl
 
   items_kept_versions : (w l : SpecVersion) (ts : Trees) (k : Kind) → HaveShape ts k → items_have_versions (items_kept w l ts k) k ≡ items_have_versions ts k
   items_kept_versions w l none k h = refl
@@ -242,14 +233,12 @@ mutual
   unfolding kept is_shallow
 
   pub kept_shallow : (w l : SpecVersion) (t : Tree) (k : Kind) (d : Depth) → is_shallow t d ≡ true → is_shallow (kept w l t k) d ≡ true
-  kept_shallow w l absent k d h = refl
   kept_shallow w l (text s) k d h = text_shallow l k s d
-  kept_shallow w l (number n) k d h = refl
-  kept_shallow w l (boolean b) k d h = refl
   kept_shallow w l (items ts) k d h = items_kept_shallow w l ts (held_kind k) d h
   kept_shallow w l (fields n ts) k d h =
       let p : (not (name_too_deep n d) ≡ true) × (are_shallow ts (inside n d) ≡ true) = and_true (not (name_too_deep n d)) (are_shallow ts (inside n d)) h in
       record_shallow w k n (rows_kept w l ts (rows n)) d (both (not (name_too_deep n d)) (are_shallow (rows_kept w l ts (rows n)) (inside n d)) p.0 (rows_kept_shallow w l ts (rows n) (inside n d) p.1))
+  kept_shallow w l _ k d h = refl
 
   items_kept_shallow : (w l : SpecVersion) (ts : Trees) (k : Kind) (d : Depth) → are_shallow ts d ≡ true → are_shallow (items_kept w l ts k) d ≡ true
   items_kept_shallow w l none k d h = refl

@@ -6,7 +6,7 @@ use Rattle.cdx_models.specs.declared.bom.SpecVersion.{SpecVersion}
 use Rattle.cdx_models.specs.declared.bom.SpecVersion.TheVariants.{V1_3, V1_4, V1_5}
 use Rattle.cdx_models.specs.Versions.{knows, lowest}
 use Rattle.cdx_models.specs.Trees.{Name, classification, service_data, tools_object, Tree, absent, text, number, boolean, items, fields, Trees, none, more, field}
-use Rattle.cdx_schema.specs.Kinds.{Kind, a_text, a_boolean, a_number, a_version, a_list, a_record, a_reference, a_license_choice, a_license_identifier, a_tools, a_data, an_entry, a_signature, a_bill, Row}
+use Rattle.cdx_schema.specs.Kinds.{Kind, a_version, a_record, a_license_choice, a_license_identifier, a_tools, an_entry, a_signature, a_bill, Row}
 use Rattle.cdx_schema.specs.Held.{held_kind}
 use Rattle.cdx_schema.specs.Table.{rows}
 use Rattle.cdx_schema.specs.Keeping.{kept, items_kept, rows_kept, kept_record, kept_text, before_1_5}
@@ -29,19 +29,7 @@ knows-lowest V1_5 V1_5 w = refl
 text_twice : (v l m : SpecVersion) (k : Kind) (s : List ℕ) → kept v m (kept_text l k s) k ≡ kept_text m k s
 unfolding kept
 text_twice v l m a_version s = refl
-text_twice v l m a_text s = refl
-text_twice v l m a_boolean s = refl
-text_twice v l m a_number s = refl
-text_twice v l m (a_list x) s = refl
-text_twice v l m (a_record n) s = refl
-text_twice v l m a_reference s = refl
-text_twice v l m a_license_choice s = refl
-text_twice v l m a_license_identifier s = refl
-text_twice v l m a_tools s = refl
-text_twice v l m a_data s = refl
-text_twice v l m an_entry s = refl
-text_twice v l m a_signature s = refl
-text_twice v l m a_bill s = refl
+text_twice v l m _ s = refl
 
 -- A field that is dropped by either is dropped by the lower.
 field_twice : (v w l m : SpecVersion) (r : Row) (b c d : Bool) (t : Tree) → d ≡ b && c → kept v m (kept w l t r.kind) r.kind ≡ kept (lowest v w) m t r.kind
@@ -143,20 +131,13 @@ flow_fields v w l m (more a (more b (more c ts))) h same = flow_twice v w l m a 
 record_twice : (v w l m : SpecVersion) (k : Kind) (n : Name) (ts : Trees) → IsRecordOf k n ts → FieldsHaveShape ts (rows n)
     → rows_kept v m (rows_kept w l ts (rows n)) (rows n) ≡ rows_kept (lowest v w) m ts (rows n)
     → kept v m (kept w l (fields n ts) k) k ≡ kept (lowest v w) m (fields n ts) k
-record_twice v w l m a_text n ts is of same = absurd (true≢false is)
-record_twice v w l m a_boolean n ts is of same = absurd (true≢false is)
-record_twice v w l m a_number n ts is of same = absurd (true≢false is)
-record_twice v w l m a_version n ts is of same = absurd (true≢false is)
-record_twice v w l m (a_list x) n ts is of same = absurd (true≢false is)
 record_twice v w l m (a_record x) n ts is of same = plain_twice v w l m (a_record x) n ts (λ us. refl) same
-record_twice v w l m a_reference n ts is of same = absurd (true≢false is)
 record_twice v w l m a_license_choice n ts is of same = plain_twice v w l m a_license_choice n ts (λ us. refl) same
 record_twice v w l m a_license_identifier n ts is of same = plain_twice v w l m a_license_identifier n ts (λ us. refl) same
 record_twice v w l m a_tools n ts is of same =
     let P : Name → Type 0 = (λ (k : Name). rows_kept v m (rows_kept w l ts (rows k)) (rows k) ≡ rows_kept (lowest v w) m ts (rows k)
     → kept v m (kept w l (fields k ts) a_tools) a_tools ≡ kept (lowest v w) m (fields k ts) a_tools) in
     subst P (sym is) (tools_twice v w l m ts) same
-record_twice v w l m a_data n ts is of same = absurd (true≢false is)
 record_twice v w l m an_entry n ts (inl is) of same = plain_twice v w l m an_entry n ts (λ us. subst (λ (k : Name). before_1_5 an_entry k us ≡ fields k us) (sym is) refl) same
 record_twice v w l m an_entry n ts (inr is) of same =
     let P : Name → Type 0 = (λ (k : Name). FieldsHaveShape ts (rows k) → rows_kept v m (rows_kept w l ts (rows k)) (rows k) ≡ rows_kept (lowest v w) m ts (rows k)
@@ -164,6 +145,7 @@ record_twice v w l m an_entry n ts (inr is) of same =
     subst P (sym is.0) (flow_fields v w l m ts) of same
 record_twice v w l m a_signature n ts is of same = plain_twice v w l m a_signature n ts (λ us. refl) same
 record_twice v w l m a_bill n ts is of same = plain_twice v w l m a_bill n ts (λ us. refl) same
+record_twice v w l m _ n ts is of same = absurd (true≢false is)
 
 more_twice : {t u : Tree} {ts us : Trees} → t ≡ u → ts ≡ us → more t ts ≡ more u us
 more_twice p q = rw (p, q) refl
@@ -176,12 +158,10 @@ mutual
   unfolding kept
 
   pub kept_twice : (v w l m : SpecVersion) (t : Tree) (k : Kind) → HasShape t k → kept v m (kept w l t k) k ≡ kept (lowest v w) m t k
-  kept_twice v w l m absent k h = refl
   kept_twice v w l m (text s) k h = text_twice v l m k s
-  kept_twice v w l m (number n) k h = refl
-  kept_twice v w l m (boolean b) k h = refl
   kept_twice v w l m (items ts) k h = ap items (items_twice v w l m ts (held_kind k) h.1)
   kept_twice v w l m (fields n ts) k h = record_twice v w l m k n ts h.0 h.1 (rows_twice v w l m ts (rows n) h.1)
+  kept_twice v w l m _ k h = refl
 
   pub items_twice : (v w l m : SpecVersion) (ts : Trees) (k : Kind) → HaveShape ts k → items_kept v m (items_kept w l ts k) k ≡ items_kept (lowest v w) m ts k
   items_twice v w l m none k h = refl

@@ -7,7 +7,6 @@ pub mod XmlLaw
 pub mod DecimalTexts
 pub mod BillLaw
 pub mod HeldKept
-pub mod LeafLemmas
 pub mod Shape
 pub mod Passed
 pub mod KeptTwice

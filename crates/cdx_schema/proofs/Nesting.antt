@@ -2,13 +2,13 @@
 use Rattle.std.specs.Prelude.{◌≡◌, refl, ℕ, suc, ◌+◌, ◌-◌, ◌*◌, ◌≤◌, List, [], ◌∷◌, Bool, true, false, not, ◌&&◌, nat_lt, nat_le, if◌then◌else◌, ◌⊎◌}
 use Rattle.std.proofs.Common.{true≢false, inl, inr, Ordering, Less, Equal, Greater}
 use Rattle.std.specs.Ordering.{match_ordering}
-use mathlib.Core.Path.{ap, sym, ◌∙◌, subst}
+use mathlib.Core.Path.{sym, subst}
 use native.Mathlib.Omega.{arith}
 use Rattle.serde_json.specs.Data.{Data, object, Members, no_members, put, depth, items_depth, members_depth}
 use Rattle.serde_json.specs.Data as json
 use Rattle.cdx_models.specs.declared.bom.SpecVersion.{SpecVersion}
-use Rattle.cdx_models.specs.Trees.{Name, hash, property, attached_text, contact, entity, commit, action, patch, diff, issue, source, reference, dependency, composition, license, expression, spdx_id, license_name, tool, component, swid, pedigree, evidence, copyright, service, classification, service_data, tools_object, metadata, signer, signers, chain, bill, Tree, absent, text, number, boolean, items, fields, Trees, none, more}
-use Rattle.cdx_schema.specs.Kinds.{Lists, hashes, properties, urls, contacts, commits, patches, resolved, links, external_references, dependencies, depended, compositions, assemblies, composed, vulnerabilities, licenses, components, services, copyright_texts, endpoints, authors, tool_list, signer_list, chain_list, classifications, flows, Kind, a_list, a_record, a_license_choice, a_license_identifier, a_tools, a_data, an_entry, a_signature, a_bill, Member, member, merged, Row}
+use Rattle.cdx_models.specs.Trees.{Name, hash, entity, commit, patch, diff, issue, reference, dependency, composition, license, tool, component, swid, pedigree, evidence, service, tools_object, metadata, signers, chain, bill, Tree, absent, items, fields, Trees, none, more}
+use Rattle.cdx_schema.specs.Kinds.{Lists, hashes, urls, commits, patches, resolved, links, external_references, dependencies, depended, compositions, assemblies, composed, vulnerabilities, licenses, components, services, endpoints, tool_list, Kind, a_list, a_record, a_license_choice, a_license_identifier, a_tools, a_data, an_entry, a_signature, a_bill, Member, member, merged, Row}
 use Rattle.cdx_schema.specs.Table.{rows, list}
 use Rattle.cdx_schema.specs.Held.{held_kind}
 use Rattle.cdx_schema.specs.Depth.{Depth, top, inside, name_too_deep}
@@ -76,36 +76,24 @@ abbrev inner : Name → Height
 inner component = above_component 2
 inner pedigree = above_component 1
 inner service = above_service 1
-inner hash = at_most 0
-inner property = at_most 0
-inner attached_text = at_most 0
-inner contact = at_most 0
 inner entity = at_most 2
 inner commit = at_most 1
-inner action = at_most 0
 inner patch = at_most 3
 inner diff = at_most 1
 inner issue = at_most 1
-inner source = at_most 0
 inner reference = at_most 2
 inner dependency = at_most 1
 inner composition = at_most 3
 inner license = at_most 2
-inner expression = at_most 0
-inner spdx_id = at_most 0
-inner license_name = at_most 0
 inner tool = at_most 4
 inner swid = at_most 1
 inner evidence = at_most 5
-inner copyright = at_most 0
-inner classification = at_most 0
-inner service_data = at_most 0
-inner signer = at_most 0
 inner signers = at_most 2
 inner chain = at_most 2
 inner tools_object = at_most 101
 inner metadata = at_most 102
 inner bill = at_most 103
+inner _ = at_most 0
 
 -- the record itself, at the depth where it stands
 abbrev name_height : Name → Height
@@ -116,10 +104,7 @@ name_height n = up (inner n)
 abbrev list_height : Lists → Height
 list_height components = above_component 1
 list_height services = above_service 1
-list_height hashes = at_most 2
-list_height properties = at_most 2
 list_height urls = at_most 1
-list_height contacts = at_most 2
 list_height commits = at_most 3
 list_height patches = at_most 5
 list_height resolved = at_most 3
@@ -132,14 +117,9 @@ list_height assemblies = at_most 1
 list_height composed = at_most 1
 list_height vulnerabilities = at_most 1
 list_height licenses = at_most 5
-list_height copyright_texts = at_most 2
 list_height endpoints = at_most 1
-list_height authors = at_most 2
 list_height tool_list = at_most 6
-list_height signer_list = at_most 2
-list_height chain_list = at_most 2
-list_height classifications = at_most 2
-list_height flows = at_most 2
+list_height _ = at_most 2
 
 abbrev kind_height : Kind → Height
 kind_height (a_list l) = list_height l
@@ -164,67 +144,12 @@ are_within (r ∷ rs) h = is_within r.json r.kind h && are_within rs h
 within : (n : Name) → are_within (rows n) (inner n) ≡ true
 unfolding rows
 within hash = refl
-within property = refl
-within attached_text = refl
-within contact = refl
-within entity = refl
-within commit = refl
-within action = refl
-within patch = refl
-within diff = refl
-within issue = refl
-within source = refl
-within reference = refl
-within dependency = refl
-within composition = refl
-within license = refl
-within expression = refl
-within spdx_id = refl
-within license_name = refl
-within tool = refl
-within component = refl
-within swid = refl
-within pedigree = refl
-within evidence = refl
-within copyright = refl
-within service = refl
-within classification = refl
-within service_data = refl
-within tools_object = refl
-within metadata = refl
-within signer = refl
-within signers = refl
-within chain = refl
-within bill = refl
+within _ = refl
 
 list_within : (l : Lists) → lower (up (kind_height (list l).kind)) (list_height l) ≡ true
 unfolding list
 list_within hashes = refl
-list_within properties = refl
-list_within urls = refl
-list_within contacts = refl
-list_within commits = refl
-list_within patches = refl
-list_within resolved = refl
-list_within links = refl
-list_within external_references = refl
-list_within dependencies = refl
-list_within depended = refl
-list_within compositions = refl
-list_within assemblies = refl
-list_within composed = refl
-list_within vulnerabilities = refl
-list_within licenses = refl
-list_within components = refl
-list_within services = refl
-list_within copyright_texts = refl
-list_within endpoints = refl
-list_within authors = refl
-list_within tool_list = refl
-list_within signer_list = refl
-list_within chain_list = refl
-list_within classifications = refl
-list_within flows = refl
+list_within _ = refl
 
 held_within : (k : Kind) → IsListOf k → lower (up (kind_height (held_kind k))) (kind_height k) ≡ true
 unfolding list
@@ -243,82 +168,18 @@ name_value service d h = omega (arith, below d.services h)
   where
     below : (m : ℕ) → not (nat_lt m 32) ≡ false → suc m ≤ 32
     below m e = grind arith
-name_value hash d h = omega arith
-name_value property d h = omega arith
-name_value attached_text d h = omega arith
-name_value contact d h = omega arith
-name_value entity d h = omega arith
-name_value commit d h = omega arith
-name_value action d h = omega arith
-name_value patch d h = omega arith
-name_value diff d h = omega arith
-name_value issue d h = omega arith
-name_value source d h = omega arith
-name_value reference d h = omega arith
-name_value dependency d h = omega arith
-name_value composition d h = omega arith
-name_value license d h = omega arith
-name_value expression d h = omega arith
-name_value spdx_id d h = omega arith
-name_value license_name d h = omega arith
-name_value tool d h = omega arith
-name_value swid d h = omega arith
-name_value pedigree d h = omega arith
-name_value evidence d h = omega arith
-name_value copyright d h = omega arith
-name_value classification d h = omega arith
-name_value service_data d h = omega arith
-name_value tools_object d h = omega arith
-name_value metadata d h = omega arith
-name_value signer d h = omega arith
-name_value signers d h = omega arith
-name_value chain d h = omega arith
-name_value bill d h = omega arith
+name_value _ d h = omega arith
 
 abbrev wrapped : Kind → Name → Height
 wrapped a_license_choice license = up (name_height license)
 wrapped _ n = name_height n
-
-not_name : {A : Type 0} {n m : Name} → n ≡ m → (f : Name → Bool) → f n ≡ true → f m ≡ false → A
-not_name e f p q = absurd (true≢false (sym p ∙ (ap f e ∙ q)))
 
 record_within : (k : Kind) (n : Name) (ts : Trees) → IsRecordOf k n ts → lower (wrapped k n) (kind_height k) ≡ true
 record_within (a_record m) n ts is = subst (λ (j : Name). lower (name_height j) (name_height m) ≡ true) (sym is) (itself m)
   where
     itself : (j : Name) → lower (name_height j) (name_height j) ≡ true
     itself hash = refl
-    itself property = refl
-    itself attached_text = refl
-    itself contact = refl
-    itself entity = refl
-    itself commit = refl
-    itself action = refl
-    itself patch = refl
-    itself diff = refl
-    itself issue = refl
-    itself source = refl
-    itself reference = refl
-    itself dependency = refl
-    itself composition = refl
-    itself license = refl
-    itself expression = refl
-    itself spdx_id = refl
-    itself license_name = refl
-    itself tool = refl
-    itself component = refl
-    itself swid = refl
-    itself pedigree = refl
-    itself evidence = refl
-    itself copyright = refl
-    itself service = refl
-    itself classification = refl
-    itself service_data = refl
-    itself tools_object = refl
-    itself metadata = refl
-    itself signer = refl
-    itself signers = refl
-    itself chain = refl
-    itself bill = refl
+    itself _ = refl
 record_within a_license_choice n ts (inl is) = subst (λ (j : Name). lower (wrapped a_license_choice j) (at_most 4) ≡ true) (sym is) refl
 record_within a_license_choice n ts (inr is) = subst (λ (j : Name). lower (wrapped a_license_choice j) (at_most 4) ≡ true) (sym is) refl
 record_within a_license_identifier n ts (inl is) = subst (λ (j : Name). lower (name_height j) (at_most 1) ≡ true) (sym is) refl
@@ -393,9 +254,6 @@ mutual
 
   deep : (t : Tree) (w : SpecVersion) (k : Kind) (d : Depth) → HasShape t k → is_shallow t d ≡ true → depth (jspell t w k) ≤ value (kind_height k) d
   deep absent w k d is s = absurd (true≢false is)
-  deep (text x) w k d is s = omega arith
-  deep (number x) w k d is s = omega arith
-  deep (boolean x) w k d is s = omega arith
   deep (items ts) w k d is s = trans (suc (items_depth (items_spelled ts w (held_kind k)))) (suc (value (kind_height (held_kind k)) d)) (value (kind_height k) d) (omega (arith, deep_items ts w (held_kind k) d is.1 s)) (held_value k d is.0)
   deep (fields n ts) w k d is s =
       let p : (not (name_too_deep n d) ≡ true) × (are_shallow ts (inside n d) ≡ true) = and_true (not (name_too_deep n d)) (are_shallow ts (inside n d)) s in
@@ -404,6 +262,7 @@ mutual
       trans (depth (in_choice k n (object m))) (value (wrapped k n) d) (value (kind_height k) d)
       (choice_depth k n m d (trans (suc (members_depth m)) (suc (value (inner n) (inside n d))) (value (name_height n) d) (omega (arith, i)) (name_value n d (not_true (name_too_deep n d) p.0))))
       (record_value k n ts d is.0)
+  deep _ w k d is s = omega arith
 
   deep_items : (ts : Trees) (w : SpecVersion) (k : Kind) (d : Depth) → HaveShape ts k → are_shallow ts d ≡ true → items_depth (items_spelled ts w k) ≤ value (kind_height k) d
   deep_items none w k d is s = omega arith
@@ -424,15 +283,11 @@ mutual
       (λ g. absent_own t w r b ms is.0 p (λ o. deep_own t w r.kind d b ms o q.0 g p)))
 
   deep_own : (t : Tree) (w : SpecVersion) (k : Kind) (d : Depth) (b : ℕ) (ms : Members) → HasShape t k → is_shallow t d ≡ true → value (kind_height k) d ≤ suc b → members_depth ms ≤ b → members_depth (own_members t w ms) ≤ b
-  deep_own absent w k d b ms is s v p = p
-  deep_own (text x) w k d b ms is s v p = p
-  deep_own (number x) w k d b ms is s v p = p
-  deep_own (boolean x) w k d b ms is s v p = p
-  deep_own (items x) w k d b ms is s v p = p
   deep_own (fields n ts) w k d b ms is s v p =
       let q : (not (name_too_deep n d) ≡ true) × (are_shallow ts (inside n d) ≡ true) = and_true (not (name_too_deep n d)) (are_shallow ts (inside n d)) s in
       deep_rows ts w (rows n) (inside n d) (inner n) b ms is.1 q.1 (within n)
       (omega (arith, name_value n d (not_true (name_too_deep n d) q.0), wrapped_more k n d, record_value k n ts d is.0, v)) p
+  deep_own _ w k d b ms is s v p = p
 
 -- The JSON spelling of a shallow bill nests at most 104 arrays and objects.
 pub bill_nests : (b : Tree) (w : SpecVersion) → HasShape b a_bill → is_shallow b top ≡ true → depth (jspell b w a_bill) ≤ 104

@@ -7,7 +7,7 @@ use mathlib.Core.Path.{ap, ◌∙◌}
 use Rattle.serde_json.specs.Data.{Data, Members, no_members, put}
 use Rattle.serde_json.specs.Data as json
 use Rattle.cdx_models.specs.declared.bom.SpecVersion.{SpecVersion}
-use Rattle.cdx_models.specs.Trees.{Name, license, bill, Tree, absent, text, number, boolean, items, fields, Trees, none, more}
+use Rattle.cdx_models.specs.Trees.{Name, license, bill, Tree, items, fields, Trees, none, more}
 use Rattle.cdx_schema.specs.Kinds.{Kind, a_license_choice, Member, member, merged, Row}
 use Rattle.cdx_schema.specs.Table.{rows}
 use Rattle.cdx_schema.specs.Held.{held_kind}
@@ -49,12 +49,9 @@ mutual
   unfolding jspell first_float
 
   pub no_float : (t : Tree) (w : SpecVersion) (k : Kind) → first_float (jspell t w k) ≡ None
-  no_float absent w k = refl
-  no_float (text s) w k = refl
-  no_float (number n) w k = refl
-  no_float (boolean b) w k = refl
   no_float (items ts) w k = no_floats ts w (held_kind k) 0
   no_float (fields n ts) w k = choice_floats k n (members_spelled ts w (rows n) (heading n)) (no_row_float ts w (rows n) (heading n) (heading_floats n))
+  no_float _ w k = refl
 
   no_floats : (ts : Trees) (w : SpecVersion) (k : Kind) (i : ℕ) → float_of_items i (items_spelled ts w k) ≡ None
   no_floats none w k i = refl
@@ -68,8 +65,4 @@ mutual
 
   no_own_float : (t : Tree) (w : SpecVersion) (ms : Members) → float_of_members ms ≡ None → float_of_members (own_members t w ms) ≡ None
   no_own_float (fields n ts) w ms h = no_row_float ts w (rows n) ms h
-  no_own_float absent w ms h = h
-  no_own_float (text s) w ms h = h
-  no_own_float (number n) w ms h = h
-  no_own_float (boolean b) w ms h = h
-  no_own_float (items ts) w ms h = h
+  no_own_float _ w ms h = h

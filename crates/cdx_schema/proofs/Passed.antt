@@ -10,7 +10,7 @@ use Rattle.cdx_models.specs.declared.bom.SpecVersion.TheVariants.{V1_3, V1_4, V1
 use Rattle.cdx_models.specs.Versions.{knows}
 use Rattle.cdx_models.specs.Entries.{entry_of}
 use Rattle.cdx_models.specs.Trees.{Name, classification, service_data, tools_object, bill, Tree, absent, Trees, more}
-use Rattle.cdx_schema.specs.Kinds.{Kind, a_text, a_boolean, a_number, a_version, a_list, a_record, a_reference, a_license_choice, a_license_identifier, a_tools, a_data, an_entry, a_signature, a_bill, Row, Member, member, merged}
+use Rattle.cdx_schema.specs.Kinds.{Kind, a_record, a_license_identifier, a_tools, an_entry, a_bill, Row, Member, member, merged}
 use Rattle.cdx_schema.specs.Table.{rows}
 use Rattle.cdx_schema.specs.Results.{◌>>=◌}
 use Rattle.cdx_schema.specs.Faults.{JsonFault, under, to_member}
@@ -115,16 +115,7 @@ kind_alike q ms ns o p a_tools V1_5 d h alike = record_alike q o p tools_object 
 kind_alike q ms ns o p an_entry V1_3 d h alike = record_alike q o p classification V1_3 d alike h
 kind_alike q ms ns o p an_entry V1_4 d h alike = record_alike q o p classification V1_4 d alike h
 kind_alike q ms ns o p an_entry V1_5 d h alike = ap (λ r. r >>= λ t. Ok (entry_of t)) (record_alike q o p service_data V1_5 d alike h)
-kind_alike q ms ns o p a_text v d h alike = absurd (true≢false h)
-kind_alike q ms ns o p a_boolean v d h alike = absurd (true≢false h)
-kind_alike q ms ns o p a_number v d h alike = absurd (true≢false h)
-kind_alike q ms ns o p a_version v d h alike = absurd (true≢false h)
-kind_alike q ms ns o p (a_list l) v d h alike = absurd (true≢false h)
-kind_alike q ms ns o p a_reference v d h alike = absurd (true≢false h)
-kind_alike q ms ns o p a_license_choice v d h alike = absurd (true≢false h)
-kind_alike q ms ns o p a_license_identifier v d h alike = absurd (true≢false h)
-kind_alike q ms ns o p a_data v d h alike = absurd (true≢false h)
-kind_alike q ms ns o p a_signature v d h alike = absurd (true≢false h)
+kind_alike q ms ns o p _ v d h alike = absurd (true≢false h)
 
 pub passes_members : PassesMembers
 unfolding jread

@@ -10,7 +10,7 @@ use Rattle.serde_json.specs.Data as json
 use Rattle.cdx_models.specs.declared.bom.SpecVersion.{SpecVersion}
 use Rattle.cdx_models.specs.declared.bom.SpecVersion.TheVariants.{V1_3, V1_4, V1_5}
 use Rattle.cdx_models.specs.Versions.{knows, is_label}
-use Rattle.cdx_models.specs.Trees.{Name, hash, property, attached_text, contact, entity, commit, action, patch, diff, issue, source, reference, dependency, composition, license, expression, spdx_id, license_name, tool, component, swid, pedigree, evidence, copyright, service, classification, service_data, tools_object, metadata, signer, signers, chain, bill, Tree, absent, text, number, boolean, items, fields, Trees, none, more, one, field}
+use Rattle.cdx_models.specs.Trees.{Name, hash, license, expression, spdx_id, license_name, classification, service_data, tools_object, signer, signers, chain, bill, Tree, absent, text, number, items, fields, Trees, none, more, one, field}
 use Rattle.cdx_schema.specs.Kinds.{signer_list, chain_list, tool_list, Kind, a_text, a_boolean, a_number, a_version, a_list, a_record, a_reference, a_license_choice, a_license_identifier, a_tools, a_data, an_entry, a_signature, a_bill, Member, member, merged, Need, optional, required, required_first, else_empty, Row}
 use Rattle.cdx_schema.specs.Table.{rows, list}
 use Rattle.cdx_schema.specs.Results.{◌>>=◌}
@@ -120,38 +120,7 @@ all_read (r ∷ rs) = (sound_since r.since r.need r.kind && (is_else r.need r.ki
 reads_rows : (n : Name) → all_read (rows n) ≡ true
 unfolding rows
 reads_rows hash = refl
-reads_rows property = refl
-reads_rows attached_text = refl
-reads_rows contact = refl
-reads_rows entity = refl
-reads_rows commit = refl
-reads_rows action = refl
-reads_rows patch = refl
-reads_rows diff = refl
-reads_rows issue = refl
-reads_rows source = refl
-reads_rows reference = refl
-reads_rows dependency = refl
-reads_rows composition = refl
-reads_rows license = refl
-reads_rows expression = refl
-reads_rows spdx_id = refl
-reads_rows license_name = refl
-reads_rows tool = refl
-reads_rows component = refl
-reads_rows swid = refl
-reads_rows pedigree = refl
-reads_rows evidence = refl
-reads_rows copyright = refl
-reads_rows service = refl
-reads_rows classification = refl
-reads_rows service_data = refl
-reads_rows tools_object = refl
-reads_rows metadata = refl
-reads_rows signer = refl
-reads_rows signers = refl
-reads_rows chain = refl
-reads_rows bill = refl
+reads_rows _ = refl
 
 abbrev GoodOwn : (Q : List ℕ → Type 0) → (Kind → Result Tree JsonFault) → Depth → Type 0
 GoodOwn Q own d = (k : Kind) (t : Tree) → is_own k ≡ true → own k ≡ Ok t → IsReadOf Q k d t
@@ -246,12 +215,9 @@ unfolding is_shallow
 flat_is Q k n d t h deep f = subst (λ (x : Tree). IsReadOf Q k d x) (sym h.1) (f h.0 h.2.0, both (not (name_too_deep n d)) (are_shallow h.0 (inside n d)) (ap not deep) h.2.1)
 
 license_choice : (Q : List ℕ → Type 0) (t : Tree) → IsOfAll Q t (a_record license) → IsOfAll Q t a_license_choice
-license_choice Q absent h = h
-license_choice Q (text s) h = h
-license_choice Q (number n) h = h
-license_choice Q (boolean b) h = h
 license_choice Q (items ts) h = absurd (true≢false h.0)
 license_choice Q (fields n ts) h = (inl h.0, h.1)
+license_choice Q _ h = h
 
 license_good : (Q : List ℕ → Type 0) (f : Found) (v : SpecVersion) (d : Depth) (t : Tree) → GoodFound Q f → license_read f v d ≡ Ok t → IsReadOf Q a_license_choice d t
 license_good Q nothing v d t g e = absurd (err_ok e)

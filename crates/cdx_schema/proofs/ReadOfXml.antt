@@ -7,8 +7,8 @@ use mathlib.Core.Path.{ap, sym, ◌∙◌, subst}
 use Rattle.cdx_models.specs.declared.bom.SpecVersion.{SpecVersion}
 use Rattle.cdx_models.specs.declared.bom.SpecVersion.TheVariants.{V1_3, V1_4, V1_5}
 use Rattle.cdx_models.specs.Versions.{knows, label, namespace}
-use Rattle.cdx_models.specs.Trees.{Name, hash, property, attached_text, contact, entity, commit, action, patch, diff, issue, source, reference, dependency, composition, license, expression, spdx_id, license_name, tool, component, swid, pedigree, evidence, copyright, service, classification, service_data, tools_object, metadata, signer, signers, chain, bill, Tree, absent, text, number, boolean, items, fields, Trees, none, more, one, two, ◌⧺◌, field, with_field, is_absent}
-use Rattle.cdx_schema.specs.Kinds.{Lists, hashes, properties, urls, contacts, commits, patches, resolved, links, external_references, dependencies, depended, compositions, assemblies, composed, vulnerabilities, licenses, components, services, copyright_texts, endpoints, authors, tool_list, signer_list, chain_list, classifications, flows, Kind, a_text, a_boolean, a_number, a_version, a_list, a_record, a_reference, a_license_choice, a_license_identifier, a_tools, a_data, an_entry, a_signature, a_bill, Rule, lax, strict, passing, Spelled, attribute, attribute_or, content, one_text, as_cdata, child, filled_child, children, either_child, the_version, Need, optional, required, required_first, else_empty, Row}
+use Rattle.cdx_models.specs.Trees.{Name, hash, attached_text, license, expression, spdx_id, license_name, classification, service_data, signer, signers, chain, bill, Tree, absent, text, number, boolean, items, fields, Trees, none, more, one, two, ◌⧺◌, field, with_field, is_absent}
+use Rattle.cdx_schema.specs.Kinds.{Lists, licenses, components, services, tool_list, classifications, Kind, a_text, a_boolean, a_number, a_version, a_list, a_record, a_reference, a_license_choice, a_license_identifier, a_tools, a_data, an_entry, a_signature, a_bill, Rule, lax, strict, passing, Spelled, attribute, attribute_or, content, one_text, as_cdata, child, filled_child, children, either_child, the_version, Need, optional, required, required_first, else_empty, Row}
 use Rattle.cdx_schema.specs.Table.{rows, list}
 use Rattle.cdx_schema.specs.Held.{held_kind}
 use Rattle.cdx_schema.specs.Results.{◌>>=◌}
@@ -133,11 +133,7 @@ appended_slot : (Q : List ℕ → Type 0) (u t : Tree) (s : Kind) (d : Depth) �
 unfolding is_shallow
 appended_slot Q (items ts) t s d l (inr h, e) g f = ((l, append_of Q ts t (held_kind s) h.1 g), append_shallow ts t d e f)
 appended_slot Q (items ts) t s d l (inl h, e) g f = absurd (true≢false (sym (ap is_absent h)))
-appended_slot Q absent t s d l h g f = alone Q t s d l g f
-appended_slot Q (text x) t s d l h g f = alone Q t s d l g f
-appended_slot Q (number x) t s d l h g f = alone Q t s d l g f
-appended_slot Q (boolean x) t s d l h g f = alone Q t s d l g f
-appended_slot Q (fields n x) t s d l h g f = alone Q t s d l g f
+appended_slot Q _ t s d l h g f = alone Q t s d l g f
 
 -- Both: the row_kinds of all, and the fields that are there.
 abbrev Holds : (Q : List ℕ → Type 0) → Trees → List Kind → List Bool → Depth → Type 0
@@ -338,38 +334,7 @@ all_xml (r ∷ rs) = (sound_since r.since r.need r.kind && reads_xml r.xml r.nee
 reads_rows : (n : Name) → all_xml (rows n) ≡ true
 unfolding rows
 reads_rows hash = refl
-reads_rows property = refl
-reads_rows attached_text = refl
-reads_rows contact = refl
-reads_rows entity = refl
-reads_rows commit = refl
-reads_rows action = refl
-reads_rows patch = refl
-reads_rows diff = refl
-reads_rows issue = refl
-reads_rows source = refl
-reads_rows reference = refl
-reads_rows dependency = refl
-reads_rows composition = refl
-reads_rows license = refl
-reads_rows expression = refl
-reads_rows spdx_id = refl
-reads_rows license_name = refl
-reads_rows tool = refl
-reads_rows component = refl
-reads_rows swid = refl
-reads_rows pedigree = refl
-reads_rows evidence = refl
-reads_rows copyright = refl
-reads_rows service = refl
-reads_rows classification = refl
-reads_rows service_data = refl
-reads_rows tools_object = refl
-reads_rows metadata = refl
-reads_rows signer = refl
-reads_rows signers = refl
-reads_rows chain = refl
-reads_rows bill = refl
+reads_rows _ = refl
 
 row_parts : (r : Row) (rs : List Row) → all_xml (r ∷ rs) ≡ true → (sound_since r.since r.need r.kind ≡ true) × (reads_xml r.xml r.need r.kind ≡ true) × (all_xml rs ≡ true)
 row_parts r rs h =
@@ -394,12 +359,6 @@ flags (r ∷ rs) v = flag_by (knows r.since v) r.xml r.need v ∷ flags rs v
 
 abbrev Attributed : (Q : List ℕ → Type 0) → Kind → Depth → Bool → Tree → Type 0
 Attributed Q k d b t = SlotOf Q k d t × (b ≡ true → is_absent t ≡ false)
-
-no_flag : (x : Spelled) (n : Need) (v : SpecVersion) → flag_by false x n v ≡ false
-no_flag (attribute q) n v = refl
-no_flag (attribute_or q m) n v = refl
-no_flag the_version n v = refl
-no_flag _ n v = refl
 
 absent_attributed : (Q : List ℕ → Type 0) (k : Kind) (d : Depth) (b : Bool) (t : Tree) → b ≡ false → absent ≡ t → Attributed Q k d b t
 absent_attributed Q k d b t h e = subst (λ (x : Tree). Attributed Q k d b x) e (absent_slot Q k d, λ g. absurd (true≢false (sym g ∙ h)))
@@ -459,13 +418,7 @@ row_attributed Q r as' v around p d t u h e = by r.xml h e
         (λ k o. read_attributed Q r.kind d (knows r.since v) t (attribute_or_good Q (find_attribute q as') q m (record r { xml = attribute_or q m }) p d t (find_texts Q q as' u) a.0 a.1 o)) (λ k. k) f
     by the_version g f = known_attributed Q (knows r.since v) r.kind d (knows r.since v) (Ok (text (label v))) t
         (λ k o. read_attributed Q r.kind d (knows r.since v) t (version_good Q r.kind v d t g (ok_same o))) (λ k. k) f
-    by content g f = absent_attributed Q r.kind d false t refl (ok_same f)
-    by one_text g f = absent_attributed Q r.kind d false t refl (ok_same f)
-    by as_cdata g f = absent_attributed Q r.kind d false t refl (ok_same f)
-    by (child q) g f = absent_attributed Q r.kind d false t refl (ok_same f)
-    by (filled_child q) g f = absent_attributed Q r.kind d false t refl (ok_same f)
-    by (children q) g f = absent_attributed Q r.kind d false t refl (ok_same f)
-    by (either_child q m) g f = absent_attributed Q r.kind d false t refl (ok_same f)
+    by _ g f = absent_attributed Q r.kind d false t refl (ok_same f)
 
 attributes_hold : (Q : List ℕ → Type 0) (rs : List Row) (as' : List OwnedAttribute) (v : SpecVersion) (around : List ℕ) (p : ℕ) (d : Depth) (ts : Trees) → AttributeTexts Q as' → all_xml rs ≡ true → attributes_read rs as' v around p ≡ Ok ts → Holds Q ts (row_kinds rs) (flags rs v) d
 unfolding attributes_read
@@ -559,13 +512,11 @@ absent_ended Q r v d s h l f = by r.xml h l f
     by (attribute q) g o e = (inl (refl, attribute_lacks (knows r.since v) r v refl s (and_true (is_leaf r.kind) (is_plain_need r.need) g).1 e), refl)
     by (attribute_or q m) g o e = (inl (refl, known_lacks (knows r.since v) r v refl s e), refl)
     by the_version g o e = (inl (refl, known_lacks (knows r.since v) r v refl s e), refl)
-    by content g o e = absurd (true≢false (e refl))
-    by one_text g o e = absurd (true≢false (e refl))
-    by as_cdata g o e = absurd (true≢false (e refl))
     by (child q) g o e = (inl (refl, child_lacks (knows r.since v) r v refl s g o), refl)
     by (filled_child q) g o e = (inl (refl, child_lacks (knows r.since v) r v refl s g o), refl)
     by (either_child q m) g o e = (inl (refl, child_lacks (knows r.since v) r v refl s g o), refl)
     by (children q) g o e = children_ended Q r.need q r d g
+    by _ g o e = absurd (true≢false (e refl))
 
 row_ended : (Q : List ℕ → Type 0) (r : Row) (v : SpecVersion) (d : Depth) (t : Tree) → sound_since r.since r.need r.kind ≡ true → reads_xml r.xml r.need r.kind ≡ true → SlotOf Q r.kind d t → lacks (owed r.xml) r t v ≡ false
     → (last_flag_by (knows r.since v) r.xml r.need v ≡ true → is_absent t ≡ false) → Ended Q r d (filled r t)
@@ -645,74 +596,12 @@ is_text_at (one_text_alone i) ks = is_text_kind (kind_at i ks)
 texts_at : (n : Name) → is_text_at (content_from 0 (rows n)) (row_kinds (rows n)) ≡ true
 unfolding rows
 texts_at hash = refl
-texts_at property = refl
-texts_at attached_text = refl
-texts_at contact = refl
-texts_at entity = refl
-texts_at commit = refl
-texts_at action = refl
-texts_at patch = refl
-texts_at diff = refl
-texts_at issue = refl
-texts_at source = refl
-texts_at reference = refl
-texts_at dependency = refl
-texts_at composition = refl
-texts_at license = refl
-texts_at expression = refl
-texts_at spdx_id = refl
-texts_at license_name = refl
-texts_at tool = refl
-texts_at component = refl
-texts_at swid = refl
-texts_at pedigree = refl
-texts_at evidence = refl
-texts_at copyright = refl
-texts_at service = refl
-texts_at classification = refl
-texts_at service_data = refl
-texts_at tools_object = refl
-texts_at metadata = refl
-texts_at signer = refl
-texts_at signers = refl
-texts_at chain = refl
-texts_at bill = refl
+texts_at _ = refl
 
 flags_end : (n : Name) (v : SpecVersion) → at_end (content_from 0 (rows n)) (flags (rows n) v) ≡ last_flags (rows n) v
 unfolding rows
 flags_end hash v = refl
-flags_end property v = refl
-flags_end attached_text v = refl
-flags_end contact v = refl
-flags_end entity v = refl
-flags_end commit v = refl
-flags_end action v = refl
-flags_end patch v = refl
-flags_end diff v = refl
-flags_end issue v = refl
-flags_end source v = refl
-flags_end reference v = refl
-flags_end dependency v = refl
-flags_end composition v = refl
-flags_end license v = refl
-flags_end expression v = refl
-flags_end spdx_id v = refl
-flags_end license_name v = refl
-flags_end tool v = refl
-flags_end component v = refl
-flags_end swid v = refl
-flags_end pedigree v = refl
-flags_end evidence v = refl
-flags_end copyright v = refl
-flags_end service v = refl
-flags_end classification v = refl
-flags_end service_data v = refl
-flags_end tools_object v = refl
-flags_end metadata v = refl
-flags_end signer v = refl
-flags_end signers v = refl
-flags_end chain v = refl
-flags_end bill v = refl
+flags_end _ v = refl
 
 text_kind_read : (Q : List ℕ → Type 0) (k : Kind) (s : List ℕ) (d : Depth) → is_text_kind k ≡ true → Q s → IsReadOf Q k d (text s)
 unfolding is_shallow
@@ -746,46 +635,18 @@ record_good Q e n v d t g o =
 
 lists_good : (Q : List ℕ → Type 0) (l : Lists) → GoodChildren Q (plan_of_list l).children (a_list l ∷ [])
 unfolding list
-lists_good Q hashes = ((tt, λ t h. h), tt)
-lists_good Q properties = ((tt, λ t h. h), tt)
-lists_good Q urls = ((tt, λ t h. h), tt)
-lists_good Q contacts = ((tt, λ t h. h), tt)
-lists_good Q commits = ((tt, λ t h. h), tt)
-lists_good Q patches = ((tt, λ t h. h), tt)
-lists_good Q resolved = ((tt, λ t h. h), tt)
-lists_good Q links = ((tt, λ t h. h), tt)
-lists_good Q external_references = ((tt, λ t h. h), tt)
-lists_good Q dependencies = ((tt, λ t h. h), tt)
-lists_good Q depended = ((tt, λ t h. h), tt)
-lists_good Q compositions = ((tt, λ t h. h), tt)
-lists_good Q assemblies = ((tt, λ t h. h), tt)
-lists_good Q composed = ((tt, λ t h. h), tt)
-lists_good Q vulnerabilities = ((tt, λ t h. h), tt)
-lists_good Q components = ((tt, λ t h. h), tt)
-lists_good Q services = ((tt, λ t h. h), tt)
-lists_good Q copyright_texts = ((tt, λ t h. h), tt)
-lists_good Q endpoints = ((tt, λ t h. h), tt)
-lists_good Q authors = ((tt, λ t h. h), tt)
-lists_good Q tool_list = ((tt, λ t h. h), tt)
-lists_good Q signer_list = ((tt, λ t h. h), tt)
-lists_good Q chain_list = ((tt, λ t h. h), tt)
-lists_good Q classifications = ((tt, λ t h. h), tt)
-lists_good Q flows = ((tt, λ t h. h), tt)
 lists_good Q licenses = ((tt, λ t h. h), ((tt, λ t h. h), tt))
+lists_good Q _ = ((tt, λ t h. h), tt)
 
 list_of_good : (Q : List ℕ → Type 0) (t : Tree) (l : Lists) (d : Depth) → SlotOf Q (a_list l) d t → IsReadOf Q (a_list l) d (list_of t)
 unfolding is_shallow
 list_of_good Q absent l d h = ((tt, tt), refl)
-list_of_good Q (text s) l d (inr h, e) = (h, e)
-list_of_good Q (number s) l d (inr h, e) = (h, e)
-list_of_good Q (boolean s) l d (inr h, e) = (h, e)
-list_of_good Q (items s) l d (inr h, e) = (h, e)
-list_of_good Q (fields n s) l d (inr h, e) = (h, e)
 list_of_good Q (text s) l d (inl h, e) = absurd (true≢false (sym (ap is_absent h)))
 list_of_good Q (number s) l d (inl h, e) = absurd (true≢false (sym (ap is_absent h)))
 list_of_good Q (boolean s) l d (inl h, e) = absurd (true≢false (sym (ap is_absent h)))
 list_of_good Q (items s) l d (inl h, e) = absurd (true≢false (sym (ap is_absent h)))
 list_of_good Q (fields n s) l d (inl h, e) = absurd (true≢false (sym (ap is_absent h)))
+list_of_good Q _ l d (inr h, e) = (h, e)
 
 list_good : (Q : List ℕ → Type 0) (e : Element) (l : Lists) (v : SpecVersion) (d : Depth) (t : Tree) → GoodElement Q e → list_read e l v d ≡ Ok t → IsReadOf Q (a_list l) d t
 list_good Q e l v d t g o =
@@ -839,12 +700,8 @@ tools_children Q = ((tt, λ t h. h), ((λ t h. h), ((λ t h. h), tt)))
 
 tool_list_tools : (Q : List ℕ → Type 0) (t : Tree) → IsOfAll Q t (a_list tool_list) → IsOfAll Q t a_tools
 unfolding list
-tool_list_tools Q absent h = h
-tool_list_tools Q (text s) h = h
-tool_list_tools Q (number s) h = h
-tool_list_tools Q (boolean s) h = h
-tool_list_tools Q (items ts) h = h
 tool_list_tools Q (fields n ts) h = absurd (true≢false h.0)
+tool_list_tools Q _ h = h
 
 part_of : (Q : List ℕ → Type 0) (k : Kind) (d : Depth) (t : Tree) → SlotOf Q k d t → ((t ≡ absent) × (true ≡ true)) ⊎ IsOfAll Q t k
 part_of Q k d t (inl h, e) = inl (h, refl)
@@ -879,14 +736,7 @@ tools_of_good Q e v ts d t h o = by (field 0 ts) (slot_at Q 0 ts tools_kinds d h
 
     by : (x : Tree) → SlotOf Q (a_list tool_list) d x → way x ≡ Ok t → IsReadOf Q a_tools d t
     by absent s g = subst (λ (y : Tree). IsReadOf Q a_tools d y) (ok_same g) (object_good Q v ts d h)
-    by (text x) s g = listed (text x) refl s (is_absent (field 1 ts) && is_absent (field 2 ts)) g
-    by (number x) s g = listed (number x) refl s (is_absent (field 1 ts) && is_absent (field 2 ts)) g
-    by (boolean x) s g = listed (boolean x) refl s (is_absent (field 1 ts) && is_absent (field 2 ts)) g
-    by (items x) s g = listed (items x) refl s (is_absent (field 1 ts) && is_absent (field 2 ts)) g
-    by (fields n x) s g = listed (fields n x) refl s (is_absent (field 1 ts) && is_absent (field 2 ts)) g
-
-no_flags : List Bool
-no_flags = []
+    by t s g = listed t refl s (is_absent (field 1 ts) && is_absent (field 2 ts)) g
 
 tools_good : (Q : List ℕ → Type 0) (e : Element) (v : SpecVersion) (d : Depth) (t : Tree) → GoodElement Q e → tools_read e v d ≡ Ok t → IsReadOf Q a_tools d t
 tools_good Q e v d t g o =
@@ -909,12 +759,9 @@ entries_of Q (more t ts) h = (class_entry Q t h.0, entries_of Q ts h.1)
 
 classes_data : (Q : List ℕ → Type 0) (t : Tree) → IsOfAll Q t (a_list classifications) → IsOfAll Q t a_data
 unfolding list
-classes_data Q absent h = h
-classes_data Q (text s) h = h
-classes_data Q (number s) h = h
-classes_data Q (boolean s) h = h
 classes_data Q (items ts) h = (tt, entries_of Q ts h.1)
 classes_data Q (fields n ts) h = absurd (true≢false h.0)
+classes_data Q _ h = h
 
 data_of_good : (Q : List ℕ → Type 0) (ts : Trees) (d : Depth) → AreSlots Q ts data_kinds d → IsReadOf Q a_data d (data_of ts)
 data_of_good Q ts d h = by (field 1 ts) (slot_at Q 1 ts data_kinds d h)
@@ -928,11 +775,7 @@ data_of_good Q ts d h = by (field 1 ts) (slot_at Q 1 ts data_kinds d h)
 
     by : (x : Tree) → SlotOf Q a_data d x → IsReadOf Q a_data d (way x)
     by absent s = classes
-    by (text x) s = there_good Q a_data d (text x) refl s
-    by (number x) s = there_good Q a_data d (number x) refl s
-    by (boolean x) s = there_good Q a_data d (boolean x) refl s
-    by (items x) s = there_good Q a_data d (items x) refl s
-    by (fields n x) s = there_good Q a_data d (fields n x) refl s
+    by t s = there_good Q a_data d t refl s
 
 data_good : (Q : List ℕ → Type 0) (e : Element) (v : SpecVersion) (d : Depth) (t : Tree) → GoodElement Q e → data_read e v d ≡ Ok t → IsReadOf Q a_data d t
 data_good Q e v d t g o =
@@ -946,20 +789,14 @@ abbrev signature_kinds : List Kind
 signature_kinds = a_signature ∷ a_text ∷ a_text ∷ []
 
 signers_signature : (Q : List ℕ → Type 0) (t : Tree) → IsOfAll Q t (a_record signers) → IsOfAll Q t a_signature
-signers_signature Q absent h = h
-signers_signature Q (text s) h = h
-signers_signature Q (number s) h = h
-signers_signature Q (boolean s) h = h
 signers_signature Q (items ts) h = absurd (true≢false h.0)
 signers_signature Q (fields n ts) h = (inl h.0, h.1)
+signers_signature Q _ h = h
 
 chain_signature : (Q : List ℕ → Type 0) (t : Tree) → IsOfAll Q t (a_record chain) → IsOfAll Q t a_signature
-chain_signature Q absent h = h
-chain_signature Q (text s) h = h
-chain_signature Q (number s) h = h
-chain_signature Q (boolean s) h = h
 chain_signature Q (items ts) h = absurd (true≢false h.0)
 chain_signature Q (fields n ts) h = (inr (inl h.0), h.1)
+chain_signature Q _ h = h
 
 signature_of_good : (Q : List ℕ → Type 0) (e : Element) (v : SpecVersion) (ts : Trees) (d : Depth) (t : Tree) → AreSlots Q ts signature_kinds d → signature_of e v ts ≡ Ok t → IsReadOf Q a_signature d t
 signature_of_good Q e v ts d t h o = by (field 0 ts) (slot_at Q 0 ts signature_kinds d h) o
@@ -983,11 +820,7 @@ signature_of_good Q e v ts d t h o = by (field 0 ts) (slot_at Q 0 ts signature_k
 
     by : (x : Tree) → SlotOf Q a_signature d x → way x ≡ Ok t → IsReadOf Q a_signature d t
     by absent s g = single g
-    by (text x) s g = listed (text x) refl s refl g
-    by (number x) s g = listed (number x) refl s refl g
-    by (boolean x) s g = listed (boolean x) refl s refl g
-    by (items x) s g = listed (items x) refl s refl g
-    by (fields n x) s g = listed (fields n x) refl s refl g
+    by t s g = listed t refl s refl g
 
 signature_good : (Q : List ℕ → Type 0) (e : Element) (v : SpecVersion) (d : Depth) (t : Tree) → GoodElement Q e → signature_read e v d ≡ Ok t → IsReadOf Q a_signature d t
 signature_good Q e v d t g o =

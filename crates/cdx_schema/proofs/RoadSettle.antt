@@ -61,10 +61,6 @@ xml_alone in_json m n e = absurd (true≢false (ap is_json e))
     is_json in_json = true
     is_json in_xml = false
 
-count_none : (n : ℕ) → xml_count n [] ≡ zero
-count_none zero = refl
-count_none (suc n) = refl
-
 count_step : (f : Form) (a b m n : ℕ) → a ≡ m → b ≡ n → Counted f a b ≡ Counted f m n
 count_step f a b m n p q = rw (p, q) refl
 

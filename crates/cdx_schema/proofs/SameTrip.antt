@@ -4,8 +4,8 @@ use Rattle.std.proofs.Common.{true≢false}
 use mathlib.Core.Path.{ap, sym, ◌∙◌}
 use Rattle.cdx_models.specs.declared.bom.SpecVersion.{SpecVersion}
 use Rattle.cdx_models.specs.declared.bom.SpecVersion.TheVariants.{V1_3, V1_4, V1_5}
-use Rattle.cdx_models.specs.Trees.{Name, hash, property, attached_text, contact, entity, commit, action, patch, diff, issue, source, reference, dependency, composition, license, expression, spdx_id, license_name, tool, component, swid, pedigree, evidence, copyright, service, classification, service_data, tools_object, metadata, signer, signers, chain, bill, Tree, absent, text, number, boolean, items, fields, Trees, none, more}
-use Rattle.cdx_schema.specs.Kinds.{Kind, a_list, a_tools, Need, optional, required, required_first, else_empty, Spelled, attribute, attribute_or, content, one_text, as_cdata, child, filled_child, children, either_child, the_version, Row}
+use Rattle.cdx_models.specs.Trees.{Name, hash, Tree, absent, text, number, boolean, items, fields, Trees, none, more}
+use Rattle.cdx_schema.specs.Kinds.{Kind, a_list, a_tools, Need, optional, required, required_first, else_empty, Spelled, filled_child, children, Row}
 use Rattle.cdx_schema.specs.Table.{rows}
 use Rattle.cdx_schema.specs.Held.{held_kind}
 use Rattle.cdx_schema.specs.Trips.{bare, items_bare, rows_bare, settled, items_settled, rows_settled, settled_items, is_hollow, is_passed_over, field_after, none_is_absent}
@@ -45,38 +45,7 @@ all_listed (r ∷ rs) = is_listed_row r.xml r.kind && all_listed rs
 all_listed_rows : (n : Name) → all_listed (rows n) ≡ true
 unfolding rows
 all_listed_rows hash = refl
-all_listed_rows property = refl
-all_listed_rows attached_text = refl
-all_listed_rows contact = refl
-all_listed_rows entity = refl
-all_listed_rows commit = refl
-all_listed_rows action = refl
-all_listed_rows patch = refl
-all_listed_rows diff = refl
-all_listed_rows issue = refl
-all_listed_rows source = refl
-all_listed_rows reference = refl
-all_listed_rows dependency = refl
-all_listed_rows composition = refl
-all_listed_rows license = refl
-all_listed_rows expression = refl
-all_listed_rows spdx_id = refl
-all_listed_rows license_name = refl
-all_listed_rows tool = refl
-all_listed_rows component = refl
-all_listed_rows swid = refl
-all_listed_rows pedigree = refl
-all_listed_rows evidence = refl
-all_listed_rows copyright = refl
-all_listed_rows service = refl
-all_listed_rows classification = refl
-all_listed_rows service_data = refl
-all_listed_rows tools_object = refl
-all_listed_rows metadata = refl
-all_listed_rows signer = refl
-all_listed_rows signers = refl
-all_listed_rows chain = refl
-all_listed_rows bill = refl
+all_listed_rows _ = refl
 
 none_alike : (us vs : Trees) (k : Kind) → is_none us ≡ is_none vs → settled (items us) k ≡ settled (items vs) k → settled (none_is_absent optional (items us)) k ≡ settled (none_is_absent optional (items vs)) k
 unfolding settled
@@ -109,14 +78,7 @@ field_alike w t r l e = by r.xml l
         at true = refl
         at false = e
     by (children n) l' = children_alike w t r.kind r.need l' e
-    by (attribute n) l' = e
-    by (attribute_or n m) l' = e
-    by content l' = e
-    by one_text l' = e
-    by as_cdata l' = e
-    by (child n) l' = e
-    by (either_child m n) l' = e
-    by the_version l' = e
+    by _ l' = e
 
 more_alike : {t u : Tree} {ts us : Trees} → t ≡ u → ts ≡ us → more t ts ≡ more u us
 more_alike p q = rw (p, q) refl
@@ -130,12 +92,9 @@ mutual
   unfolding tripped bare settled
 
   pub trip_same : (w : SpecVersion) (t : Tree) (k : Kind) → settled (tripped w t k) k ≡ settled (bare t) k
-  trip_same w absent k = refl
-  trip_same w (text s) k = refl
-  trip_same w (number n) k = refl
-  trip_same w (boolean b) k = refl
   trip_same w (items ts) k = settled_list k w (items_tripped w ts (held_kind k)) ∙ ap (settled_items k) (items_same w ts (held_kind k))
   trip_same w (fields n ts) k = ap (fields n) (rows_same w ts (rows n) (all_listed_rows n))
+  trip_same w _ k = refl
 
   items_same : (w : SpecVersion) (ts : Trees) (k : Kind) → items_settled (items_tripped w ts k) k ≡ items_settled (items_bare ts) k
   items_same w none k = refl

@@ -3,7 +3,7 @@ use Rattle.std.specs.Prelude.{◌≡◌, ℕ, List, [], ◌∷◌, true, ◌⊎�
 use Rattle.std.proofs.Common.{inl, inr}
 use Rattle.serde_json.specs.Data.{Data, Items, no_items, item, Members, no_members}
 use Rattle.serde_json.specs.Data as json
-use Rattle.cdx_models.specs.Trees.{Tree, absent, text, number, boolean, items, fields, Trees, none, more}
+use Rattle.cdx_models.specs.Trees.{Tree, absent, text, items, fields, Trees, none, more}
 use Rattle.cdx_schema.specs.Kinds.{Kind, a_text, a_reference, a_version, Row}
 use Rattle.cdx_schema.specs.Held.{held_kind}
 use Rattle.cdx_schema.specs.Table.{rows}
@@ -25,12 +25,10 @@ field_shape Q t r f (inr h) = inr (f h)
 -- What is of a kind has its shape.
 mutual
   pub shape : (Q : List ℕ → Type 0) (t : Tree) (k : Kind) → IsOfAll Q t k → HasShape t k
-  shape Q absent k h = h
   shape Q (text s) k h = text_shape Q k s h
-  shape Q (number n) k h = h
-  shape Q (boolean b) k h = h
   shape Q (items ts) k h = (h.0, shapes Q ts (held_kind k) h.1)
   shape Q (fields n ts) k h = (h.0, field_shapes Q ts (rows n) h.1)
+  shape Q _ k h = h
 
   shapes : (Q : List ℕ → Type 0) (ts : Trees) (k : Kind) → AreOfAll Q ts k → HaveShape ts k
   shapes Q none k h = tt

@@ -4,8 +4,8 @@ use Rattle.std.proofs.Common.{true≢false, inl, inr}
 use mathlib.Core.Path.{ap, sym, ◌∙◌}
 use Rattle.cdx_models.specs.declared.bom.SpecVersion.{SpecVersion}
 use Rattle.cdx_models.specs.declared.bom.SpecVersion.TheVariants.{V1_3}
-use Rattle.cdx_models.specs.Trees.{Name, hash, property, attached_text, contact, entity, commit, action, patch, diff, issue, source, reference, dependency, composition, license, expression, spdx_id, license_name, tool, component, swid, pedigree, evidence, copyright, service, classification, service_data, tools_object, metadata, signer, signers, chain, bill, Tree, absent, text, number, boolean, items, fields, Trees, none, more}
-use Rattle.cdx_schema.specs.Kinds.{Lists, hashes, properties, urls, contacts, commits, patches, resolved, links, external_references, dependencies, depended, compositions, assemblies, composed, vulnerabilities, licenses, components, services, copyright_texts, endpoints, authors, tool_list, signer_list, chain_list, classifications, flows, Kind, a_list, a_record, a_license_choice, a_license_identifier, a_tools, a_data, an_entry, a_signature, a_bill, Need, optional, required_first, Spelled, filled_child, children, Row}
+use Rattle.cdx_models.specs.Trees.{Name, hash, contact, entity, diff, source, license, expression, spdx_id, license_name, component, pedigree, evidence, classification, service_data, tools_object, metadata, signer, signers, chain, bill, Tree, items, fields, Trees, none, more}
+use Rattle.cdx_schema.specs.Kinds.{Lists, components, Kind, a_list, a_record, a_license_choice, a_license_identifier, a_tools, a_data, an_entry, a_signature, a_bill, Need, optional, required_first, Spelled, filled_child, children, Row}
 use Rattle.cdx_schema.specs.Table.{rows, list}
 use Rattle.cdx_schema.specs.Held.{held_kind}
 use Rattle.cdx_schema.specs.Keeping.{has_versions, items_have_versions, rows_have_versions, is_there}
@@ -46,64 +46,17 @@ all_free (r ∷ rs) = (free_need r.need && free_kind r.kind) && all_free rs
 
 pub rows_free : (n : Name) → free_name n ≡ true → all_free (rows n) ≡ true
 unfolding rows
-rows_free hash h = refl
-rows_free property h = refl
-rows_free attached_text h = refl
-rows_free contact h = refl
-rows_free entity h = refl
-rows_free commit h = refl
-rows_free action h = refl
-rows_free patch h = refl
-rows_free diff h = refl
-rows_free issue h = refl
-rows_free source h = refl
-rows_free reference h = refl
-rows_free dependency h = refl
-rows_free composition h = refl
-rows_free license h = refl
-rows_free expression h = refl
-rows_free spdx_id h = refl
-rows_free license_name h = refl
-rows_free tool h = refl
-rows_free swid h = refl
-rows_free evidence h = refl
-rows_free copyright h = refl
-rows_free service h = refl
-rows_free classification h = refl
-rows_free service_data h = refl
-rows_free signer h = refl
-rows_free signers h = refl
-rows_free chain h = refl
-rows_free _ h = absurd (true≢false (sym h))
+rows_free component h = absurd (true≢false (sym h))
+rows_free pedigree h = absurd (true≢false (sym h))
+rows_free tools_object h = absurd (true≢false (sym h))
+rows_free metadata h = absurd (true≢false (sym h))
+rows_free bill h = absurd (true≢false (sym h))
+rows_free _ h = refl
 
 list_free : (l : Lists) → free_list l ≡ true → free_kind (list l).kind ≡ true
 unfolding list
-list_free hashes h = refl
-list_free properties h = refl
-list_free urls h = refl
-list_free contacts h = refl
-list_free commits h = refl
-list_free patches h = refl
-list_free resolved h = refl
-list_free links h = refl
-list_free external_references h = refl
-list_free dependencies h = refl
-list_free depended h = refl
-list_free compositions h = refl
-list_free assemblies h = refl
-list_free composed h = refl
-list_free vulnerabilities h = refl
-list_free licenses h = refl
-list_free services h = refl
-list_free copyright_texts h = refl
-list_free endpoints h = refl
-list_free authors h = refl
-list_free tool_list h = refl
-list_free signer_list h = refl
-list_free chain_list h = refl
-list_free classifications h = refl
-list_free flows h = refl
 list_free components h = absurd (true≢false (sym h))
+list_free _ h = refl
 
 held_free : (k : Kind) → free_kind k ≡ true → free_kind (held_kind k) ≡ true
 unfolding list
@@ -139,12 +92,9 @@ mutual
   unfolding has_versions
 
   pub free_there : (t : Tree) (k : Kind) → HasShape t k → free_kind k ≡ true → has_versions t k ≡ true
-  free_there absent k h f = refl
-  free_there (text s) k h f = refl
-  free_there (number n) k h f = refl
-  free_there (boolean b) k h f = refl
   free_there (items ts) k h f = free_items ts (held_kind k) h.1 (held_free k f)
   free_there (fields n ts) k h f = fields_free n ts k h.0 f (λ g. free_rows ts (rows n) h.1 (rows_free n g))
+  free_there _ k h f = refl
 
   pub free_items : (ts : Trees) (k : Kind) → HaveShape ts k → free_kind k ≡ true → items_have_versions ts k ≡ true
   free_items none k h f = refl
@@ -193,38 +143,7 @@ all_sound (r ∷ rs) = (sound_since r.since r.need r.kind && sound_xml r.xml r.n
 pub sound : (n : Name) → all_sound (rows n) ≡ true
 unfolding rows
 sound hash = refl
-sound property = refl
-sound attached_text = refl
-sound contact = refl
-sound entity = refl
-sound commit = refl
-sound action = refl
-sound patch = refl
-sound diff = refl
-sound issue = refl
-sound source = refl
-sound reference = refl
-sound dependency = refl
-sound composition = refl
-sound license = refl
-sound expression = refl
-sound spdx_id = refl
-sound license_name = refl
-sound tool = refl
-sound component = refl
-sound swid = refl
-sound pedigree = refl
-sound evidence = refl
-sound copyright = refl
-sound service = refl
-sound classification = refl
-sound service_data = refl
-sound tools_object = refl
-sound metadata = refl
-sound signer = refl
-sound signers = refl
-sound chain = refl
-sound bill = refl
+sound _ = refl
 
 pub sound_parts : (r : Row) (rs : List Row) → all_sound (r ∷ rs) ≡ true → (sound_since r.since r.need r.kind ≡ true) × (sound_xml r.xml r.need r.kind ≡ true) × (all_sound rs ≡ true)
 sound_parts r rs h =

@@ -21,8 +21,6 @@ use Rattle.cdx_schema.proofs.Shape.{shape, any_texts, any_node}
 use Rattle.cdx_schema.proofs.ViewTexts.{view_texts}
 use Rattle.cdx_schema.proofs.EventTexts.{root_texts}
 use Rattle.cdx_schema.specs.Keeping.{keep}
-use Rattle.cdx_schema.specs.Locality.{IsLocal}
-use Rattle.cdx_schema.proofs.Local.{local_faults}
 use Rattle.cdx_schema.specs.Laws.{ReadsBackJson, ReadsBackXml, KeepsTwice, HasBillShape, IsShallow, BillsHaveShape, StaysBill, StaysFit, StaysShallow, Commutes, SameOfSame, TakesTwice, Nests, DenotesShapes, JsonDenotesBills, XmlDenotesBills, RoadsLead, RoadsJoin, RoadsSettle}
 use Rattle.cdx_schema.proofs.XmlLaw.{tripped}
 use Rattle.cdx_schema.proofs.SameTrip.{trip_same}
@@ -97,6 +95,3 @@ join = roads_join denotes_shapes
 
 pub settle : RoadsSettle
 settle = roads_settle denotes_shapes
-
-pub faults_local : IsLocal
-faults_local = local_faults

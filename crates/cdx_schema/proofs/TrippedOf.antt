@@ -4,8 +4,8 @@ use Rattle.std.proofs.Common.{true≢false, inl, inr}
 use mathlib.Core.Path.{ap, sym, ◌∙◌, subst}
 use Rattle.cdx_models.specs.declared.bom.SpecVersion.{SpecVersion}
 use Rattle.cdx_models.specs.declared.bom.SpecVersion.TheVariants.{V1_3, V1_4, V1_5}
-use Rattle.cdx_models.specs.Trees.{Name, contact, service_data, Tree, absent, text, number, boolean, items, fields, Trees, none, more, is_absent}
-use Rattle.cdx_schema.specs.Kinds.{Kind, a_text, a_record, a_license_choice, a_license_identifier, a_tools, an_entry, a_signature, a_bill, Need, optional, Spelled, attribute, attribute_or, content, one_text, as_cdata, child, filled_child, children, either_child, the_version, Row}
+use Rattle.cdx_models.specs.Trees.{Name, contact, service_data, Tree, absent, items, fields, Trees, none, more, is_absent}
+use Rattle.cdx_schema.specs.Kinds.{Kind, a_text, a_record, a_license_choice, a_license_identifier, a_tools, an_entry, a_signature, a_bill, Need, optional, Spelled, filled_child, children, Row}
 use Rattle.cdx_schema.specs.Table.{rows}
 use Rattle.cdx_schema.specs.Held.{held_kind}
 use Rattle.cdx_models.specs.Entries.{is_flow}
@@ -35,12 +35,9 @@ mutual
 
   -- In 1.3 a trip makes of a tree exactly what it leaves.
   pub bare_is : (t : Tree) (k : Kind) → tripped V1_3 t k ≡ bare t
-  bare_is absent k = refl
-  bare_is (text s) k = refl
-  bare_is (number n) k = refl
-  bare_is (boolean b) k = refl
   bare_is (items ts) k = list_first k (items_tripped V1_3 ts (held_kind k)) ∙ ap items (items_bare_is ts (held_kind k))
   bare_is (fields n ts) k = ap (fields n) (rows_bare_is ts (rows n))
+  bare_is _ k = refl
 
   items_bare_is : (ts : Trees) (k : Kind) → items_tripped V1_3 ts k ≡ items_bare ts
   items_bare_is none k = refl
@@ -70,12 +67,8 @@ list_there _ w us = refl
 
 pub trip_there : (w : SpecVersion) (t : Tree) (k : Kind) → is_absent (tripped w t k) ≡ is_absent t
 unfolding tripped
-trip_there w absent k = refl
-trip_there w (text s) k = refl
-trip_there w (number n) k = refl
-trip_there w (boolean b) k = refl
 trip_there w (items ts) k = list_there k w (items_tripped w ts (held_kind k))
-trip_there w (fields n ts) k = refl
+trip_there w _ k = refl
 
 flow_trip : (w : SpecVersion) (ts : Trees) → is_flow service_data (rows_tripped w ts (rows service_data)) ≡ is_flow service_data ts
 unfolding tripped rows
@@ -114,14 +107,7 @@ field_of_trip Q r t u s h = by r.xml s
         at true = inl (refl, filled_lacks r.need r.kind e)
         at false = h
     by (children q) e = none_of Q r.need u r.kind h
-    by (attribute q) e = h
-    by (attribute_or q m) e = h
-    by content e = h
-    by one_text e = h
-    by as_cdata e = h
-    by (child q) e = h
-    by (either_child q m) e = h
-    by the_version e = h
+    by _ e = h
 
 item_of_trip : (Q : List ℕ → Type 0) (b : Bool) (t : Tree) (ts : Trees) (k : Kind) → IsOfAll Q t k → AreOfAll Q ts k → AreOfAll Q (if b then ts else more t ts) k
 item_of_trip Q true t ts k h g = g
@@ -136,12 +122,9 @@ mutual
   unfolding tripped
 
   pub tripped_of : (Q : List ℕ → Type 0) (w : SpecVersion) (t : Tree) (k : Kind) → IsOfAll Q t k → IsOfAll Q (tripped w t k) k
-  tripped_of Q w absent k h = h
-  tripped_of Q w (text s) k h = h
-  tripped_of Q w (number n) k h = h
-  tripped_of Q w (boolean b) k h = h
   tripped_of Q w (items ts) k h = list_of_trip Q k w (items_tripped w ts (held_kind k)) h.0 (items_tripped_of Q w ts (held_kind k) h.1)
   tripped_of Q w (fields n ts) k h = (record_of_trip w k n ts h.0, rows_tripped_of Q w ts (rows n) (sound n) h.1)
+  tripped_of Q w _ k h = h
 
   items_tripped_of : (Q : List ℕ → Type 0) (w : SpecVersion) (ts : Trees) (k : Kind) → AreOfAll Q ts k → AreOfAll Q (items_tripped w ts k) k
   items_tripped_of Q w none k h = tt
@@ -213,14 +196,7 @@ field_versions r t u s h a v = by r.xml s
         at true = dropped_versions t r (filled_free r.need r.kind e).0 (filled_free r.need r.kind e).1 h
         at false = same
     by (children q) e = and_alike (none_there r.need u) (none_versions r.need u r.kind) ∙ same
-    by (attribute q) e = same
-    by (attribute_or q m) e = same
-    by content e = same
-    by one_text e = same
-    by as_cdata e = same
-    by (child q) e = same
-    by (either_child q m) e = same
-    by the_version e = same
+    by _ e = same
 
 absent_versions : (w : SpecVersion) (t : Tree) (r : Row) → IsField t r → (HasShape t r.kind → has_versions (tripped w t r.kind) r.kind ≡ has_versions t r.kind) → has_versions (tripped w t r.kind) r.kind ≡ has_versions t r.kind
 unfolding tripped
@@ -236,12 +212,9 @@ mutual
   unfolding tripped has_versions
 
   pub tripped_versions : (w : SpecVersion) (t : Tree) (k : Kind) → HasShape t k → has_versions (tripped w t k) k ≡ has_versions t k
-  tripped_versions w absent k h = refl
-  tripped_versions w (text s) k h = refl
-  tripped_versions w (number n) k h = refl
-  tripped_versions w (boolean b) k h = refl
   tripped_versions w (items ts) k h = list_versions k w (items_tripped w ts (held_kind k)) ∙ items_tripped_versions w ts (held_kind k) h.1
   tripped_versions w (fields n ts) k h = fields_alike k n ts (rows_tripped w ts (rows n)) (rows_tripped_versions w ts (rows n) (sound n) h.1)
+  tripped_versions w _ k h = refl
 
   items_tripped_versions : (w : SpecVersion) (ts : Trees) (k : Kind) → HaveShape ts k → items_have_versions (items_tripped w ts k) k ≡ items_have_versions ts k
   items_tripped_versions w none k h = refl
@@ -290,27 +263,17 @@ field_shallow r t u d h = by r.xml
         at true = refl
         at false = h
     by (children q) = none_shallow r.need u d h
-    by (attribute q) = h
-    by (attribute_or q m) = h
-    by content = h
-    by one_text = h
-    by as_cdata = h
-    by (child q) = h
-    by (either_child q m) = h
-    by the_version = h
+    by _ = h
 
 mutual
   unfolding tripped is_shallow
 
   pub tripped_shallow : (w : SpecVersion) (t : Tree) (k : Kind) (d : Depth) → is_shallow t d ≡ true → is_shallow (tripped w t k) d ≡ true
-  tripped_shallow w absent k d h = refl
-  tripped_shallow w (text s) k d h = refl
-  tripped_shallow w (number n) k d h = refl
-  tripped_shallow w (boolean b) k d h = refl
   tripped_shallow w (items ts) k d h = list_shallow k w (items_tripped w ts (held_kind k)) d (items_tripped_shallow w ts (held_kind k) d h)
   tripped_shallow w (fields n ts) k d h =
       let p : (not (name_too_deep n d) ≡ true) × (are_shallow ts (inside n d) ≡ true) = and_true (not (name_too_deep n d)) (are_shallow ts (inside n d)) h in
       both (not (name_too_deep n d)) (are_shallow (rows_tripped w ts (rows n)) (inside n d)) p.0 (rows_tripped_shallow w ts (rows n) (inside n d) p.1)
+  tripped_shallow w _ k d h = refl
 
   items_tripped_shallow : (w : SpecVersion) (ts : Trees) (k : Kind) (d : Depth) → are_shallow ts d ≡ true → are_shallow (items_tripped w ts k) d ≡ true
   items_tripped_shallow w none k d h = refl

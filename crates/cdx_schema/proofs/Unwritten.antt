@@ -26,11 +26,7 @@ use Rattle.cdx_schema.specs.Nodes.{◌⊕◌}
 unsupplied_text : (t : Tree) → text_of (unsupplied t) ≡ text_of t
 unfolding unsupplied
 unsupplied_text absent = refl
-unsupplied_text (text s) = refl
-unsupplied_text (number s) = refl
-unsupplied_text (boolean s) = refl
-unsupplied_text (items ts) = refl
-unsupplied_text (fields n ts) = refl
+unsupplied_text _ = refl
 
 supplier_attributes : (r : Row) (t u : Tree) → is_supplier r.xml r.kind ≡ true → row_attributes r t ≡ row_attributes r u
 supplier_attributes r t u h = by r.xml h
@@ -51,21 +47,13 @@ attributes_unsupplied (more t ts) (r ∷ rs) w = rw (either_attributes r t (is_s
 
 of_unsupplied : (t : Tree) (w : SpecVersion) (k : Kind) → attributes_of (unsupplied t) w k ≡ attributes_of t w k
 unfolding unsupplied
-of_unsupplied absent w k = refl
-of_unsupplied (text s) w k = refl
-of_unsupplied (number s) w k = refl
-of_unsupplied (boolean s) w k = refl
-of_unsupplied (items ts) w k = refl
 of_unsupplied (fields n ts) w k = ap (ordered n) (attributes_unsupplied ts (rows n) w)
+of_unsupplied _ w k = refl
 
 tag_unsupplied : (t : Tree) (k : Kind) (tag : List ℕ) → tag_of k (unsupplied t) tag ≡ tag_of k t tag
 unfolding unsupplied
 tag_unsupplied absent k tag = refl
-tag_unsupplied (text s) k tag = refl
-tag_unsupplied (number s) k tag = refl
-tag_unsupplied (boolean s) k tag = refl
-tag_unsupplied (items ts) k tag = refl
-tag_unsupplied (fields n ts) k tag = refl
+tag_unsupplied _ k tag = refl
 
 wrapped_unsupplied : (t : Tree) (w : SpecVersion) (tag : List ℕ) (k : Kind) (xs ys : Nodes) → xs ≡ ys → wrapped (unsupplied t) w tag k xs ≡ wrapped t w tag k ys
 wrapped_unsupplied t w tag k xs ys e = wrapped_alike (unsupplied t) t w tag k xs ys (tag_unsupplied t k tag) (of_unsupplied t w k) e
@@ -75,13 +63,8 @@ in_flow_unsupplied t w k xs ys e = ap (λ x. plain_element (codes "dataflow") []
 
 flow_unsupplied : (t : Tree) (w : SpecVersion) (k : Kind) (xs ys : Nodes) → xs ≡ ys → flow_of (unsupplied t) w k xs ≡ flow_of t w k ys
 unfolding unsupplied
-flow_unsupplied absent w k xs ys e = in_flow_unsupplied absent w k xs ys e
-flow_unsupplied (text s) w k xs ys e = in_flow_unsupplied (text s) w k xs ys e
-flow_unsupplied (number s) w k xs ys e = in_flow_unsupplied (number s) w k xs ys e
-flow_unsupplied (boolean s) w k xs ys e = in_flow_unsupplied (boolean s) w k xs ys e
-flow_unsupplied (items ts) w k xs ys e = in_flow_unsupplied (items ts) w k xs ys e
 flow_unsupplied (fields service_data ts) w k xs ys e = wrapped_unsupplied (fields service_data ts) w (codes "dataflow") k xs ys e
-flow_unsupplied (fields n ts) w k xs ys e = in_flow_unsupplied (fields n ts) w k xs ys e
+flow_unsupplied t w k xs ys e = in_flow_unsupplied t w k xs ys e
 
 item_unsupplied : (how : Items) (t : Tree) (w : SpecVersion) (k : Kind) (xs ys : Nodes) → xs ≡ ys → item_node how (unsupplied t) w k xs ≡ item_node how t w k ys
 item_unsupplied (named tag) t w k xs ys e = wrapped_unsupplied t w tag k xs ys e
@@ -121,13 +104,9 @@ whole_no_supplier _ h = absurd (true≢false (sym h))
 
 hollow_unsupplied : (t : Tree) (k : Kind) → whole_kind k ≡ true → HasShape t k → is_hollow (unsupplied t) ≡ is_hollow t
 unfolding unsupplied is_hollow
-hollow_unsupplied absent k e h = refl
-hollow_unsupplied (text s) k e h = refl
-hollow_unsupplied (number s) k e h = refl
-hollow_unsupplied (boolean s) k e h = refl
-hollow_unsupplied (items s) k e h = refl
 hollow_unsupplied (fields n ts) (a_record m) e h = no_child_unsupplied ts (rows n) (whole_no_supplier n (ap whole_name h.0 ∙ e))
 hollow_unsupplied (fields n ts) _ e h = absurd (true≢false (sym e))
+hollow_unsupplied _ k e h = refl
 
 hollow_at : (t : Tree) (r : Row) → IsField t r → whole_kind r.kind ≡ true → is_hollow (unsupplied t) ≡ is_hollow t
 unfolding unsupplied
@@ -137,12 +116,7 @@ hollow_at t r (inr h) e = hollow_unsupplied t r.kind e h
 passed_unsupplied : (t : Tree) → is_passed_over (unsupplied t) ≡ is_passed_over t
 unfolding unsupplied is_hollow
 passed_unsupplied (fields contact ts) = no_child_unsupplied ts (rows contact) (unfold rows in refl)
-passed_unsupplied (fields _ ts) = refl
-passed_unsupplied absent = refl
-passed_unsupplied (text s) = refl
-passed_unsupplied (number s) = refl
-passed_unsupplied (boolean s) = refl
-passed_unsupplied (items ts) = refl
+passed_unsupplied _ = refl
 
 abbrev RowNodes : Row → SpecVersion → Tree → Nodes
 RowNodes r w t = if knows r.since w && not (is_absent t) then row_nodes r.xml t w r.kind (nodes_of t w r.kind) else no_nodes
@@ -184,12 +158,9 @@ mutual
   unfolding nodes_of unsupplied
 
   nodes_unsupplied : (t : Tree) (w : SpecVersion) (k : Kind) → HasShape t k → nodes_of (unsupplied t) w k ≡ nodes_of t w k
-  nodes_unsupplied absent w k h = refl
-  nodes_unsupplied (text s) w k h = refl
-  nodes_unsupplied (number s) w k h = refl
-  nodes_unsupplied (boolean s) w k h = refl
   nodes_unsupplied (items ts) w k h = ap (λ how. items_nodes (items_unsupplied ts) w how (held_kind k)) (items_of_unsupplied k ts) ∙ items_nodes_unsupplied ts w (items_of k ts) (held_kind k) h.1
   nodes_unsupplied (fields n ts) w k h = ap (signed_in k n) (fields_nodes_unsupplied ts w (rows n) (sound n) h.1)
+  nodes_unsupplied _ w k h = refl
 
   items_nodes_unsupplied : (ts : Trees) (w : SpecVersion) (how : Items) (k : Kind) → HaveShape ts k → items_nodes (items_unsupplied ts) w how k ≡ items_nodes ts w how k
   items_nodes_unsupplied none w how k h = refl

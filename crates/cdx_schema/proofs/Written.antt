@@ -6,7 +6,7 @@ use Rattle.cdx_models.specs.declared.bom.SpecVersion.{SpecVersion}
 use Rattle.cdx_models.specs.declared.bom.SpecVersion.TheVariants.{V1_3, V1_4, V1_5}
 use Rattle.cdx_models.specs.Versions.{knows}
 use Rattle.cdx_models.specs.Trees.{Name, service_data, Tree, absent, text, number, boolean, items, fields, Trees, none, more, is_absent}
-use Rattle.cdx_schema.specs.Kinds.{Kind, a_text, a_list, a_tools, a_data, a_bill, Need, Spelled, attribute, attribute_or, content, one_text, as_cdata, child, filled_child, children, either_child, the_version, Row}
+use Rattle.cdx_schema.specs.Kinds.{Kind, a_text, a_list, a_tools, a_data, a_bill, Need, Spelled, attribute, attribute_or, content, one_text, as_cdata, child, filled_child, children, either_child, Row}
 use Rattle.cdx_schema.specs.Table.{rows, list}
 use Rattle.cdx_schema.specs.Held.{held_kind}
 use Rattle.cdx_models.specs.Entries.{is_flow}
@@ -40,13 +40,10 @@ mutual
   unfolding kept settled
 
   low : (w l : SpecVersion) (t : Tree) (k : Kind) → is_low w ≡ true → kept w l (settled t k) k ≡ kept w l t k
-  low w l absent k h = refl
-  low w l (text s) k h = refl
-  low w l (number n) k h = refl
-  low w l (boolean b) k h = refl
   low w l (items none) k h = low_none w l k h
   low w l (items (more t ts)) k h = ap (λ x. kept w l x k) (settled_more k (settled t (held_kind k)) (items_settled ts (held_kind k))) ∙ ap items (more_is (low w l t (held_kind k) h) (items_low w l ts (held_kind k) h))
   low w l (fields n ts) k h = ap (kept_record w k n) (rows_low w l ts (rows n) h)
+  low w l _ k h = refl
 
   items_low : (w l : SpecVersion) (ts : Trees) (k : Kind) → is_low w ≡ true → items_kept w l (items_settled ts k) k ≡ items_kept w l ts k
   items_low w l none k h = refl
@@ -64,14 +61,10 @@ kept_low w l b c k h e = sym (low w l b k h) ∙ (ap (λ x. kept w l x k) e ∙ 
 
 settled_text : (t : Tree) (k : Kind) → text_of (settled t k) ≡ text_of t
 unfolding settled
-settled_text absent k = refl
-settled_text (text s) k = refl
-settled_text (number s) k = refl
-settled_text (boolean s) k = refl
 settled_text (items none) a_tools = refl
 settled_text (items (more t ts)) a_tools = refl
 settled_text (items ts) _ = refl
-settled_text (fields n ts) k = refl
+settled_text _ k = refl
 
 attribute_alike : (q : List ℕ) (t u : Tree) → is_absent t ≡ is_absent u → text_of t ≡ text_of u → attribute_of q t ≡ attribute_of q u
 attribute_alike q t u a b = rw (a, b) refl
@@ -98,12 +91,9 @@ list_attributes _ ts w = refl
 
 of_settled : (t : Tree) (w : SpecVersion) (k : Kind) → attributes_of (settled t k) w k ≡ attributes_of t w k
 unfolding settled
-of_settled absent w k = refl
-of_settled (text s) w k = refl
-of_settled (number s) w k = refl
-of_settled (boolean s) w k = refl
 of_settled (items ts) w k = list_attributes k (items_settled ts (held_kind k)) w
 of_settled (fields n ts) w k = ap (ordered n) (attributes_settled ts (rows n) w)
+of_settled _ w k = refl
 
 list_tag : (k : Kind) (ts : Trees) (tag : List ℕ) → tag_of k (settled_items k ts) tag ≡ tag
 list_tag a_tools none tag = refl
@@ -112,12 +102,8 @@ list_tag _ ts tag = refl
 
 tag_settled : (t : Tree) (k : Kind) (tag : List ℕ) → tag_of k (settled t k) tag ≡ tag_of k t tag
 unfolding settled
-tag_settled absent k tag = refl
-tag_settled (text s) k tag = refl
-tag_settled (number s) k tag = refl
-tag_settled (boolean s) k tag = refl
 tag_settled (items ts) k tag = list_tag k (items_settled ts (held_kind k)) tag
-tag_settled (fields n ts) k tag = refl
+tag_settled _ k tag = refl
 
 pub wrapped_alike : (t u : Tree) (w : SpecVersion) (tag : List ℕ) (k : Kind) (xs ys : Nodes) → tag_of k t tag ≡ tag_of k u tag → attributes_of t w k ≡ attributes_of u w k → xs ≡ ys → wrapped t w tag k xs ≡ wrapped u w tag k ys
 wrapped_alike t u w tag k xs ys a b c = rw (a, b, c) refl
@@ -138,13 +124,9 @@ in_flow_settled t w k xs ys e = ap (λ x. plain_element (codes "dataflow") [] (l
 
 flow_settled : (t : Tree) (w : SpecVersion) (k : Kind) (xs ys : Nodes) → xs ≡ ys → flow_of (settled t k) w k xs ≡ flow_of t w k ys
 unfolding settled
-flow_settled absent w k xs ys e = in_flow_settled absent w k xs ys e
-flow_settled (text s) w k xs ys e = in_flow_settled (text s) w k xs ys e
-flow_settled (number s) w k xs ys e = in_flow_settled (number s) w k xs ys e
-flow_settled (boolean s) w k xs ys e = in_flow_settled (boolean s) w k xs ys e
 flow_settled (items ts) w k xs ys e = list_flow k (items_settled ts (held_kind k)) w xs ∙ in_flow_settled (items ts) w k xs ys e
 flow_settled (fields service_data ts) w k xs ys e = wrapped_settled (fields service_data ts) w (codes "dataflow") k xs ys e
-flow_settled (fields n ts) w k xs ys e = in_flow_settled (fields n ts) w k xs ys e
+flow_settled t w k xs ys e = in_flow_settled t w k xs ys e
 
 item_settled : (how : Items) (t : Tree) (w : SpecVersion) (k : Kind) (xs ys : Nodes) → xs ≡ ys → item_node how (settled t k) w k xs ≡ item_node how t w k ys
 item_settled (named tag) t w k xs ys e = wrapped_settled t w tag k xs ys e
@@ -185,8 +167,6 @@ none_nodes w _ = refl
 
 pub row_nodes_alike : (x : Spelled) (n : Need) (t u : Tree) (w : SpecVersion) (k : Kind) (xs ys : Nodes) → sound_xml x n k ≡ true → (whole_kind k ≡ true → is_hollow t ≡ is_hollow u) → text_of t ≡ text_of u → ((tag : List ℕ) → wrapped t w tag k xs ≡ wrapped u w tag k ys) → xs ≡ ys
     → row_nodes x t w k xs ≡ row_nodes x u w k ys
-row_nodes_alike (attribute q) n t u w k xs ys s h b f e = refl
-row_nodes_alike (attribute_or q m) n t u w k xs ys s h b f e = refl
 row_nodes_alike content n t u w k xs ys s h b f e = e
 row_nodes_alike one_text n t u w k xs ys s h b f e = e
 row_nodes_alike as_cdata n t u w k xs ys s h b f e = ap (λ x. lone (cdata x)) b
@@ -194,7 +174,7 @@ row_nodes_alike (child q) n t u w k xs ys s h b f e = ap lone (f q)
 row_nodes_alike (filled_child q) n t u w k xs ys s h b f e = rw (h (filled_whole n k s), f q) refl
 row_nodes_alike (children q) n t u w k xs ys s h b f e = e
 row_nodes_alike (either_child q m) n t u w k xs ys s h b f e = ap lone (f q)
-row_nodes_alike the_version n t u w k xs ys s h b f e = refl
+row_nodes_alike _ n t u w k xs ys s h b f e = refl
 
 pub join_alike : (b c : Bool) (x y xs ys : Nodes) → b ≡ c → x ≡ y → xs ≡ ys → ((if b then no_nodes else x) ⊕ xs) ≡ ((if c then no_nodes else y) ⊕ ys)
 join_alike b c x y xs ys p q r = rw (p, q, r) refl
@@ -206,10 +186,6 @@ mutual
   unfolding nodes_of settled
 
   nodes_settled : (t : Tree) (w : SpecVersion) (k : Kind) → nodes_of (settled t k) w k ≡ nodes_of t w k
-  nodes_settled absent w k = refl
-  nodes_settled (text s) w k = refl
-  nodes_settled (number s) w k = refl
-  nodes_settled (boolean s) w k = refl
   nodes_settled (items none) w k = none_nodes w k
   nodes_settled (items (more t ts)) w k =
       ap (λ x. nodes_of x w k) (settled_more k (settled t (held_kind k)) (items_settled ts (held_kind k)))
@@ -218,6 +194,7 @@ mutual
       (items_nodes (items_settled ts (held_kind k)) w (items_of k (more t ts)) (held_kind k)) (items_nodes ts w (items_of k (more t ts)) (held_kind k))
       (passed_settled t (held_kind k)) (ap lone (item_settled (items_of k (more t ts)) t w (held_kind k) (nodes_of (settled t (held_kind k)) w (held_kind k)) (nodes_of t w (held_kind k)) (nodes_settled t w (held_kind k)))) (items_nodes_settled ts w (items_of k (more t ts)) (held_kind k)))
   nodes_settled (fields n ts) w k = ap (signed_in k n) (fields_nodes_settled ts w (rows n) (sound n))
+  nodes_settled _ w k = refl
 
   items_nodes_settled : (ts : Trees) (w : SpecVersion) (how : Items) (k : Kind) → items_nodes (items_settled ts k) w how k ≡ items_nodes ts w how k
   items_nodes_settled none w how k = refl

@@ -6,14 +6,14 @@ use mathlib.Core.Path.{ap, sym, ◌∙◌, subst}
 use native.Mathlib.Omega.{arith}
 use Rattle.cdx_models.specs.declared.bom.SpecVersion.{SpecVersion}
 use Rattle.cdx_models.specs.Versions.{knows}
-use Rattle.cdx_models.specs.Trees.{Name, hash, property, attached_text, contact, entity, commit, action, patch, diff, issue, source, reference, dependency, composition, license, expression, spdx_id, license_name, tool, component, swid, pedigree, evidence, copyright, service, classification, service_data, tools_object, metadata, signer, signers, chain, bill, Tree, absent, text, boolean, items, fields, Trees, none, more, one, ◌⧺◌, is_absent, field, with_field}
-use Rattle.cdx_schema.specs.Kinds.{Lists, Kind, a_text, a_reference, a_boolean, a_list, a_record, Rule, Spelled, attribute, attribute_or, content, one_text, as_cdata, child, filled_child, children, either_child, the_version, Row}
+use Rattle.cdx_models.specs.Trees.{Name, hash, Tree, absent, text, boolean, items, fields, Trees, none, more, one, ◌⧺◌, is_absent, field, with_field}
+use Rattle.cdx_schema.specs.Kinds.{Lists, Kind, a_text, a_reference, a_boolean, a_list, a_record, Rule, Spelled, child, filled_child, children, either_child, Row}
 use Rattle.cdx_schema.specs.Table.{rows, rule}
 use Rattle.cdx_schema.specs.Results.{◌>>=◌}
 use Rattle.cdx_schema.specs.Depth.{Depth, inside, name_too_deep}
 use Rattle.cdx_schema.specs.Held.{held_kind}
 use Rattle.cdx_schema.specs.XmlReading.{xread, nodes_read, node_read, Plan, Child, Place, last, once, all, find_child, row_children, children_from, stored, appended, is_second, plan_of_list, list_of, lacks, owed, filled, ended, attributes_read, in_force, content_from, no_content, content_read, Element, end_of}
-use Rattle.cdx_schema.specs.XmlSpelling.{nodes_of, fields_nodes, row_nodes, wrapped, lone, tag_of, plain_element, attributes_of}
+use Rattle.cdx_schema.specs.XmlSpelling.{nodes_of, fields_nodes, row_nodes, wrapped, lone, attributes_of}
 use Rattle.cdx_schema.proofs.JsonBack.{is_in, distinct, same_itself, or_false, if_true, if_false, not_in_append, apart_first, is_in_first}
 use Rattle.cdx_schema.proofs.Groups.{nodes_in_groups, count}
 use Rattle.cdx_events.specs.declared.name.OwnedAttribute.{OwnedAttribute}
@@ -57,18 +57,13 @@ find_none_row w q i r h = by r.xml h
     passed n k place' cs e = passes_first w q (record { name = n; since = r.since; kind = k; field = i; place = place' }) cs e
 
     by : (x : Spelled) → is_in q (child_names x) ≡ false → find_child w q (row_children i (record r { xml = x })) ≡ None
-    by (attribute n) e = refl
-    by (attribute_or n m) e = refl
-    by content e = refl
-    by one_text e = refl
-    by as_cdata e = refl
     by (child n) e = passed n r.kind last [] (or_false (bytes_eq q n) false e).0
     by (filled_child n) e = passed n r.kind last [] (or_false (bytes_eq q n) false e).0
     by (children n) e = passed n (held_kind r.kind) all [] (or_false (bytes_eq q n) false e).0
     by (either_child m n) e =
         passed m r.kind once (record { name = n; since = r.since; kind = r.kind; field = i; place = once } ∷ []) (or_false (bytes_eq q m) (is_in q (n ∷ [])) e).0
         ∙ passed n r.kind once [] (or_false (bytes_eq q n) false (or_false (bytes_eq q m) (is_in q (n ∷ [])) e).1).0
-    by the_version e = refl
+    by _ e = refl
 
 pub find_none : (w : SpecVersion) (q : List ℕ) (i : ℕ) (rs : List Row) → is_in q (all_child_names rs) ≡ false → find_child w q (children_from i rs) ≡ None
 find_none w q i [] h = refl
@@ -117,20 +112,6 @@ pub node_step : (plan : Plan) (around : List ℕ) (w : SpecVersion) (d : Depth) 
     → nodes_read (lone (element n as' default xs)) plan around w d p ts ≡ Ok (stored c.place c.field u ts)
 unfolding xread
 node_step plan around w d p n as' default xs c u ts found first read = rw (found, first, read) refl
-
--- A row's nodes set its field.
-abbrev pub Sets : Plan → List ℕ → SpecVersion → Depth → Trees → Trees → Nodes → Tree → Tree → Type 0
-Sets plan around w d before_it rest xs t u = (p : ℕ) → nodes_read xs plan around w d p (before_it ⧺ more t rest) ≡ Ok (before_it ⧺ more u rest)
-
-pub child_sets : (front : List Row) (r : Row) (rs : List Row) (rule' : Rule) (around : List ℕ) (w : SpecVersion) (d : Depth) (before_it rest : Trees) (name : List ℕ) (as' : List OwnedAttribute) (xs : Nodes) (t u : Tree)
-    → count before_it ≡ length front → r.xml ≡ child name → is_in name (all_child_names front) ≡ false → knows r.since w ≡ true
-    → ((p : ℕ) → xread (plain_element name as' xs) w r.kind p d ≡ Ok u)
-    → Sets (record { rule = rule'; children = children_from 0 (front ++ r ∷ rs) }) around w d before_it rest (lone (plain_element name as' xs)) t u
-child_sets front r rs rule' around w d before_it rest name as' xs t u same spelled before known read p =
-    node_step _ around w d p _ as' _ xs (record { name = name; since = r.since; kind = r.kind; field = length front; place = last }) u (before_it ⧺ more t rest)
-    (find_row w name front r rs _ before (λ cs. subst (λ (x : Spelled). find_child w name (row_children (length front) (record r { xml = x }) ++ cs) ≡ Some (record { name = name; since = r.since; kind = r.kind; field = length front; place = last })) (sym spelled) (finds_first w name _ cs (same_itself name) known)))
-    refl (read p)
-    ∙ ap Ok (ap (λ i. with_field i u (before_it ⧺ more t rest)) (sym same) ∙ with_field_at before_it rest t u)
 
 -- ---- the rows one after the other
 
@@ -204,16 +185,6 @@ silent_row w d t r c silent front rs rule' around ds rest p same apart' = ap (λ
 -- A kind's element is read as u, under whatever name it is written.
 abbrev pub IsXRead : SpecVersion → Depth → Tree → Kind → Tree → Type 0
 IsXRead w d t k u = (tag : List ℕ) (p : ℕ) → xread (wrapped t w tag k (nodes_of t w k)) w k p d ≡ Ok u
-
-pub child_row : (w : SpecVersion) (d : Depth) (t : Tree) (r : Row) (c u : Tree) (name : List ℕ) → r.xml ≡ child name → knows r.since w ≡ true → is_absent t ≡ false
-    → tag_of r.kind t name ≡ name → IsXRead w d t r.kind u → RowRead w d t r c u
-unfolding xread
-child_row w d t r c u name spelled known there tagged read front rs rule' around ds rest p same apart' =
-    ap (λ xs. nodes_read xs (plan_of rule' (front ++ r ∷ rs)) around w d p (ds ⧺ more c rest))
-    (if_true (knows r.since w && not (is_absent t)) _ _ (rw (known, there) refl) ∙ (ap (λ x. row_nodes x t w r.kind (nodes_of t w r.kind)) spelled ∙ ap (λ n. lone (plain_element n (attributes_of t w r.kind) (nodes_of t w r.kind))) tagged))
-    ∙ child_sets front r rs rule' around w d ds rest name (attributes_of t w r.kind) (nodes_of t w r.kind) c u same spelled
-    (apart' name (subst (λ (x : Spelled). is_in name (child_names x) ≡ true) (sym spelled) (rw (same_itself name) refl))) known
-    (λ q. ap (λ n. xread (plain_element n (attributes_of t w r.kind) (nodes_of t w r.kind)) w r.kind q d) (sym tagged) ∙ read name q) p
 
 -- ---- children that are appended
 
@@ -323,55 +294,12 @@ unfolding xread nodes_of
 boolean_xread w d true tag p = refl
 boolean_xread w d false tag p = refl
 
-pub hash_xread : (w : SpecVersion) (d : Depth) (a c : List ℕ) → IsXRead w d (fields hash (more (text a) (one (text c)))) (a_record hash) (fields hash (more (text a) (one (text c))))
-unfolding xread nodes_of rows attributes_read ended
-hash_xread w d a c tag p = refl
-
-pub copyright_xread : (w : SpecVersion) (d : Depth) (c : List ℕ) → IsXRead w d (fields copyright (one (text c))) (a_record copyright) (fields copyright (one (text c)))
-unfolding xread nodes_of rows attributes_read ended
-copyright_xread w d c tag p = refl
-
-pub class_xread : (w : SpecVersion) (d : Depth) (f c : List ℕ) → IsXRead w d (fields classification (more (text f) (one (text c)))) (a_record classification) (fields classification (more (text f) (one (text c))))
-unfolding xread nodes_of rows attributes_read ended
-class_xread w d f c tag p = refl
-
 -- ---- the table: no two children of a record have one name
 
 pub child_names_distinct : (n : Name) → distinct (all_child_names (rows n)) ≡ true
 unfolding rows
 child_names_distinct hash = refl
-child_names_distinct property = refl
-child_names_distinct attached_text = refl
-child_names_distinct contact = refl
-child_names_distinct entity = refl
-child_names_distinct commit = refl
-child_names_distinct action = refl
-child_names_distinct patch = refl
-child_names_distinct diff = refl
-child_names_distinct issue = refl
-child_names_distinct source = refl
-child_names_distinct reference = refl
-child_names_distinct dependency = refl
-child_names_distinct composition = refl
-child_names_distinct license = refl
-child_names_distinct expression = refl
-child_names_distinct spdx_id = refl
-child_names_distinct license_name = refl
-child_names_distinct tool = refl
-child_names_distinct component = refl
-child_names_distinct swid = refl
-child_names_distinct pedigree = refl
-child_names_distinct evidence = refl
-child_names_distinct copyright = refl
-child_names_distinct service = refl
-child_names_distinct classification = refl
-child_names_distinct service_data = refl
-child_names_distinct tools_object = refl
-child_names_distinct metadata = refl
-child_names_distinct signer = refl
-child_names_distinct signers = refl
-child_names_distinct chain = refl
-child_names_distinct bill = refl
+child_names_distinct _ = refl
 
 -- ---- the children of a row
 

@@ -7,8 +7,8 @@ use native.Mathlib.Omega.{arith}
 use Rattle.cdx_models.specs.declared.bom.SpecVersion.{SpecVersion}
 use Rattle.cdx_models.specs.declared.bom.SpecVersion.TheVariants.{V1_3, V1_4, V1_5}
 use Rattle.cdx_models.specs.Versions.{knows, label}
-use Rattle.cdx_models.specs.Trees.{Name, hash, property, attached_text, contact, entity, commit, action, patch, diff, issue, source, reference, dependency, composition, license, expression, tool, component, swid, pedigree, evidence, copyright, service, classification, service_data, tools_object, metadata, signer, signers, chain, bill, Tree, absent, text, number, boolean, items, fields, Trees, none, more, one, two, ◌⧺◌, is_absent, field, with_field}
-use Rattle.cdx_schema.specs.Kinds.{Lists, hashes, properties, urls, contacts, commits, patches, resolved, links, external_references, dependencies, depended, compositions, assemblies, composed, vulnerabilities, licenses, components, services, copyright_texts, endpoints, authors, tool_list, signer_list, chain_list, classifications, flows, Kind, strict, a_reference, a_signature, a_version, an_entry, a_bill, a_text, a_boolean, a_number, a_list, a_record, a_tools, a_data, a_license_choice, a_license_identifier, Need, optional, required, required_first, else_empty, Spelled, attribute, attribute_or, content, one_text, as_cdata, child, filled_child, children, either_child, the_version, Row}
+use Rattle.cdx_models.specs.Trees.{Name, hash, property, attached_text, license, expression, tool, copyright, classification, service_data, tools_object, signer, signers, chain, bill, Tree, absent, text, number, boolean, items, fields, Trees, none, more, one, two, ◌⧺◌, is_absent, field, with_field}
+use Rattle.cdx_schema.specs.Kinds.{Lists, hashes, licenses, components, services, tool_list, Kind, strict, a_reference, a_signature, a_version, an_entry, a_bill, a_text, a_boolean, a_number, a_list, a_record, a_tools, a_data, a_license_choice, a_license_identifier, Need, optional, required, required_first, else_empty, Spelled, attribute, attribute_or, content, one_text, as_cdata, child, filled_child, children, either_child, the_version, Row}
 use Rattle.cdx_schema.specs.Table.{rows, list, row, must, from, at, of, each, respelled_reference, class_row}
 use Rattle.cdx_schema.specs.Results.{◌>>=◌}
 use Rattle.cdx_schema.specs.Faults.{lacking}
@@ -17,15 +17,14 @@ use Rattle.cdx_schema.specs.Held.{held_kind}
 use Rattle.cdx_models.specs.Entries.{is_flow}
 use Rattle.cdx_schema.specs.XmlTexts.{of_text, text_of, number_of, number_tree}
 use Rattle.cdx_schema.specs.XmlReading.{xread, nodes_read, Plan, Child, Place, last, once, all, stored, is_second, row_children, find_child, find_attribute, attributes_read, attribute_read, attribute_or_read, parsed, row_attribute, filled, lacks, owed, ended, in_force, content_from, no_content, plan_of_list, tools_plan, tools_of, signature_plan, signature_of, data_plan, data_of, Element}
-use Rattle.cdx_schema.specs.XmlSpelling.{nodes_of, fields_nodes, row_nodes, wrapped, attributes_in, row_attributes, attribute_of, tag_of, plain_element, attributes_of, lone, spelled, items_nodes, named, as_flows, any_flow, flow_of, name_in, plain_name}
+use Rattle.cdx_schema.specs.XmlSpelling.{nodes_of, fields_nodes, row_nodes, wrapped, attributes_in, row_attributes, attribute_of, tag_of, plain_element, attributes_of, lone, items_nodes, named, as_flows, any_flow, flow_of, name_in, plain_name}
 use Rattle.cdx_schema.specs.Trips.{is_hollow, is_passed_over, field_after, none_is_absent}
 use Rattle.cdx_schema.specs.JsonReading.{is_required, when_nothing}
 use Rattle.cdx_schema.specs.JsonSpelling.{is_written}
 use Rattle.cdx_schema.proofs.JsonBack.{is_in, distinct, same_itself, or_false, if_true, if_false, not_in_append, apart, apart_first, is_in_first, is_in_later, distinct_later, Held, IsRecordHeld, IsTextHeld, IsNumberHeld, AllHeld, FieldsHeld, RowHeld, same_name, err_ok, identifier_of, and_true, held_text, one_text_of, two_texts_of, class_of, required_held}
-use Rattle.cdx_schema.proofs.HeldKept.{held_there, held_kept, fits_first}
-use Rattle.cdx_schema.specs.Keeping.{keep, fits, is_shallow}
+use Rattle.cdx_schema.proofs.HeldKept.{held_there}
 use Rattle.cdx_models.specs.Trees.{spdx_id, license_name}
-use Rattle.cdx_schema.specs.Membership.{Never, HasShape, IsListOf, IsBooleanOf}
+use Rattle.cdx_schema.specs.Membership.{Never, IsListOf, IsBooleanOf}
 use Rattle.cdx_schema.proofs.XmlBack.{finds_first, plan_of, node_step, find_row, field_at, with_field_at, child_names, RowRead, RowsRead, Ends, IsXRead, silent_row, items_row, gathered, row_written, SetItems, SetsItem, gather, list_is, rows_read, record_xread, child_names_distinct, list_xread, text_xread, reference_xread, boolean_xread}
 use Rattle.cdx_events.specs.declared.name.OwnedAttribute.{OwnedAttribute}
 use Rattle.cdx_events.specs.Nodes.{Node, Nodes, characters, no_nodes}
@@ -87,14 +86,7 @@ skip_row q r t w as' h = at (knows r.since w)
     by : (x : Spelled) → is_in q (attribute_names x) ≡ false → find_attribute q (row_attributes (record r { xml = x }) t ++ as') ≡ find_attribute q as'
     by (attribute n) e = skip_one q n t as' (or_false (bytes_eq q n) false e).0
     by (attribute_or n m) e = skip_one q n t as' (or_false (bytes_eq q n) false e).0
-    by content e = refl
-    by one_text e = refl
-    by as_cdata e = refl
-    by (child n) e = refl
-    by (filled_child n) e = refl
-    by (children n) e = refl
-    by (either_child m n) e = refl
-    by the_version e = refl
+    by _ e = refl
 
     at : (b : Bool) → find_attribute q ((if b then row_attributes r t else []) ++ as') ≡ find_attribute q as'
     at true = by r.xml h
@@ -245,15 +237,12 @@ second_fields w (more t ts) (r ∷ rs) = more (second_field w r t) (second_field
 pub tripped_there : (w : SpecVersion) (t : Tree) (k : Kind) → is_absent t ≡ false → is_absent (tripped w t k) ≡ false
 unfolding tripped
 tripped_there w absent k h = h
-tripped_there w (text s) k h = refl
-tripped_there w (number s) k h = refl
-tripped_there w (boolean s) k h = refl
 tripped_there w (items ts) k h = by k w (items_tripped w ts (held_kind k))
   where
     by : (l : Kind) (v : SpecVersion) (us : Trees) → is_absent (list_after l v us) ≡ false
     by a_tools V1_5 none = refl
     by l v us = refl
-tripped_there w (fields n ts) k h = refl
+tripped_there w _ k h = refl
 
 -- Rows whose children the law speaks of.
 abbrev pub is_optional : Need → Bool
@@ -268,13 +257,6 @@ abbrev pub is_else_empty : Need → Bool
 is_else_empty else_empty = true
 is_else_empty _ = false
 
-abbrev pub is_well : Row → Spelled → Bool
-is_well r (child n) = not (is_else_empty r.need)
-is_well r (filled_child n) = is_optional r.need
-is_well r (children n) = is_list_kind r.kind
-is_well r (either_child m n) = not (is_else_empty r.need)
-is_well r _ = true
-
 pub not_required : (n : Need) (w : SpecVersion) (t : Tree) → when_nothing n w ≡ Ok t → is_required n w ≡ false
 not_required optional w t h = refl
 not_required required w t h = absurd (err_ok h)
@@ -285,11 +267,7 @@ not_required required_first V1_5 t h = refl
 
 pub absent_is : (t : Tree) → is_absent t ≡ true → t ≡ absent
 absent_is absent h = refl
-absent_is (text s) h = absurd (true≢false (sym h))
-absent_is (number s) h = absurd (true≢false (sym h))
-absent_is (boolean s) h = absurd (true≢false (sym h))
-absent_is (items s) h = absurd (true≢false (sym h))
-absent_is (fields n s) h = absurd (true≢false (sym h))
+absent_is _ h = absurd (true≢false (sym h))
 
 pub not_false : (b : Bool) → not b ≡ false → b ≡ true
 not_false true h = refl
@@ -302,10 +280,8 @@ row_cases w d t r well (inl h) = inl (h.1, inl h.0)
 row_cases w d t r well (inr (inl h)) = inl (absent_is t (by r.need well h.1), inr (not_required r.need w t h.2))
   where
     by : (n : Need) → not (is_else_empty n) ≡ true → is_written n t ≡ false → is_absent t ≡ true
-    by optional e f = not_false (is_absent t) f
-    by required e f = not_false (is_absent t) f
-    by required_first e f = not_false (is_absent t) f
     by else_empty e f = absurd (true≢false (sym e))
+    by _ e f = not_false (is_absent t) f
 row_cases w d t r well (inr (inr h)) = inr (h.0, held_there w d t r.kind h.2, h.2)
 
 pub and_false : (b : Bool) → (b && false) ≡ false
@@ -352,14 +328,10 @@ is_plain a_license_identifier = false
 is_plain _ = true
 
 pub tag_plain : (k : Kind) (t : Tree) (tag : List ℕ) → is_plain k ≡ true → tag_of k t tag ≡ tag
-tag_plain k absent tag h = refl
-tag_plain k (text s) tag h = refl
-tag_plain k (number s) tag h = refl
-tag_plain k (boolean s) tag h = refl
-tag_plain k (items s) tag h = refl
 tag_plain a_license_choice (fields n ts) tag h = absurd (true≢false (sym h))
 tag_plain a_license_identifier (fields n ts) tag h = absurd (true≢false (sym h))
 tag_plain _ (fields n ts) tag h = refl
+tag_plain k _ tag h = refl
 
 pub wrapped_plain : (w : SpecVersion) (t : Tree) (tag : List ℕ) (k : Kind) (xs : Nodes) → is_plain k ≡ true → wrapped t w tag k xs ≡ plain_element tag (attributes_of t w k) xs
 wrapped_plain w t tag k xs h = ap (λ n. plain_element n (attributes_of t w k) xs) (tag_plain k t tag h)
@@ -433,9 +405,7 @@ list_row_held w d r ts (inr (inl h)) = by r.need ts h.1
     by : (n : Need) (us : Trees) → is_written n (items us) ≡ false → AllHeld w d us (held_kind r.kind)
     by else_empty none e = tt
     by else_empty (more u us) e = absurd (true≢false e)
-    by optional us e = absurd (true≢false e)
-    by required us e = absurd (true≢false e)
-    by required_first us e = absurd (true≢false e)
+    by _ us e = absurd (true≢false e)
 list_row_held w d r ts (inr (inr h)) = h.2.1
 
 -- what else a row of children can't hold
@@ -462,30 +432,22 @@ children_row_back w d (text s) l n r e x name h f = absurd (true≢false (no_lea
   where
     by : (m : Need) → is_written m (text s) ≡ true
     by optional = refl
-    by required = refl
-    by required_first = refl
-    by else_empty = refl
+    by _ = refl
 children_row_back w d (number s) l n r e x name h f = absurd (true≢false (no_leaf w d r (number s) refl (λ m. by m) (λ g. subst (λ (k : Kind). Held w d (number s) k) e g) h))
   where
     by : (m : Need) → is_written m (number s) ≡ true
     by optional = refl
-    by required = refl
-    by required_first = refl
-    by else_empty = refl
+    by _ = refl
 children_row_back w d (boolean s) l n r e x name h f = absurd (true≢false (no_leaf w d r (boolean s) refl (λ m. by m) (λ g. subst (λ (k : Kind). Held w d (boolean s) k) e g) h))
   where
     by : (m : Need) → is_written m (boolean s) ≡ true
     by optional = refl
-    by required = refl
-    by required_first = refl
-    by else_empty = refl
+    by _ = refl
 children_row_back w d (fields m s) l n r e x name h f = absurd (true≢false (no_leaf w d r (fields m s) refl (λ q. by q) (λ g. (subst (λ (k : Kind). Held w d (fields m s) k) e g).0) h))
   where
     by : (q : Need) → is_written q (fields m s) ≡ true
     by optional = refl
-    by required = refl
-    by required_first = refl
-    by else_empty = refl
+    by _ = refl
 
 -- ---- any row
 
@@ -520,15 +482,9 @@ reads_well n k (children q) = is_listed n && is_well_list k q
 reads_well n k (either_child p q) = not (is_else_empty n) && (is_identifier k && (bytes_eq p (codes "id") && bytes_eq q (codes "name")))
 reads_well n k _ = false
 
-abbrev pub all_read_well : List Row → Bool
-all_read_well [] = true
-all_read_well (r ∷ rs) = reads_well r.need r.kind r.xml && all_read_well rs
-
 pub optional_cases : (n : Need) → is_optional n ≡ true → not (is_else_empty n) ≡ true
-optional_cases optional h = refl
-optional_cases required h = refl
-optional_cases required_first h = refl
 optional_cases else_empty h = sym (sym h)
+optional_cases _ h = refl
 
 pub spdx_id_row : (w : SpecVersion) (d : Depth) (s : List ℕ) (r : Row) → r.xml ≡ either_child (codes "id") (codes "name") → r.kind ≡ a_license_identifier → knows r.since w ≡ true
     → RowRead w d (fields spdx_id (one (text s))) r absent (tripped w (fields spdx_id (one (text s))) r.kind)
@@ -595,7 +551,6 @@ row_back w d t r well h f g = by r.xml refl well
 
     by : (x : Spelled) → r.xml ≡ x → reads_well r.need r.kind x ≡ true → RowRead w d t r (first_at w x t) (second_at w x r.kind t)
     by (attribute n) e v = silent_row w d t r t (silent (attribute n) e refl)
-    by (attribute_or n m) e v = absurd (true≢false (sym v))
     by (child n) e v =
         let p : (not (is_else_empty r.need) ≡ true) × (is_well_kind r.kind ≡ true) = and_true (not (is_else_empty r.need)) (is_well_kind r.kind) v in
         let q : (is_plain r.kind ≡ true) × (is_elem r.kind ≡ true) = and_true (is_plain r.kind) (is_elem r.kind) p.1 in
@@ -617,10 +572,7 @@ row_back w d t r well h f g = by r.xml refl well
         identifier_kind : (k : Kind) → is_identifier k ≡ true → k ≡ a_license_identifier
         identifier_kind a_license_identifier i = refl
         identifier_kind _ i = absurd (true≢false (sym i))
-    by content e v = absurd (true≢false (sym v))
-    by one_text e v = absurd (true≢false (sym v))
-    by as_cdata e v = absurd (true≢false (sym v))
-    by the_version e v = absurd (true≢false (sym v))
+    by _ e v = absurd (true≢false (sym v))
 
 pub gone : (w : SpecVersion) (t : Tree) (k : Kind) → t ≡ absent → t ≡ tripped w t k
 unfolding tripped
@@ -630,19 +582,13 @@ gone w t k h = subst (λ (x : Tree). x ≡ tripped w x k) (sym h) refl
 
 pub optional_not : (n : Need) (w : SpecVersion) → is_optional n ≡ true → is_required n w ≡ false
 optional_not optional w h = refl
-optional_not required w h = absurd (true≢false (sym h))
-optional_not required_first w h = absurd (true≢false (sym h))
-optional_not else_empty w h = absurd (true≢false (sym h))
+optional_not _ w h = absurd (true≢false (sym h))
 
 pub lacks_optional : (w : SpecVersion) (r : Row) (u : Tree) (q : List ℕ) → is_optional r.need ≡ true → lacks (Some q) r u w ≡ false
 lacks_optional w r u q h = rw (optional_not r.need w h) refl
 
 pub leaf_same : (w : SpecVersion) (d : Depth) (t : Tree) (k : Kind) → is_leaf k ≡ true → Held w d t k → t ≡ tripped w t k
 unfolding tripped
-leaf_same w d absent k l h = refl
-leaf_same w d (text s) k l h = refl
-leaf_same w d (number s) k l h = refl
-leaf_same w d (boolean s) k l h = refl
 leaf_same w d (items ts) k l h = absurd (true≢false (by k l h.0))
   where
     by : (j : Kind) → is_leaf j ≡ true → IsListOf j → Never
@@ -657,6 +603,7 @@ leaf_same w d (fields n ts) k l h = absurd (true≢false (by k l h.0))
     by a_boolean e g = g
     by a_number e g = g
     by _ e g = sym e
+leaf_same w d _ k l h = refl
 
 -- Rows of children that aren't optional are known to every version.
 abbrev pub is_always : Need → SpecVersion → Bool
@@ -687,41 +634,31 @@ list_end w d absent r n l e listed always h = by r.need r.since listed always h
 list_end w d (items ts) r n l e listed always h = by r.need listed (items_tripped w ts (list l).kind)
   where
     by : (m : Need) → is_listed m ≡ true → (us : Trees) → filled (record r { xml = children n; need = m }) (gathered us) ≡ none_is_absent m (items us)
-    by optional i none = refl
     by optional i (more u us) = refl
-    by required i none = refl
     by required i (more u us) = refl
     by required_first i us = absurd (true≢false (sym i))
-    by else_empty i none = refl
     by else_empty i (more u us) = refl
+    by _ i none = refl
 list_end w d (text s) r n l e listed always h = absurd (true≢false (no_leaf w d r (text s) refl (λ m. by m) (λ g. subst (λ (k : Kind). Held w d (text s) k) e g) h))
   where
     by : (m : Need) → is_written m (text s) ≡ true
     by optional = refl
-    by required = refl
-    by required_first = refl
-    by else_empty = refl
+    by _ = refl
 list_end w d (number s) r n l e listed always h = absurd (true≢false (no_leaf w d r (number s) refl (λ m. by m) (λ g. subst (λ (k : Kind). Held w d (number s) k) e g) h))
   where
     by : (m : Need) → is_written m (number s) ≡ true
     by optional = refl
-    by required = refl
-    by required_first = refl
-    by else_empty = refl
+    by _ = refl
 list_end w d (boolean s) r n l e listed always h = absurd (true≢false (no_leaf w d r (boolean s) refl (λ m. by m) (λ g. subst (λ (k : Kind). Held w d (boolean s) k) e g) h))
   where
     by : (m : Need) → is_written m (boolean s) ≡ true
     by optional = refl
-    by required = refl
-    by required_first = refl
-    by else_empty = refl
+    by _ = refl
 list_end w d (fields m s) r n l e listed always h = absurd (true≢false (no_leaf w d r (fields m s) refl (λ q. by q) (λ g. (subst (λ (k : Kind). Held w d (fields m s) k) e g).0) h))
   where
     by : (q : Need) → is_written q (fields m s) ≡ true
     by optional = refl
-    by required = refl
-    by required_first = refl
-    by else_empty = refl
+    by _ = refl
 
 -- ---- rows together
 
@@ -749,7 +686,6 @@ row_end w d t r well always h = by r.xml well always
 
     by : (x : Spelled) → reads_well r.need r.kind x ≡ true → ends_well x r.need r.since ≡ true → IsEnd w t r x
     by (attribute n) v a = let p : (not (is_else_empty r.need) ≡ true) × (is_leaf r.kind ≡ true) = and_true (not (is_else_empty r.need)) (is_leaf r.kind) v in (refl, leaf r.kind p.1 p.0 refl)
-    by (attribute_or n m) v a = absurd (true≢false (sym v))
     by (child n) v a = (lacks_not w d t (tripped w t r.kind) r (Some n) (row_cases w d t r (and_true (not (is_else_empty r.need)) (is_well_kind r.kind) v).0 h) (tripped_there w t r.kind), refl)
     by (filled_child n) v a = (lacks_optional w r _ n (and_true (is_optional r.need) (is_well_kind r.kind) v).0, refl)
     by (children n) v a = (refl, list_kind r.kind refl (and_true (is_listed r.need) (is_well_list r.kind n) v))
@@ -758,10 +694,7 @@ row_end w d t r well always h = by r.xml well always
         list_kind (a_list l) e p = subst (λ (j : Kind). filled (record r { xml = children n }) (regathered (tripped w t j)) ≡ none_is_absent r.need (tripped w t j)) (sym e) (list_end w d t r n l e p.0 a h)
         list_kind _ e p = absurd (true≢false (sym p.1))
     by (either_child m n) v a = (lacks_not w d t (tripped w t r.kind) r (owed (either_child m n)) (row_cases w d t r (and_true (not (is_else_empty r.need)) (is_identifier r.kind && (bytes_eq m (codes "id") && bytes_eq n (codes "name"))) v).0 h) (tripped_there w t r.kind), refl)
-    by content v a = absurd (true≢false (sym v))
-    by one_text v a = absurd (true≢false (sym v))
-    by as_cdata v a = absurd (true≢false (sym v))
-    by the_version v a = absurd (true≢false (sym v))
+    by _ v a = absurd (true≢false (sym v))
 
 pub rows_end : (w : SpecVersion) (d : Depth) (ts : Trees) (rs : List Row) → all_well rs ≡ true → FieldsHeld w d ts rs → Ends w (second_fields w ts rs) rs (rows_tripped w ts rs)
 unfolding tripped
@@ -784,19 +717,15 @@ text_leaf w d t h = let e : (s : List ℕ) × (t ≡ text s) = held_text w d t h
 pub boolean_leaf : (w : SpecVersion) (d : Depth) (t : Tree) → Held w d t a_boolean → of_text a_boolean (text_of t) ≡ Some t
 boolean_leaf w d (boolean true) h = refl
 boolean_leaf w d (boolean false) h = refl
-boolean_leaf w d absent h = absurd (true≢false h)
-boolean_leaf w d (text s) h = absurd (true≢false h)
-boolean_leaf w d (number s) h = absurd (true≢false h)
 boolean_leaf w d (items s) h = absurd (true≢false h.0)
 boolean_leaf w d (fields n s) h = absurd (true≢false h.0)
+boolean_leaf w d _ h = absurd (true≢false h)
 
 pub number_leaf : Decimals → (w : SpecVersion) (d : Depth) (t : Tree) → Held w d t a_number → of_text a_number (text_of t) ≡ Some t
 number_leaf dec w d (number n) h = ap number_tree (dec n h)
-number_leaf dec w d absent h = absurd (true≢false h)
-number_leaf dec w d (text s) h = absurd (true≢false h)
-number_leaf dec w d (boolean s) h = absurd (true≢false h)
 number_leaf dec w d (items s) h = absurd (true≢false h.0)
 number_leaf dec w d (fields n s) h = absurd (true≢false h.0)
+number_leaf dec w d _ h = absurd (true≢false h)
 
 pub leaf_text : Decimals → (w : SpecVersion) (d : Depth) (t : Tree) (k : Kind) → is_leaf k ≡ true → Held w d t k → of_text k (text_of t) ≡ Some t
 leaf_text dec w d t a_text l h = text_leaf w d t h
@@ -815,13 +744,7 @@ attribute_held dec w d t r v h = by r.xml v
     by (attribute n) v' = let p : (not (is_else_empty r.need) ≡ true) × (is_leaf r.kind ≡ true) = and_true (not (is_else_empty r.need)) (is_leaf r.kind) v' in at p.1 (row_cases w d t r p.0 h)
     by (attribute_or n m) v' = absurd (true≢false (sym v'))
     by the_version v' = absurd (true≢false (sym v'))
-    by content v' = tt
-    by one_text v' = tt
-    by as_cdata v' = tt
-    by (child n) v' = tt
-    by (filled_child n) v' = tt
-    by (children n) v' = tt
-    by (either_child m n) v' = tt
+    by _ v' = tt
 
 pub attributes_held : Decimals → (w : SpecVersion) (d : Depth) (ts : Trees) (rs : List Row) → all_well rs ≡ true → FieldsHeld w d ts rs → AttributesHeld w ts rs
 attributes_held dec w d none [] v h = tt
@@ -929,50 +852,12 @@ record_back dec w d spdx_id ts other' deep h f = one_text_back w d spdx_id ts (o
 record_back dec w d license_name ts other' deep h f = one_text_back w d license_name ts (one_text_of w d ts (must (row a_text one_text "name")) refl refl refl h) (name_back w d)
 record_back dec w d expression ts other' deep h f = expression_back w d ts h
 record_back dec w d attached_text ts other' deep h f = attached_back w d ts h
-record_back dec w d contact ts other' deep h f = well_xread dec w d contact ts deep refl refl refl refl h (f refl)
-record_back dec w d entity ts other' deep h f = well_xread dec w d entity ts deep refl refl refl refl h (f refl)
-record_back dec w d commit ts other' deep h f = well_xread dec w d commit ts deep refl refl refl refl h (f refl)
-record_back dec w d action ts other' deep h f = well_xread dec w d action ts deep refl refl refl refl h (f refl)
-record_back dec w d patch ts other' deep h f = well_xread dec w d patch ts deep refl refl refl refl h (f refl)
-record_back dec w d diff ts other' deep h f = well_xread dec w d diff ts deep refl refl refl refl h (f refl)
-record_back dec w d issue ts other' deep h f = well_xread dec w d issue ts deep refl refl refl refl h (f refl)
-record_back dec w d source ts other' deep h f = well_xread dec w d source ts deep refl refl refl refl h (f refl)
-record_back dec w d reference ts other' deep h f = well_xread dec w d reference ts deep refl refl refl refl h (f refl)
-record_back dec w d dependency ts other' deep h f = well_xread dec w d dependency ts deep refl refl refl refl h (f refl)
-record_back dec w d composition ts other' deep h f = well_xread dec w d composition ts deep refl refl refl refl h (f refl)
-record_back dec w d license ts other' deep h f = well_xread dec w d license ts deep refl refl refl refl h (f refl)
-record_back dec w d tool ts other' deep h f = well_xread dec w d tool ts deep refl refl refl refl h (f refl)
-record_back dec w d component ts other' deep h f = well_xread dec w d component ts deep refl refl refl refl h (f refl)
-record_back dec w d swid ts other' deep h f = well_xread dec w d swid ts deep refl refl refl refl h (f refl)
-record_back dec w d pedigree ts other' deep h f = well_xread dec w d pedigree ts deep refl refl refl refl h (f refl)
-record_back dec w d evidence ts other' deep h f = well_xread dec w d evidence ts deep refl refl refl refl h (f refl)
-record_back dec w d service ts other' deep h f = well_xread dec w d service ts deep refl refl refl refl h (f refl)
-record_back dec w d service_data ts other' deep h f = well_xread dec w d service_data ts deep refl refl refl refl h (f refl)
-record_back dec w d tools_object ts other' deep h f = well_xread dec w d tools_object ts deep refl refl refl refl h (f refl)
-record_back dec w d metadata ts other' deep h f = well_xread dec w d metadata ts deep refl refl refl refl h (f refl)
-record_back dec w d signer ts other' deep h f = well_xread dec w d signer ts deep refl refl refl refl h (f refl)
-record_back dec w d signers ts other' deep h f = well_xread dec w d signers ts deep refl refl refl refl h (f refl)
-record_back dec w d chain ts other' deep h f = well_xread dec w d chain ts deep refl refl refl refl h (f refl)
+record_back dec w d n ts other' deep h f = well_xread dec w d n ts deep refl refl refl refl h (f refl)
 
 -- ---- the induction
 
 pub finds_list : (w : SpecVersion) (d : Depth) (l : Lists) → Finds w d (plan_of_list l) 0 (list l).kind (list l).name
 unfolding list
-finds_list w d hashes t h = finds_plain w d (plan_of_list hashes) 0 V1_3 (list hashes).kind (list hashes).name refl refl t h
-finds_list w d properties t h = finds_plain w d (plan_of_list properties) 0 V1_3 (list properties).kind (list properties).name refl refl t h
-finds_list w d urls t h = finds_plain w d (plan_of_list urls) 0 V1_3 (list urls).kind (list urls).name refl refl t h
-finds_list w d contacts t h = finds_plain w d (plan_of_list contacts) 0 V1_3 (list contacts).kind (list contacts).name refl refl t h
-finds_list w d commits t h = finds_plain w d (plan_of_list commits) 0 V1_3 (list commits).kind (list commits).name refl refl t h
-finds_list w d patches t h = finds_plain w d (plan_of_list patches) 0 V1_3 (list patches).kind (list patches).name refl refl t h
-finds_list w d resolved t h = finds_plain w d (plan_of_list resolved) 0 V1_3 (list resolved).kind (list resolved).name refl refl t h
-finds_list w d links t h = finds_plain w d (plan_of_list links) 0 V1_3 (list links).kind (list links).name refl refl t h
-finds_list w d external_references t h = finds_plain w d (plan_of_list external_references) 0 V1_3 (list external_references).kind (list external_references).name refl refl t h
-finds_list w d dependencies t h = finds_plain w d (plan_of_list dependencies) 0 V1_3 (list dependencies).kind (list dependencies).name refl refl t h
-finds_list w d depended t h = finds_plain w d (plan_of_list depended) 0 V1_3 (list depended).kind (list depended).name refl refl t h
-finds_list w d compositions t h = finds_plain w d (plan_of_list compositions) 0 V1_3 (list compositions).kind (list compositions).name refl refl t h
-finds_list w d assemblies t h = finds_plain w d (plan_of_list assemblies) 0 V1_3 (list assemblies).kind (list assemblies).name refl refl t h
-finds_list w d composed t h = finds_plain w d (plan_of_list composed) 0 V1_3 (list composed).kind (list composed).name refl refl t h
-finds_list w d vulnerabilities t h = finds_plain w d (plan_of_list vulnerabilities) 0 V1_3 (list vulnerabilities).kind (list vulnerabilities).name refl refl t h
 finds_list w d licenses absent h = absurd (true≢false h)
 finds_list w d licenses (text x) h = absurd (true≢false h)
 finds_list w d licenses (number x) h = absurd (true≢false h)
@@ -983,45 +868,12 @@ finds_list w d licenses (fields n ts) h = by h.0
     by : (n ≡ license) ⊎ (n ≡ expression) → (c : Child) × (find_child w (tag_of a_license_choice (fields n ts) (list licenses).name) (plan_of_list licenses).children ≡ Some c) × (c.field ≡ 0) × (c.place ≡ all) × (c.kind ≡ a_license_choice)
     by (inl e) = (record { name = codes "license"; since = V1_3; kind = a_license_choice; field = 0; place = all }, ap (λ (m : Name). find_child w (name_in a_license_choice m (list licenses).name) (plan_of_list licenses).children) e, refl, refl, refl)
     by (inr e) = (record { name = codes "expression"; since = V1_3; kind = a_license_choice; field = 0; place = all }, ap (λ (m : Name). find_child w (name_in a_license_choice m (list licenses).name) (plan_of_list licenses).children) e, refl, refl, refl)
-finds_list w d components t h = finds_plain w d (plan_of_list components) 0 V1_3 (list components).kind (list components).name refl refl t h
-finds_list w d services t h = finds_plain w d (plan_of_list services) 0 V1_3 (list services).kind (list services).name refl refl t h
-finds_list w d copyright_texts t h = finds_plain w d (plan_of_list copyright_texts) 0 V1_3 (list copyright_texts).kind (list copyright_texts).name refl refl t h
-finds_list w d endpoints t h = finds_plain w d (plan_of_list endpoints) 0 V1_3 (list endpoints).kind (list endpoints).name refl refl t h
-finds_list w d authors t h = finds_plain w d (plan_of_list authors) 0 V1_3 (list authors).kind (list authors).name refl refl t h
-finds_list w d tool_list t h = finds_plain w d (plan_of_list tool_list) 0 V1_3 (list tool_list).kind (list tool_list).name refl refl t h
-finds_list w d signer_list t h = finds_plain w d (plan_of_list signer_list) 0 V1_3 (list signer_list).kind (list signer_list).name refl refl t h
-finds_list w d chain_list t h = finds_plain w d (plan_of_list chain_list) 0 V1_3 (list chain_list).kind (list chain_list).name refl refl t h
-finds_list w d classifications t h = finds_plain w d (plan_of_list classifications) 0 V1_3 (list classifications).kind (list classifications).name refl refl t h
-finds_list w d flows t h = finds_plain w d (plan_of_list flows) 0 V1_3 (list flows).kind (list flows).name refl refl t h
+finds_list w d l t h = finds_plain w d (plan_of_list l) 0 V1_3 (list l).kind (list l).name refl refl t h
 
 pub list_elem : (l : Lists) → is_elem (list l).kind ≡ true
 unfolding list
 list_elem hashes = refl
-list_elem properties = refl
-list_elem urls = refl
-list_elem contacts = refl
-list_elem commits = refl
-list_elem patches = refl
-list_elem resolved = refl
-list_elem links = refl
-list_elem external_references = refl
-list_elem dependencies = refl
-list_elem depended = refl
-list_elem compositions = refl
-list_elem assemblies = refl
-list_elem composed = refl
-list_elem vulnerabilities = refl
-list_elem licenses = refl
-list_elem components = refl
-list_elem services = refl
-list_elem copyright_texts = refl
-list_elem endpoints = refl
-list_elem authors = refl
-list_elem tool_list = refl
-list_elem signer_list = refl
-list_elem chain_list = refl
-list_elem classifications = refl
-list_elem flows = refl
+list_elem _ = refl
 
 pub choice_license : (w : SpecVersion) (d : Depth) (ts : Trees) → XBack w d license ts → IsXRead w d (fields license ts) a_license_choice (tripped w (fields license ts) a_license_choice)
 unfolding xread nodes_of tripped
@@ -1299,9 +1151,6 @@ abbrev pub items_in : Tree → Trees
 items_in (items ts) = ts
 items_in _ = none
 
-pub not_items : (t : Tree) (ts : Trees) → (is_items : Tree → Bool) → is_items t ≡ false → is_items (items ts) ≡ true → t ≡ items ts → ⊥
-not_items t ts f a b e = true≢false (sym b ∙ (sym (ap f e) ∙ a))
-
 mutual
   unfolding tripped nodes_of
 
@@ -1321,14 +1170,10 @@ mutual
       (λ g. item_set w d t k (tripped w t k) plan i tag h.0 f (xml_back dec w d t k e h.0)) (items_back dec w d ts k tag plan i e h.1 f)
 
   pub tree_items : Decimals → (w : SpecVersion) → (d : Depth) (t : Tree) → ItemsRead w d t
-  tree_items dec w d absent ts is l v plan i h f = grind arith
-  tree_items dec w d (text s) ts is l v plan i h f = grind arith
-  tree_items dec w d (number s) ts is l v plan i h f = grind arith
-  tree_items dec w d (boolean s) ts is l v plan i h f = grind arith
-  tree_items dec w d (fields n s) ts is l v plan i h f = grind arith
   tree_items dec w d (items us) ts is l v plan i h f =
       subst (λ (vs : Trees). AllHeld w d vs (list l).kind → SetItems plan w d i (nodes_of (items vs) w (a_list l)) (items_tripped w vs (list l).kind)) (ap items_in is)
       (λ g. items_back dec w d us (list l).kind (list l).name plan i (and_true (is_plain (list l).kind) (is_elem (list l).kind) v).1 g f) h
+  tree_items dec w d _ ts is l v plan i h f = grind arith
 
   pub rows_back : Decimals → (w : SpecVersion) → (d : Depth) (ts : Trees) (rs : List Row) → all_well rs ≡ true → FieldsHeld w d ts rs → RowsRead w d ts rs (first_fields w ts rs) (second_fields w ts rs)
   rows_back dec w d none [] v h = tt
@@ -1339,9 +1184,3 @@ mutual
         row_back w d t r (and_true (reads_well r.need r.kind r.xml) (ends_well r.xml r.need r.since) p.0).0 h.0 (λ e plain g. xml_back dec w d t r.kind e g) (tree_items dec w d t),
         rows_back dec w d ts rs p.1 h.1,
       )
-
--- The element of what a version keeps is read back as what the trip makes of it.
-pub xml_law : Decimals → (w : SpecVersion) (d : Depth) (t : Tree) (k : Kind) → is_elem k ≡ true → HasShape t k → fits w t k ≡ true → is_shallow t d ≡ true
-    → (tag : List ℕ) (p : ℕ) → xread (spelled (keep w t k) w tag k) w k p d ≡ Ok (tripped w (keep w t k) k)
-unfolding nodes_of
-xml_law dec w d t k e h f s tag p = xml_back dec w d (keep w t k) k e (held_kept w w d t k h (fits_first w t k f) s) tag p
