@@ -78,6 +78,24 @@ const NO_REQUESTS: &str = r#"
     {"doc":{"xml":[{"cdata":"y","text":"x"}]},"from":"1.5","hops":[]} -> {"request":"shape"}
     // an unknown form
     {"doc":{"json":1},"from":"1.5","hops":[{"form":"yaml","version":"1.5"}]} -> {"request":"shape"}
+    // a member too many: in a request, a document, a hop, a start, an end, an attribute, a text, a mark
+    {"doc":{"json":1},"from":"1.5","hops":[],"note":1} -> {"request":"shape"}
+    {"doc":{"json":1,"note":1},"from":"1.5","hops":[]} -> {"request":"shape"}
+    {"doc":{"json":1},"from":"1.5","hops":[{"form":"json","note":1,"version":"1.5"}]} -> {"request":"shape"}
+    {"doc":{"xml":[{"document":"start"},{"element":"bom","note":1},{"end":"bom"},{"document":"end"}]},"from":"1.5","hops":[]} -> {"request":"shape"}
+    {"doc":{"xml":[{"document":"start"},{"element":"bom"},{"end":"bom","note":1},{"document":"end"}]},"from":"1.5","hops":[]} -> {"request":"shape"}
+    {"doc":{"xml":[{"document":"start"},{"attributes":[{"name":"version","note":1,"value":"1"}],"element":"bom"},{"end":"bom"},{"document":"end"}]},"from":"1.5","hops":[]} -> {"request":"shape"}
+    {"doc":{"xml":[{"document":"start"},{"element":"bom"},{"note":1,"text":"x"},{"end":"bom"},{"document":"end"}]},"from":"1.5","hops":[]} -> {"request":"shape"}
+    {"doc":{"xml":[{"document":"start","note":1},{"element":"bom"},{"end":"bom"},{"document":"end"}]},"from":"1.5","hops":[]} -> {"request":"shape"}
+    // a null member in each of these
+    {"doc":{"json":1},"from":"1.5","hops":[],"note":null} -> {"request":"shape"}
+    {"doc":{"json":1,"xml":null},"from":"1.5","hops":[]} -> {"request":"shape"}
+    {"doc":{"json":1},"from":"1.5","hops":[{"form":"json","note":null,"version":"1.5"}]} -> {"request":"shape"}
+    {"doc":{"xml":[{"document":"start"},{"default":null,"element":"bom"},{"end":"bom"},{"document":"end"}]},"from":"1.5","hops":[]} -> {"request":"shape"}
+    {"doc":{"xml":[{"document":"start"},{"element":"bom"},{"end":"bom","prefix":null},{"document":"end"}]},"from":"1.5","hops":[]} -> {"request":"shape"}
+    {"doc":{"xml":[{"document":"start"},{"attributes":[{"name":"version","uri":null,"value":"1"}],"element":"bom"},{"end":"bom"},{"document":"end"}]},"from":"1.5","hops":[]} -> {"request":"shape"}
+    {"doc":{"xml":[{"document":"start"},{"element":"bom"},{"cdata":null,"text":"x"},{"end":"bom"},{"document":"end"}]},"from":"1.5","hops":[]} -> {"request":"shape"}
+    {"doc":{"xml":[{"document":"start","text":null},{"element":"bom"},{"end":"bom"},{"document":"end"}]},"from":"1.5","hops":[]} -> {"request":"shape"}
     // 127 arrays in one another
     [[[[[[[[[[[[[[[[[[[[[[[[[[[[[[[[[[[[[[[[[[[[[[[[[[[[[[[[[[[[[[[[[[[[[[[[[[[[[[[[[[[[[[[[[[[[[[[[[[[[[[[[[[[[[[[[[[[[[[[[[[[[[[[]]]]]]]]]]]]]]]]]]]]]]]]]]]]]]]]]]]]]]]]]]]]]]]]]]]]]]]]]]]]]]]]]]]]]]]]]]]]]]]]]]]]]]]]]]]]]]]]]]]]]]]]]]]]]]]]]]]]]]]]]]]]]]] -> {"request":"shape"}
     // 128 arrays in one another
