@@ -58,3 +58,4 @@ pub mod EarlyStated
 pub mod EarlyClosed
 mod EarlyRows
 pub mod EarlySoon
+pub mod SoonLaws
