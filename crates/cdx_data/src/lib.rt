@@ -7,4 +7,5 @@ mod reading;
 pub mod service;
 mod writing;
 
+pub use parts::{DataPart, ServiceDataPart};
 pub use service::{Data, DataClassification, ServiceData};

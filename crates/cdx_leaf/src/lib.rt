@@ -30,6 +30,7 @@ pub use error::{invalid_parse_error, refuse, refuse_missing, unexpected_element_
 pub use from_xml::{FromXml, FromXmlDocument};
 pub use lists::{read_items, read_lax_validation_list_tag, read_list_tag};
 pub use namespace::{expected_namespace_or_error, namespace_of};
+pub use reading::begin_attached_text;
 pub use record::{TextRecord, XmlRecord, read_text_record, read_whole};
 pub use root::{Root, read_root, root_of};
 pub use rule::Rule;
@@ -37,6 +38,6 @@ pub use tags::{
     closing_tag_or_error, inner_text_or_error, inner_text_or_none, read_boolean_tag,
     read_exact_tag, read_lax_validation_tag, read_optional_tag, read_simple_tag, read_u32_tag,
 };
-pub use take::{take_into, take_list, take_more, take_one};
+pub use take::{push_into, take_into, take_list, take_more, take_one};
 pub use taken::Taken;
 pub use xml_type::{FromXmlType, attribute_value};

@@ -7,3 +7,5 @@ mod organization;
 mod parts;
 mod property;
 mod tool;
+
+pub use attached_text::begin_attached_text;

@@ -8,3 +8,4 @@ mod reading;
 mod writing;
 
 pub use license::{Expression, License, LicenseChoice, LicenseIdentifier, Licenses};
+pub use parts::{ChoicesPart, LicensePart};

@@ -4,7 +4,7 @@ use Rattle.std.specs.Str.{bytes_eq}
 use Rattle.std.proofs.Common.{◌≡◌, ◌+◌, ◌<◌, true, List, [], ◌∷◌, ◌++◌, length, refl, sym, ap, ◌∙◌, append_assoc, arith}
 use Rattle.cdx_events.specs.declared.event.XmlEvent.{XmlEvent}
 use Rattle.cdx_events.specs.declared.event.XmlEvent.TheVariants.{StartDocument, EndDocument}
-use Rattle.cdx_events.specs.Nodes.{element, events_of, document}
+use Rattle.cdx_events.specs.Nodes.{element, events_of}
 use Rattle.cdx_models.specs.declared.bom.SpecVersion.{SpecVersion}
 use Rattle.cdx_models.specs.declared.errors.XmlReadError.{XmlReadError}
 use Rattle.cdx_models.specs.Trees.{bill}
@@ -30,21 +30,23 @@ some_there es s i = none s.still_open (ap (λ x. x ++ ends s.still_open) (sym i)
     none [] e = absurd cc
     none (n ∷ ns) e = absurd cc
 
-longer : (es : List XmlEvent) → (es ≡ [] → ⊥) → 1 < length (StartDocument ∷ es)
+pub longer : (es : List XmlEvent) → (es ≡ [] → ⊥) → 1 < length (StartDocument ∷ es)
 longer [] n = absurd (n refl)
 longer (e ∷ es) n = omega arith
+
+-- the document whose root is the element that they are ended as
+abbrev pub ended_closed : (es : List XmlEvent) → IsEnded es → IsClosed (StartDocument ∷ es)
+ended_closed es x = record {
+  whole = (StartDocument ∷ es) ++ (ends x.still_open ++ EndDocument ∷ []);
+  completed = cut x.still_open refl;
+  balanced = record { name = x.name; attributes = x.attributes; namespace = x.namespace; nodes = x.nodes; whole = ap (λ ys. StartDocument ∷ ys) (sym (append_assoc es (ends x.still_open) (EndDocument ∷ [])) ∙ ap (λ ys. ys ++ EndDocument ∷ []) x.whole) };
+}
 
 pub root_soon : (v : SpecVersion) (es : List XmlEvent) (soon : Option XmlReadError) → (s : IsSoon v (a_record bill) es 1 top soon)
     → bytes_eq s.ended.name.local_name (codes "bom") ≡ true → in_namespace s.ended.namespace.default (namespace v) ≡ true → IsEarly v (StartDocument ∷ es) soon
 root_soon v es soon s n m =
     let x = s.ended in
-    let whole : (StartDocument ∷ es) ++ (ends x.still_open ++ EndDocument ∷ []) ≡ document (element x.name x.attributes x.namespace x.nodes) =
-    ap (λ ys. StartDocument ∷ ys) (sym (append_assoc es (ends x.still_open) (EndDocument ∷ [])) ∙ ap (λ ys. ys ++ EndDocument ∷ []) x.whole) in
-    let c : IsClosed (StartDocument ∷ es) = record {
-      whole = (StartDocument ∷ es) ++ (ends x.still_open ++ EndDocument ∷ []);
-      completed = cut x.still_open refl;
-      balanced = record { name = x.name; attributes = x.attributes; namespace = x.namespace; nodes = x.nodes; whole = whole };
-    } in
+    let c : IsClosed (StartDocument ∷ es) = ended_closed es x in
     let place : 1 + length es ≡ length (StartDocument ∷ es) = omega arith in
     let same : soon ≡ fault_below (length (StartDocument ∷ es)) (xml_denotes (element x.name x.attributes x.namespace x.nodes) v) =
     s.is ∙ (ap (λ q. fault_below q (xread (element x.name x.attributes x.namespace x.nodes) v (a_record bill) 1 top)) place ∙ ap (fault_below (length (StartDocument ∷ es))) (sym (bill_is v es x n m))) in

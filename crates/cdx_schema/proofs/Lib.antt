@@ -57,3 +57,4 @@ pub mod EarlyStated
 pub mod EarlyClosed
 mod EarlyRows
 pub mod EarlySoon
+pub mod SoonLaws

@@ -30,13 +30,13 @@ use Rattle.cdx_schema.specs.Nodes.{places, places_of}
 
 -- The events of both are the same through place p, where both begin at place s.
 abbrev mutual
-  AgreeIn : ℕ → ℕ → Node → Node → Type 0
+  pub AgreeIn : ℕ → ℕ → Node → Node → Type 0
   AgreeIn p s (characters t) (characters u) = t ≡ u
   AgreeIn p s (cdata t) (cdata u) = t ≡ u
   AgreeIn p s (element n as' d xs) (element m bs e ys) = (n ≡ m) × (as' ≡ bs) × (d ≡ e) × AgreeOn p (suc s) xs ys
   AgreeIn p s _ _ = Never
 
-  AgreeOn : ℕ → ℕ → Nodes → Nodes → Type 0
+  pub AgreeOn : ℕ → ℕ → Nodes → Nodes → Type 0
   AgreeOn p s no_nodes no_nodes = Unit {0}
   AgreeOn p s no_nodes (node y ys) = p < s
   AgreeOn p s (node x xs) no_nodes = p < s
@@ -191,7 +191,7 @@ Fails x v k s d f = xread x v k s d ≡ Err f
 mutual
   unfolding xread
 
-  xread_agree : (x y : Node) (p : ℕ) (v : SpecVersion) (k : Kind) (s : ℕ) (d : Depth) (f : XmlReadError) → no_bill k ≡ true → fault_place f ≤ p → AgreeIn p s x y → Fails x v k s d f → Fails y v k s d f
+  pub xread_agree : (x y : Node) (p : ℕ) (v : SpecVersion) (k : Kind) (s : ℕ) (d : Depth) (f : XmlReadError) → no_bill k ≡ true → fault_place f ≤ p → AgreeIn p s x y → Fails x v k s d f → Fails y v k s d f
   xread_agree (characters t) (characters u) p v k s d f b l a h = h
   xread_agree (cdata t) (cdata u) p v k s d f b l a h = h
   xread_agree (element n as' c xs) (element m bs e ys) p v k s d f b l a h =

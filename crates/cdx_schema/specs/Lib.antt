@@ -25,3 +25,4 @@ pub mod Soon
 pub mod Early
 pub mod OpenRoot
 pub mod EarlyLaws
+pub mod SoonLaws

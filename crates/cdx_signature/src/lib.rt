@@ -7,4 +7,5 @@ mod reading;
 pub mod signature;
 mod writing;
 
+pub use parts::{SignaturePart, SignerPart};
 pub use signature::{Algorithm, Signature, Signer};

@@ -12,8 +12,9 @@ use cdx_events::{EventReader, List, OwnedAttribute, OwnedName, Text};
 use cdx_models::{AttachedText, SpecVersion, XmlReadError};
 use std::alloc::Global;
 
-// Here the last attribute of a local name counts.
-fn begin(
+/// What the attributes of an attached text give, its content type and its encoding. Here the last attribute of a local name
+/// counts.
+pub fn begin_attached_text(
     alloc: Global,
     place: usize,
     version: SpecVersion,
@@ -42,7 +43,7 @@ impl FromXml for AttachedText {
         element: &OwnedName,
         attributes: &List<OwnedAttribute>,
     ) -> Result<AttachedText, XmlReadError> {
-        let begun = begin(alloc, reader.place() - 1, version, element, attributes);
+        let begun = begin_attached_text(alloc, reader.place() - 1, version, element, attributes);
         let (start, content) = read_exact_content(alloc, reader, element, begun)?;
         Ok(AttachedText {
             content_type: start.0,

@@ -4,7 +4,7 @@ use Rattle.cdx_models.specs.declared.bom.SpecVersion.TheVariants.{V1_3}
 use Rattle.cdx_schema.specs.Kinds.{member}
 use Rattle.cdx_schema.specs.Table.{rows}
 use Rattle.cdx_leaf.proofs.Attributes.{row_ok, rows_end, maybe_row}
-use Rattle.cdx_leaf.proofs.reading.attached_text.begin.Goals as goal
+use Rattle.cdx_leaf.proofs.reading.attached_text.begin_attached_text.Goals as goal
 
 pub returns : goal.returns
 unfolding rows
