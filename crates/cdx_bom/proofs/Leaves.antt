@@ -6,8 +6,8 @@ use Rattle.cdx_license.specs.Records.{identifier_tree, license_tree, expression_
 use Rattle.cdx_signature.specs.Records.{signer_tree, signature_tree}
 use Rattle.cdx_code.specs.Records.{action_tree, commit_tree, commits_tree}
 use Rattle.cdx_patch.specs.Records.{diff_tree, source_tree, issue_tree, patch_tree, patches_tree}
-use Rattle.cdx_parts.specs.Records.{mime_type_tree, cpe_tree, swid_tree, copyright_tree, copyrights_tree, evidence_tree}
-use Rattle.cdx_data.specs.Records.{classification_tree, service_data_tree, service_entry, data_tree}
+use Rattle.cdx_component_parts.specs.Records.{mime_type_tree, cpe_tree, swid_tree, copyright_tree, copyrights_tree, evidence_tree}
+use Rattle.cdx_service_data.specs.Records.{classification_tree, service_data_tree, service_entry, data_tree}
 use Rattle.cdx_relations.specs.Records.{dependency_tree, dependencies_tree, bom_reference_tree, composition_tree, compositions_tree}
 use Rattle.cdx_models.specs.declared.bom.UrnUuid.{UrnUuid}
 use Rattle.cdx_models.specs.declared.hash.Hash.{Hash}
@@ -35,19 +35,19 @@ use Rattle.cdx_patch.specs.declared.code.Source.{Source}
 use Rattle.cdx_patch.specs.declared.code.Issue.{Issue}
 use Rattle.cdx_patch.specs.declared.code.Patch.{Patch}
 use Rattle.cdx_patch.specs.declared.code.Patches.{Patches}
-use Rattle.cdx_parts.specs.declared.component.Swid.{Swid}
-use Rattle.cdx_parts.specs.declared.component.Copyright.{Copyright}
-use Rattle.cdx_parts.specs.declared.component.CopyrightTexts.{CopyrightTexts}
-use Rattle.cdx_parts.specs.declared.component.ComponentEvidence.{ComponentEvidence}
+use Rattle.cdx_component_parts.specs.declared.component.Swid.{Swid}
+use Rattle.cdx_component_parts.specs.declared.component.Copyright.{Copyright}
+use Rattle.cdx_component_parts.specs.declared.component.CopyrightTexts.{CopyrightTexts}
+use Rattle.cdx_component_parts.specs.declared.component.ComponentEvidence.{ComponentEvidence}
 use Rattle.cdx_license.specs.declared.license.LicenseIdentifier.TheVariants as identifier
 use Rattle.cdx_license.specs.declared.license.LicenseChoice.TheVariants as choice
 use Rattle.cdx_signature.specs.declared.signature.Signature.TheVariants as variant
-use Rattle.cdx_parts.specs.declared.component.MimeType.{MimeType}
-use Rattle.cdx_parts.specs.declared.component.Cpe.{Cpe}
-use Rattle.cdx_data.specs.declared.service.DataClassification.{DataClassification}
-use Rattle.cdx_data.specs.declared.service.ServiceData.{ServiceData}
-use Rattle.cdx_data.specs.declared.service.Data.{Data}
-use Rattle.cdx_data.specs.declared.service.Data.TheVariants as data_of
+use Rattle.cdx_component_parts.specs.declared.component.MimeType.{MimeType}
+use Rattle.cdx_component_parts.specs.declared.component.Cpe.{Cpe}
+use Rattle.cdx_service_data.specs.declared.service.DataClassification.{DataClassification}
+use Rattle.cdx_service_data.specs.declared.service.ServiceData.{ServiceData}
+use Rattle.cdx_service_data.specs.declared.service.Data.{Data}
+use Rattle.cdx_service_data.specs.declared.service.Data.TheVariants as data_of
 use Rattle.cdx_relations.specs.declared.dependency.Dependency.{Dependency}
 use Rattle.cdx_relations.specs.declared.dependency.Dependencies.{Dependencies}
 use Rattle.cdx_relations.specs.declared.composition.BomReference.{BomReference}

@@ -8,8 +8,8 @@ use Rattle.cdx_license.specs.Records.{licenses_tree}
 use Rattle.cdx_signature.specs.Records.{signature_tree}
 use Rattle.cdx_code.specs.Records.{commits_tree}
 use Rattle.cdx_patch.specs.Records.{patches_tree}
-use Rattle.cdx_parts.specs.Records.{mime_type_tree, cpe_tree, swid_tree, evidence_tree}
-use Rattle.cdx_data.specs.Records.{data_tree}
+use Rattle.cdx_component_parts.specs.Records.{mime_type_tree, cpe_tree, swid_tree, evidence_tree}
+use Rattle.cdx_service_data.specs.Records.{data_tree}
 use Rattle.cdx_relations.specs.Records.{dependencies_tree, compositions_tree}
 use Rattle.cdx_schema.specs.Table.{rows}
 use Rattle.cdx_schema.specs.Depth.{Depth, top, inside, name_too_deep}

@@ -5,7 +5,7 @@ use Rattle.cdx_models.specs.Records.{references_tree, properties_tree}
 use Rattle.cdx_signature.specs.Records.{signature_tree}
 use Rattle.cdx_code.specs.Records.{commits_tree}
 use Rattle.cdx_patch.specs.Records.{patches_tree}
-use Rattle.cdx_parts.specs.Records.{evidence_tree}
+use Rattle.cdx_component_parts.specs.Records.{evidence_tree}
 use Rattle.cdx_schema.specs.Table.{rows}
 use Rattle.cdx_component.specs.declared.component.Component.{Component}
 use Rattle.cdx_component.specs.declared.component.Component.TheOpen.{Component-F, Pedigree-F}

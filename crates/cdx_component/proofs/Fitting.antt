@@ -8,9 +8,9 @@ use Rattle.cdx_license.specs.Records.{licenses_tree}
 use Rattle.cdx_signature.specs.Records.{signature_tree}
 use Rattle.cdx_code.specs.Records.{commits_tree}
 use Rattle.cdx_patch.specs.Records.{patches_tree}
-use Rattle.cdx_parts.specs.Records.{mime_type_tree, cpe_tree, swid_tree, evidence_tree}
-use Rattle.cdx_parts.specs.declared.component.Cpe.{Cpe}
-use Rattle.cdx_parts.specs.declared.component.MimeType.{MimeType}
+use Rattle.cdx_component_parts.specs.Records.{mime_type_tree, cpe_tree, swid_tree, evidence_tree}
+use Rattle.cdx_component_parts.specs.declared.component.Cpe.{Cpe}
+use Rattle.cdx_component_parts.specs.declared.component.MimeType.{MimeType}
 use Rattle.cdx_schema.specs.Kinds.{components, hashes, licenses, external_references, properties, commits, patches, a_text, a_boolean, a_list, a_record, a_signature}
 use Rattle.cdx_schema.specs.Table.{rows, list}
 use Rattle.cdx_schema.specs.Keeping.{has_versions, items_have_versions}

@@ -6,7 +6,7 @@ use Rattle.cdx_license.specs.Records.{identifier_tree, license_tree, expression_
 use Rattle.cdx_signature.specs.Records.{signer_tree, signature_tree}
 use Rattle.cdx_code.specs.Records.{action_tree, commit_tree, commits_tree}
 use Rattle.cdx_patch.specs.Records.{diff_tree, source_tree, issue_tree, patch_tree, patches_tree}
-use Rattle.cdx_parts.specs.Records.{swid_tree, copyright_tree, copyrights_tree, evidence_tree}
+use Rattle.cdx_component_parts.specs.Records.{swid_tree, copyright_tree, copyrights_tree, evidence_tree}
 use Rattle.cdx_models.specs.declared.hash.Hash.{Hash}
 use Rattle.cdx_models.specs.declared.hash.Hashes.{Hashes}
 use Rattle.cdx_models.specs.declared.property.Property.{Property}
@@ -32,10 +32,10 @@ use Rattle.cdx_patch.specs.declared.code.Source.{Source}
 use Rattle.cdx_patch.specs.declared.code.Issue.{Issue}
 use Rattle.cdx_patch.specs.declared.code.Patch.{Patch}
 use Rattle.cdx_patch.specs.declared.code.Patches.{Patches}
-use Rattle.cdx_parts.specs.declared.component.Swid.{Swid}
-use Rattle.cdx_parts.specs.declared.component.Copyright.{Copyright}
-use Rattle.cdx_parts.specs.declared.component.CopyrightTexts.{CopyrightTexts}
-use Rattle.cdx_parts.specs.declared.component.ComponentEvidence.{ComponentEvidence}
+use Rattle.cdx_component_parts.specs.declared.component.Swid.{Swid}
+use Rattle.cdx_component_parts.specs.declared.component.Copyright.{Copyright}
+use Rattle.cdx_component_parts.specs.declared.component.CopyrightTexts.{CopyrightTexts}
+use Rattle.cdx_component_parts.specs.declared.component.ComponentEvidence.{ComponentEvidence}
 use Rattle.cdx_license.specs.declared.license.LicenseIdentifier.TheVariants as identifier
 use Rattle.cdx_license.specs.declared.license.LicenseChoice.TheVariants as choice
 use Rattle.cdx_signature.specs.declared.signature.Signature.TheVariants as variant

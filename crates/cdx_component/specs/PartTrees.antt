@@ -4,7 +4,7 @@ use Rattle.cdx_models.specs.Trees.{text, boolean, Trees, trees, present}
 use Rattle.cdx_models.specs.Records.{entity_tree, hashes_tree, references_tree, properties_tree}
 use Rattle.cdx_license.specs.Records.{licenses_tree}
 use Rattle.cdx_signature.specs.Records.{signature_tree}
-use Rattle.cdx_parts.specs.Records.{mime_type_tree, cpe_tree, swid_tree, evidence_tree}
+use Rattle.cdx_component_parts.specs.Records.{mime_type_tree, cpe_tree, swid_tree, evidence_tree}
 use Rattle.cdx_component.specs.Trees.{components_tree, pedigree_tree}
 use Rattle.cdx_component.specs.declared.component.parts.Origin.{Origin}
 use Rattle.cdx_component.specs.declared.component.parts.Naming.{Naming}

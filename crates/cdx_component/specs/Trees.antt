@@ -6,7 +6,7 @@ use Rattle.cdx_license.specs.Records.{licenses_tree}
 use Rattle.cdx_signature.specs.Records.{signature_tree}
 use Rattle.cdx_code.specs.Records.{commits_tree}
 use Rattle.cdx_patch.specs.Records.{patches_tree}
-use Rattle.cdx_parts.specs.Records.{mime_type_tree, cpe_tree, swid_tree, evidence_tree}
+use Rattle.cdx_component_parts.specs.Records.{mime_type_tree, cpe_tree, swid_tree, evidence_tree}
 use Rattle.cdx_component.specs.declared.component.Component.{Component}
 use Rattle.cdx_component.specs.declared.component.Component.TheOpen.{Component-F, Components-F, Pedigree-F}
 use Rattle.cdx_component.specs.declared.component.Component.TheFolds.{fold-Component, fold-Components, fold-Pedigree}

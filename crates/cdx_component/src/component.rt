@@ -14,10 +14,10 @@ mod fitting;
 pub(crate) mod parts;
 
 use cdx_code::Commits;
+use cdx_component_parts::{ComponentEvidence, Cpe, MimeType, Swid};
 use cdx_events::Text;
 use cdx_license::Licenses;
 use cdx_models::{ExternalReferences, HasTree, Hashes, OrganizationalEntity, Properties};
-use cdx_parts::{ComponentEvidence, Cpe, MimeType, Swid};
 use cdx_patch::Patches;
 use cdx_schema::Kinded;
 use cdx_signature::Signature;

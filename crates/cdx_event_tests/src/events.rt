@@ -1,14 +1,14 @@
 //! Lists of events: balanced or not, gathered, sent, copied; and versions and paths as texts.
 
 use crate::expect::{holds, row_is, text_is};
-use cdx_cases::documents::{line_of, list_of};
-use cdx_cases::forms::chain;
-use cdx_cases::rows::{parted, row};
 use cdx_events::{
     Balance, Copied, EventReader, EventWriter, Events, EventsError, List, MemoryEventSink,
     MemoryEventSource, OwnedAttribute, OwnedName, Text, XmlEvent, gather, send,
 };
 use cdx_models::{Path, SpecVersion, Step};
+use cdx_test_cases::documents::{line_of, list_of};
+use cdx_test_cases::forms::chain;
+use cdx_test_cases::rows::{parted, row};
 use std::alloc::{AllocError, Global};
 use std::test::Fail;
 

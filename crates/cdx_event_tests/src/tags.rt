@@ -1,10 +1,6 @@
 //! The helpers that read and write single elements.
 
 use crate::expect::{holds, row_is, text_is};
-use cdx_cases::documents::document;
-use cdx_cases::faults::of_xml;
-use cdx_cases::forms::{V5, closed, opened};
-use cdx_cases::rows::row;
 use cdx_events::{EventWriter, Events, List, Text, XmlEvent};
 use cdx_leaf::{
     FromXmlType, Root, attribute_or_error, closing_tag_or_error, expected_namespace_or_error,
@@ -13,6 +9,10 @@ use cdx_leaf::{
     read_simple_tag, read_u32_tag, root_of, unexpected_element_error,
 };
 use cdx_models::{Hash, XmlReadError, XmlWriteError};
+use cdx_test_cases::documents::document;
+use cdx_test_cases::faults::of_xml;
+use cdx_test_cases::forms::{V5, closed, opened};
+use cdx_test_cases::rows::row;
 use cdx_write::{
     write_close_tag, write_list_string_tag, write_list_tag, write_simple_option_tag,
     write_simple_tag, write_start_tag,

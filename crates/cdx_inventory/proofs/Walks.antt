@@ -12,7 +12,7 @@ use Rattle.cdx_license.specs.Records.{licenses_tree}
 use Rattle.cdx_signature.specs.Records.{signature_tree}
 use Rattle.cdx_code.specs.Records.{commits_tree}
 use Rattle.cdx_patch.specs.Records.{patches_tree}
-use Rattle.cdx_parts.specs.Records.{mime_type_tree, cpe_tree, swid_tree, evidence_tree}
+use Rattle.cdx_component_parts.specs.Records.{mime_type_tree, cpe_tree, swid_tree, evidence_tree}
 use Rattle.cdx_relations.specs.Records.{dependencies_tree, compositions_tree}
 use Rattle.cdx_schema.specs.Kinds.{hashes, licenses, properties, external_references, components, services, authors, commits, patches, dependencies, compositions, Kind, a_text, a_boolean, a_list, a_record, a_tools, a_signature, a_bill, Row}
 use Rattle.cdx_schema.specs.Held.{held_kind}

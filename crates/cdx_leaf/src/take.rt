@@ -33,7 +33,11 @@ pub fn take_one<X: FromXml>(
 }
 
 /// Appends to a list that may not be there yet.
-pub fn push_into<T: Drop>(alloc: Global, slot: &mut Option<List<T>>, item: T) -> Result<(), AllocError>
+pub fn push_into<T: Drop>(
+    alloc: Global,
+    slot: &mut Option<List<T>>,
+    item: T,
+) -> Result<(), AllocError>
     ensures { OnOk result (slot.new ≡ Some (unwrap_or slot.old [] ++ item ∷ [])) }
 {
     match slot {

@@ -15,8 +15,8 @@ use Rattle.cdx_license.specs.Records.{licenses_tree}
 use Rattle.cdx_patch.specs.Records.{diff_tree, source_tree}
 use Rattle.cdx_patch.specs.declared.code.Diff.{Diff}
 use Rattle.cdx_patch.specs.declared.code.Source.{Source}
-use Rattle.cdx_parts.specs.Records.{copyrights_tree, evidence_tree}
-use Rattle.cdx_parts.specs.declared.component.ComponentEvidence.{ComponentEvidence}
+use Rattle.cdx_component_parts.specs.Records.{copyrights_tree, evidence_tree}
+use Rattle.cdx_component_parts.specs.declared.component.ComponentEvidence.{ComponentEvidence}
 use Rattle.cdx_schema.specs.Kinds.{Lists, Kind, a_list, a_record, a_tools, an_entry, Spelled, filled_child, children, Row}
 use Rattle.cdx_schema.specs.Table as table
 use Rattle.cdx_schema.specs.Table.{rows}

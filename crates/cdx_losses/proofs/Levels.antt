@@ -17,9 +17,9 @@ use Rattle.cdx_code.specs.Records.{action_tree, commit_tree, commits_tree}
 use Rattle.cdx_patch.specs.Records.{diff_tree, source_tree, issue_tree, patch_tree, patches_tree}
 use Rattle.cdx_patch.specs.declared.code.Issue.{Issue}
 use Rattle.cdx_patch.specs.declared.code.Patch.{Patch}
-use Rattle.cdx_parts.specs.Records.{mime_type_tree, cpe_tree, swid_tree, copyright_tree, copyrights_tree, evidence_tree}
-use Rattle.cdx_parts.specs.declared.component.ComponentEvidence.{ComponentEvidence}
-use Rattle.cdx_data.specs.Records.{classification_tree, data_tree}
+use Rattle.cdx_component_parts.specs.Records.{mime_type_tree, cpe_tree, swid_tree, copyright_tree, copyrights_tree, evidence_tree}
+use Rattle.cdx_component_parts.specs.declared.component.ComponentEvidence.{ComponentEvidence}
+use Rattle.cdx_service_data.specs.Records.{classification_tree, data_tree}
 use Rattle.cdx_relations.specs.Records.{dependency_tree, dependencies_tree, bom_reference_tree, composition_tree, compositions_tree}
 use Rattle.cdx_relations.specs.declared.composition.Composition.{Composition}
 use Rattle.cdx_component.specs.declared.component.Component.{Component}

@@ -11,10 +11,10 @@ use Rattle.cdx_models.specs.Records.{contact_tree}
 use Rattle.cdx_models.specs.declared.organization.OrganizationalContact.{OrganizationalContact}
 use Rattle.cdx_license.specs.Records.{license_tree}
 use Rattle.cdx_license.specs.declared.license.License.{License}
-use Rattle.cdx_data.specs.Records.{classification_tree, service_data_tree, service_entry, data_tree}
-use Rattle.cdx_data.specs.declared.service.Data.{Data}
-use Rattle.cdx_data.specs.declared.service.Data.TheVariants as data_of
-use Rattle.cdx_data.specs.declared.service.ServiceData.{ServiceData}
+use Rattle.cdx_service_data.specs.Records.{classification_tree, service_data_tree, service_entry, data_tree}
+use Rattle.cdx_service_data.specs.declared.service.Data.{Data}
+use Rattle.cdx_service_data.specs.declared.service.Data.TheVariants as data_of
+use Rattle.cdx_service_data.specs.declared.service.ServiceData.{ServiceData}
 use Rattle.cdx_component.specs.declared.component.Components.{Components}
 use Rattle.cdx_component.specs.declared.component.Component.{Component}
 use Rattle.cdx_component.specs.Trees.{component_tree, components_tree}

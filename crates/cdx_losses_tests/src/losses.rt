@@ -4,9 +4,9 @@
 //! passed over.
 
 use crate::expect::{bytes_of, holds, row_holds, words_of};
-use cdx_cases::rows::row;
 use cdx_events::{List, MemorySink, MemorySource, SoundSource};
 use cdx_losses::report;
+use cdx_test_cases::rows::row;
 use std::alloc::{AllocError, Global};
 use std::process::Abort;
 use std::test::Fail;

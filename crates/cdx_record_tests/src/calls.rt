@@ -5,11 +5,11 @@
 //! that is read as it and written under its name, where that isn't the line.
 
 use crate::expect::{row_holds, row_is};
-use cdx_cases::documents::document;
-use cdx_cases::forms::{V5, again, held, named as as_named, shown, spelled};
 use cdx_events::{Events, XmlEvent};
 use cdx_json::{FromJson, Kept, ToJson};
 use cdx_leaf::{FromXml, Root, root_of};
+use cdx_test_cases::documents::document;
+use cdx_test_cases::forms::{V5, again, held, named as as_named, shown, spelled};
 use cdx_write::{Element, Lone, ToInnerXml, ToXml};
 use std::alloc::Global;
 use std::process::Abort;

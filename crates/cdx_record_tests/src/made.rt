@@ -1,13 +1,13 @@
 //! Calls that make a value from nothing but its parts.
 
 use crate::expect::{holds, text_is};
-use cdx_cases::faults::of_xml;
-use cdx_cases::forms::{V5, held};
 use cdx_events::{List, OwnedName};
 use cdx_json::ToJson;
 use cdx_models::XmlReadError;
 use cdx_nest::Metadata;
 use cdx_signature::{Algorithm, Signature, Signer};
+use cdx_test_cases::faults::of_xml;
+use cdx_test_cases::forms::{V5, held};
 use cdx_write::ToXml;
 use std::alloc::Global;
 use std::test::Fail;

@@ -1,17 +1,17 @@
 //! Single elements and values, each read by a call of its own record.
 
 use crate::expect::{holds, row_is};
-use cdx_cases::forms::{V4, V5, again, denoted, read};
-use cdx_cases::rows::row;
-use cdx_data::Data;
+use cdx_component_parts::ComponentEvidence;
 use cdx_json::{FromJson, ToJson};
 use cdx_leaf::FromXml;
 use cdx_license::{License, LicenseChoice};
 use cdx_models::{Hashes, OrganizationalEntity, SpecVersion};
 use cdx_nest::{Component, Tools};
-use cdx_parts::ComponentEvidence;
 use cdx_relations::Dependencies;
+use cdx_service_data::Data;
 use cdx_signature::Signature;
+use cdx_test_cases::forms::{V4, V5, again, denoted, read};
+use cdx_test_cases::rows::row;
 use cdx_write::ToXml;
 use std::alloc::Global;
 use std::process::Abort;

@@ -7,14 +7,14 @@
 //! - `keeps`: what the version keeps of what the text denotes in 1.5.
 
 use crate::expect::row_is;
-use cdx_cases::forms::{V5, denoted, held};
-use cdx_cases::rows::{Case, cases};
-use cdx_data::Data;
 use cdx_events::List;
 use cdx_json::{FromJson, Kept};
 use cdx_leaf::FromXml;
 use cdx_models::{ExternalReference, SpecVersion, Uri};
+use cdx_service_data::Data;
 use cdx_signature::{Algorithm, Signature, Signer};
+use cdx_test_cases::forms::{V5, denoted, held};
+use cdx_test_cases::rows::{Case, cases};
 use std::alloc::Global;
 use std::process::Abort;
 use std::test::Fail;

@@ -4,7 +4,7 @@ use Rattle.cdx_models.specs.Trees.{text, boolean, Trees, trees, present, list_tr
 use Rattle.cdx_models.specs.Records.{entity_tree, references_tree, properties_tree}
 use Rattle.cdx_license.specs.Records.{licenses_tree}
 use Rattle.cdx_signature.specs.Records.{signature_tree}
-use Rattle.cdx_data.specs.Records.{data_tree}
+use Rattle.cdx_service_data.specs.Records.{data_tree}
 use Rattle.cdx_service.specs.Trees.{services_tree}
 use Rattle.cdx_service.specs.declared.service.parts.ServiceNaming.{ServiceNaming}
 use Rattle.cdx_service.specs.declared.service.parts.ServiceAccess.{ServiceAccess}

@@ -12,11 +12,11 @@ mod compared;
 mod copied;
 pub(crate) mod parts;
 
-use cdx_data::Data;
 use cdx_events::{List, Text};
 use cdx_license::Licenses;
 use cdx_models::{ExternalReferences, HasTree, OrganizationalEntity, Properties};
 use cdx_schema::Kinded;
+use cdx_service_data::Data;
 use cdx_signature::Signature;
 use compared::{same_service, same_services};
 use copied::{copy_service, copy_services};

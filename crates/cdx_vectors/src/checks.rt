@@ -15,12 +15,12 @@
 //!   where that is not the text; and after another what it reads of the element, where that is not what it keeps.
 
 use crate::expect::row_is;
-use cdx_cases::forms::{
-    V5, again, denoted, held, kept, named as as_named, placed, read, shown, spelled,
-};
-use cdx_cases::rows::{Case, cases, parted};
 use cdx_json::{FromJson, ToJson};
 use cdx_leaf::FromXml;
+use cdx_test_cases::forms::{
+    V5, again, denoted, held, kept, named as as_named, placed, read, shown, spelled,
+};
+use cdx_test_cases::rows::{Case, cases, parted};
 use cdx_write::{Element, ToInnerXml, ToXml};
 use std::alloc::Global;
 use std::process::Abort;

@@ -8,9 +8,9 @@ use Rattle.cdx_models.specs.Entries.{is_flow}
 use Rattle.cdx_schema.specs.Kinds.{a_record, an_entry, required}
 use Rattle.cdx_schema.specs.Table.{rows}
 use Rattle.cdx_schema.specs.Membership.{IsOf}
-use Rattle.cdx_data.specs.declared.service.DataClassification.{DataClassification}
-use Rattle.cdx_data.specs.declared.service.ServiceData.{ServiceData}
-use Rattle.cdx_data.specs.Records.{classification_tree, service_data_tree, service_entry}
+use Rattle.cdx_service_data.specs.declared.service.DataClassification.{DataClassification}
+use Rattle.cdx_service_data.specs.declared.service.ServiceData.{ServiceData}
+use Rattle.cdx_service_data.specs.Records.{classification_tree, service_data_tree, service_entry}
 use Rattle.cdx_whole.specs.Fields.{IsField, AreFields}
 
 pub classification_entry : (x : DataClassification) → IsOf (classification_tree x) (a_record classification) → IsOf (classification_tree x) an_entry

@@ -1,7 +1,7 @@
 //! The data of services.
 
 use crate::of_kind::{OfKind, tell_list, tell_row};
-use cdx_data::{Data, DataClassification, ServiceData};
+use cdx_service_data::{Data, DataClassification, ServiceData};
 
 impl OfKind for DataClassification {
     fn tell(&self) {

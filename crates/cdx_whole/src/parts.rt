@@ -1,7 +1,7 @@
 //! What components are known by, and the evidence found in them.
 
 use crate::of_kind::{OfKind, tell_list, tell_row};
-use cdx_parts::{ComponentEvidence, Copyright, CopyrightTexts, Cpe, MimeType, Swid};
+use cdx_component_parts::{ComponentEvidence, Copyright, CopyrightTexts, Cpe, MimeType, Swid};
 
 impl OfKind for MimeType {
     fn tell(&self) {

@@ -7,10 +7,10 @@ ghost use Rattle.cdx_component.specs.Trees.{component_tree};
 ghost use Rattle.cdx_component.specs.PartTrees.{origin_trees, naming_trees, marks_trees, contents_trees};
 
 use crate::component::{Component, Components, Pedigree};
+use cdx_component_parts::{ComponentEvidence, Cpe, MimeType, Swid};
 use cdx_events::Text;
 use cdx_license::Licenses;
 use cdx_models::{ExternalReferences, Hashes, OrganizationalEntity, Properties};
-use cdx_parts::{ComponentEvidence, Cpe, MimeType, Swid};
 use cdx_signature::Signature;
 
 #[derive(Drop)]

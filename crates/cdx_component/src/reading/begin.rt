@@ -7,16 +7,16 @@ ghost use Rattle.cdx_schema.specs.Table.{rows};
 ghost use Rattle.cdx_schema.specs.XmlReading.{attributes_read};
 ghost use Rattle.cdx_json.specs.Groups.{group};
 ghost use Rattle.cdx_leaf.specs.Attribute.{Gives};
-ghost use Rattle.cdx_parts.specs.Records.{mime_type_tree};
+ghost use Rattle.cdx_component_parts.specs.Records.{mime_type_tree};
 ghost use Rattle.cdx_component.specs.PartTrees.{origin_trees};
 ghost use Rattle.cdx_component.specs.ReadingParts.{component_part};
 
 use crate::component::parts::{Contents, Marks, Origin};
 use crate::reading::parts::{ComponentPart, NamingPart};
+use cdx_component_parts::MimeType;
 use cdx_events::{List, OwnedAttribute, OwnedName, Text};
 use cdx_leaf::{attribute_or_error, attribute_or_none};
 use cdx_models::XmlReadError;
-use cdx_parts::MimeType;
 use std::alloc::Global;
 
 fn mime_type_of(held: Option<Text>) -> Option<MimeType>

@@ -4,16 +4,16 @@ ghost use Rattle.std.specs.Prelude.{◌≡◌, ◌&&◌, ◌||◌, is_some, not}
 ghost use Rattle.cdx_models.specs.Trees.{text, present, list_tree};
 ghost use Rattle.cdx_models.specs.Records.{contact_tree, entity_tree};
 ghost use Rattle.cdx_patch.specs.Records.{diff_tree, source_tree};
-ghost use Rattle.cdx_parts.specs.Records.{evidence_tree};
+ghost use Rattle.cdx_component_parts.specs.Records.{evidence_tree};
 ghost use Rattle.cdx_schema.specs.Trips.{bare, is_hollow};
 ghost use Rattle.cdx_losses.specs.Losses.{field_reason};
 ghost use Rattle.cdx_losses.specs.LeftOut.{is_left_out, after_two_trips, urls_row, contacts_row, diff_row, source_row, supplier_row, evidence_row};
 
 use crate::loss::Reason;
 use crate::road::Road;
+use cdx_component_parts::ComponentEvidence;
 use cdx_events::{List as Items, Text};
 use cdx_models::{OrganizationalContact, OrganizationalEntity};
-use cdx_parts::ComponentEvidence;
 use cdx_patch::{Diff, Source};
 
 // ---- records without children

@@ -3,10 +3,10 @@
 use crate::calls::in_json;
 use crate::expect::{holds, text_is};
 use cdx_bom::Bom;
-use cdx_cases::documents::{document, line_of};
-use cdx_cases::forms::{V3, V4, V5, held, shown};
 use cdx_events::EventWriter;
 use cdx_leaf::FromXmlDocument;
+use cdx_test_cases::documents::{document, line_of};
+use cdx_test_cases::forms::{V3, V4, V5, held, shown};
 use cdx_write::ToXml;
 use std::alloc::Global;
 use std::test::Fail;

@@ -2,12 +2,12 @@
 
 use crate::calls::{in_both, in_json, lone, named, record};
 use crate::expect::text_is;
-use cdx_cases::forms::{V5, spelled};
 use cdx_events::Text;
 use cdx_models::{
     AttachedText, ExternalReference, ExternalReferences, Hash, HashValue, Hashes,
     OrganizationalContact, OrganizationalEntity, Properties, Property, Tool, Uri, UrnUuid,
 };
+use cdx_test_cases::forms::{V5, spelled};
 use std::test::Fail;
 
 #[test]

@@ -2,8 +2,8 @@
 
 use crate::calls::record;
 use crate::expect::row_holds;
-use cdx_cases::forms::{V3, V4, V5, held};
 use cdx_nest::{Component, Components, Metadata, Pedigree, Service, Services, Tools};
+use cdx_test_cases::forms::{V3, V4, V5, held};
 use std::test::Fail;
 
 const COMPONENT: &str =

@@ -1,8 +1,8 @@
 //! The leaf records of components, and the data of services.
 
 use crate::calls::{in_json, lone, record};
-use cdx_data::{Data, DataClassification, ServiceData};
-use cdx_parts::{ComponentEvidence, Copyright, CopyrightTexts, Cpe, MimeType, Swid};
+use cdx_component_parts::{ComponentEvidence, Copyright, CopyrightTexts, Cpe, MimeType, Swid};
+use cdx_service_data::{Data, DataClassification, ServiceData};
 use std::test::Fail;
 
 const SWID: &str =

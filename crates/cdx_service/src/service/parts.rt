@@ -7,10 +7,10 @@ ghost use Rattle.cdx_service.specs.Trees.{service_tree};
 ghost use Rattle.cdx_service.specs.PartTrees.{service_naming_trees, service_access_trees, service_contents_trees};
 
 use crate::service::{Service, Services};
-use cdx_data::Data;
 use cdx_events::{List, Text};
 use cdx_license::Licenses;
 use cdx_models::{ExternalReferences, OrganizationalEntity, Properties};
+use cdx_service_data::Data;
 use cdx_signature::Signature;
 
 #[derive(Drop)]

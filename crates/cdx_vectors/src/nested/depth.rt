@@ -1,11 +1,11 @@
 //! How deep components and services may stand in each other: 32 are read, and one inside them isn't.
 
 use crate::expect::row_is;
-use cdx_cases::forms::{V5, again, chain, read};
-use cdx_cases::rows::row;
 use cdx_json::{FromJson, ToJson};
 use cdx_leaf::FromXml;
 use cdx_nest::{Components, Services};
+use cdx_test_cases::forms::{V5, again, chain, read};
+use cdx_test_cases::rows::row;
 use std::alloc::Global;
 use std::process::Abort;
 use std::test::Fail;

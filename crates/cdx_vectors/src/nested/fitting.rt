@@ -1,9 +1,9 @@
 //! Which versions can hold a component without a version of its own, and lists of components and services.
 
 use crate::expect::{holds, row_holds};
-use cdx_cases::forms::{V3, V4, V5, held};
-use cdx_cases::rows::row;
 use cdx_nest::{Component, Components, Metadata, Pedigree, Service, Services};
+use cdx_test_cases::forms::{V3, V4, V5, held};
+use cdx_test_cases::rows::row;
 use std::alloc::Global;
 use std::test::Fail;
 

@@ -1,8 +1,8 @@
 //! Tags and evidence, which no version changes, and the data of services.
 
 use crate::checks::{records, values};
-use cdx_data::{Data, DataClassification, ServiceData};
-use cdx_parts::{ComponentEvidence, Copyright, CopyrightTexts, Cpe, MimeType, Swid};
+use cdx_component_parts::{ComponentEvidence, Copyright, CopyrightTexts, Cpe, MimeType, Swid};
+use cdx_service_data::{Data, DataClassification, ServiceData};
 use std::test::Fail;
 
 const SWID: &str = r#"

@@ -1,16 +1,16 @@
 //! What constructors give, and values that no document tells apart.
 
 use crate::expect::{holds, row_holds, text_is};
-use cdx_cases::forms::{V3, V5, denoted, held, named, shown};
-use cdx_data::{Data, DataClassification};
+use cdx_component_parts::ComponentEvidence;
 use cdx_events::{List, Text};
 use cdx_json::{FromJson, Kept};
 use cdx_license::Expression;
 use cdx_models::{ExternalReference, ExternalReferences, HasTree, OrganizationalEntity, Tool, Uri};
-use cdx_parts::ComponentEvidence;
 use cdx_patch::Source;
 use cdx_relations::BomReference;
+use cdx_service_data::{Data, DataClassification};
 use cdx_signature::{Algorithm, Signature, Signer};
+use cdx_test_cases::forms::{V3, V5, denoted, held, named, shown};
 use cdx_write::{Filled, ToInnerXml};
 use std::alloc::{AllocError, Global};
 use std::process::Abort;

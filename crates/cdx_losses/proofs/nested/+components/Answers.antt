@@ -4,7 +4,7 @@ use Rattle.cdx_models.specs.Records.{entity_tree}
 use Rattle.cdx_license.specs.Records.{licenses_tree}
 use Rattle.cdx_signature.specs.Records.{signature_tree, signature_there}
 use Rattle.cdx_patch.specs.Records.{patches_tree}
-use Rattle.cdx_parts.specs.Records.{evidence_tree}
+use Rattle.cdx_component_parts.specs.Records.{evidence_tree}
 use Rattle.cdx_component.specs.Trees.{component_tree, components_tree, pedigree_tree}
 use Rattle.cdx_component.specs.declared.component.Component.TheViews.{out-Component, out-Pedigree}
 use Rattle.cdx_schema.specs.Kinds.{a_list, a_record, patches, components}

@@ -3,7 +3,7 @@ use Rattle.cdx_models.specs.Trees.{present, text, each, entity, service}
 use Rattle.cdx_models.specs.Records.{entity_tree}
 use Rattle.cdx_license.specs.Records.{licenses_tree}
 use Rattle.cdx_signature.specs.Records.{signature_tree, signature_there}
-use Rattle.cdx_data.specs.Records.{data_tree}
+use Rattle.cdx_service_data.specs.Records.{data_tree}
 use Rattle.cdx_service.specs.Trees.{service_tree, services_tree}
 use Rattle.cdx_service.specs.declared.service.Service.TheViews.{out-Service}
 use Rattle.cdx_schema.specs.Kinds.{a_list, a_record, a_data, services}

@@ -1,7 +1,7 @@
 use Rattle.std.proofs.Common.{[], ◌++◌, refl, ◌∙◌, codes}
 use Rattle.cdx_models.specs.Trees.{present, evidence}
 use Rattle.cdx_license.specs.Records.{licenses_tree}
-use Rattle.cdx_parts.specs.Records.{evidence_tree}
+use Rattle.cdx_component_parts.specs.Records.{evidence_tree}
 use Rattle.cdx_schema.specs.Kinds.{a_record}
 use Rattle.cdx_losses.specs.Walks.{value_lost}
 use Rattle.cdx_losses.proofs.Spared.{row_lost}

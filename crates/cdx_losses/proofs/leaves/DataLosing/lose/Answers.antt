@@ -1,6 +1,6 @@
 use Rattle.std.proofs.Common.{[], refl, ap, ◌∙◌}
 use Rattle.cdx_models.specs.Trees.{list_tree, each}
-use Rattle.cdx_data.specs.Records.{service_entry, data_tree, classification_tree}
+use Rattle.cdx_service_data.specs.Records.{service_entry, data_tree, classification_tree}
 use Rattle.cdx_schema.specs.Kinds.{a_data, an_entry}
 use Rattle.cdx_losses.specs.Losses.{items_lost}
 use Rattle.cdx_losses.specs.Walks.{value_lost}

@@ -1,5 +1,5 @@
 use Rattle.std.proofs.Common.{[], sym, ◌∙◌}
-use Rattle.cdx_data.specs.Records.{service_entry}
+use Rattle.cdx_service_data.specs.Records.{service_entry}
 use Rattle.cdx_schema.specs.Kinds.{an_entry}
 use Rattle.cdx_losses.specs.Walks.{value_lost}
 use Rattle.cdx_losses.proofs.Walks.{adds_same, adds_none}

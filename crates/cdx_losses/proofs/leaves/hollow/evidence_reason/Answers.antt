@@ -1,6 +1,6 @@
 use Rattle.std.proofs.Common.{refl, codes}
 use Rattle.cdx_models.specs.Trees.{evidence}
-use Rattle.cdx_parts.specs.Records.{evidence_tree}
+use Rattle.cdx_component_parts.specs.Records.{evidence_tree}
 use Rattle.cdx_losses.specs.LeftOut.{evidence_row}
 use Rattle.cdx_losses.proofs.Gone.{held_reason, filled_reason}
 use Rattle.cdx_schema.specs.Trips.{is_hollow}

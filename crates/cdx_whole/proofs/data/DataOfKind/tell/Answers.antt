@@ -1,6 +1,6 @@
 use Rattle.cdx_models.specs.Trees.{classification, service_data}
 use Rattle.cdx_schema.specs.Kinds.{a_record, an_entry}
-use Rattle.cdx_data.specs.Records.{classification_tree, service_data_tree, service_entry}
+use Rattle.cdx_service_data.specs.Records.{classification_tree, service_data_tree, service_entry}
 use Rattle.cdx_whole.proofs.Lists.{as_others}
 use Rattle.cdx_whole.proofs.Entries.{classification_entry, data_entry}
 use Rattle.cdx_whole.proofs.data.DataOfKind.tell.Goals as goal

@@ -1,0 +1,219 @@
+//! The data of services.
+
+use crate::parts::{DataPart, ServiceDataPart};
+use crate::service::{Data, DataClassification, ServiceData};
+use cdx_events::{EventReader, List, OwnedAttribute, OwnedName, Text};
+use cdx_leaf::{
+    Children, FromXml, Rule, Taken, TextRecord, XmlRecord, attribute_or_error, attribute_or_none,
+    child_or_error, read_record, read_text_record, take_into, take_one,
+};
+use cdx_models::{SpecVersion, XmlReadError};
+use std::alloc::Global;
+
+impl TextRecord for DataClassification {
+    ghost use Rattle.cdx_models.specs.Trees.{classification};
+    ghost use Rattle.cdx_leaf.specs.RowContents.{content_is};
+    ghost use Rattle.cdx_service_data.specs.Whole.{classification_whole};
+    ghost use Rattle.cdx_leaf.specs.Parts.{text_alone};
+
+    type Start = Text;
+
+    ghost start = { text_alone };
+
+    ghost at = { 1 };
+
+    ghost content = { content_is classification };
+
+    ghost whole = { classification_whole };
+
+    fn begin(
+        alloc: Global,
+        place: usize,
+        _v: SpecVersion,
+        element: &OwnedName,
+        attributes: &List<OwnedAttribute>,
+    ) -> Result<Text, XmlReadError> {
+        attribute_or_error(alloc, place, element, attributes, "flow")
+    }
+
+    fn with_text(begun: Text, content: Text) -> DataClassification {
+        DataClassification {
+            flow: begun,
+            classification: content,
+        }
+    }
+}
+
+impl FromXml for DataClassification {
+    ghost use Rattle.std.specs.Prelude.{refl};
+
+    ghost depth = { λ d. d };
+
+    ghost at_top = { refl };
+
+    fn read_xml_element(
+        alloc: Global,
+        reader: &mut EventReader<'_>,
+        v: SpecVersion,
+        element: &OwnedName,
+        attributes: &List<OwnedAttribute>,
+    ) -> Result<DataClassification, XmlReadError> {
+        read_text_record(alloc, reader, v, element, attributes)
+    }
+}
+
+impl Children for ServiceDataPart {
+    ghost use Rattle.cdx_models.specs.Trees.{service_data};
+    ghost use Rattle.cdx_schema.specs.XmlReading.{record_plan};
+    ghost use Rattle.cdx_service_data.specs.Parts.{service_data_part};
+
+    ghost slots = { service_data_part };
+
+    ghost plan = { λ r. record_plan service_data };
+
+    ghost depth = { λ r d. d };
+
+    fn rule(&self) -> Rule {
+        Rule::Lax
+    }
+
+    fn read_child(
+        &mut self,
+        alloc: Global,
+        reader: &mut EventReader<'_>,
+        v: SpecVersion,
+        element: &OwnedName,
+        attributes: &List<OwnedAttribute>,
+    ) -> Result<Taken, XmlReadError> {
+        match element.local_name.as_str() {
+            "classification" => take_one(
+                alloc,
+                reader,
+                v,
+                element,
+                attributes,
+                &mut self.classification,
+            ),
+            _ => Ok(Taken::Unknown),
+        }
+    }
+}
+
+impl XmlRecord for ServiceData {
+    ghost use Rattle.std.specs.Prelude.{refl};
+    ghost use Rattle.cdx_models.specs.Trees.{service_data};
+    ghost use Rattle.cdx_leaf.specs.RowContents.{content_is};
+
+    type Part = ServiceDataPart;
+
+    ghost no_content = { content_is service_data };
+
+    ghost by_rows = { λ part. refl };
+
+    ghost same_depth = { λ part. refl };
+
+    fn begin(
+        alloc: Global,
+        _place: usize,
+        _v: SpecVersion,
+        _element: &OwnedName,
+        attributes: &List<OwnedAttribute>,
+    ) -> Result<ServiceDataPart, XmlReadError> {
+        Ok(ServiceDataPart {
+            name: attribute_or_none(alloc, attributes, "name")?,
+            description: attribute_or_none(alloc, attributes, "description")?,
+            classification: None,
+        })
+    }
+
+    fn finish(
+        alloc: Global,
+        place: usize,
+        _v: SpecVersion,
+        element: &OwnedName,
+        part: ServiceDataPart,
+    ) -> Result<ServiceData, XmlReadError> {
+        let classification = child_or_error(
+            alloc,
+            place,
+            element,
+            part.classification,
+            "classification",
+        )?;
+        Ok(ServiceData {
+            name: part.name,
+            description: part.description,
+            classification,
+        })
+    }
+}
+
+impl Children for DataPart {
+    ghost use Rattle.cdx_schema.specs.XmlReading.{data_plan};
+    ghost use Rattle.cdx_service_data.specs.Parts.{data_part};
+
+    ghost slots = { data_part };
+
+    ghost plan = { λ r. data_plan };
+
+    ghost depth = { λ r d. d };
+
+    fn rule(&self) -> Rule {
+        Rule::Passing
+    }
+
+    fn read_child(
+        &mut self,
+        alloc: Global,
+        reader: &mut EventReader<'_>,
+        v: SpecVersion,
+        element: &OwnedName,
+        attributes: &List<OwnedAttribute>,
+    ) -> Result<Taken, XmlReadError> {
+        match element.local_name.as_str() {
+            "classification" => take_into(
+                alloc,
+                reader,
+                v,
+                element,
+                attributes,
+                &mut self.classifications,
+            ),
+            "dataflow" => {
+                if !SpecVersion::V1_5.is_known_to(v) {
+                    return Ok(Taken::Unknown);
+                }
+                take_into(alloc, reader, v, element, attributes, &mut self.flows)
+            }
+            _ => Ok(Taken::Unknown),
+        }
+    }
+}
+
+/// The flows where there is one, which only 1.5 knows; classifications that stand beside them are read and dropped. Else
+/// the classifications. Unknown elements are skipped, and texts are passed over.
+impl FromXml for Data {
+    ghost use Rattle.std.specs.Prelude.{refl};
+
+    ghost depth = { λ d. d };
+
+    ghost at_top = { refl };
+
+    fn read_xml_element(
+        alloc: Global,
+        reader: &mut EventReader<'_>,
+        v: SpecVersion,
+        element: &OwnedName,
+        _attributes: &List<OwnedAttribute>,
+    ) -> Result<Data, XmlReadError> {
+        let begun = Ok(DataPart {
+            classifications: List::new(alloc),
+            flows: List::new(alloc),
+        });
+        let part: DataPart = read_record(alloc, reader, v, element, begun)?;
+        if part.flows.len() == 0 {
+            return Ok(Data::Classification(part.classifications));
+        }
+        Ok(Data::ServiceData(part.flows))
+    }
+}

@@ -1,0 +1,263 @@
+//! The data that a service takes or gives.
+
+ghost use Rattle.cdx_models.specs.Trees.{classification, service_data, list_tree};
+ghost use Rattle.cdx_schema.specs.Kinds.{a_data};
+ghost use Rattle.std.specs.Prelude.{◌≡◌, refl, IfOk, is_some, ◌||◌, ◌↔◌, IsTrue};
+ghost use Rattle.cdx_models.specs.Entries.{entry_of};
+ghost use Rattle.cdx_models.specs.Same.{same};
+ghost use Rattle.cdx_models.specs.SameLaws.{same_laws};
+ghost use Rattle.cdx_service_data.specs.Records.{classification_tree, service_data_tree, service_classification, service_entry, data_tree, data_there};
+
+use cdx_events::{List, Text};
+use cdx_models::{HasTree, copy_row, same_row};
+use cdx_schema::{Kinded, Record};
+use std::alloc::{AllocError, Global};
+
+/// How sensitive data is.
+#[derive(Debug)]
+pub struct DataClassification {
+    /// Whether the data goes in or out, as `inbound`.
+    pub flow: Text,
+    /// The data's class, as `PII`.
+    pub classification: Text,
+}
+
+// By hand, so that one is freed by a call wherever it ends, and not field by field.
+impl Drop for DataClassification {
+    fn drop(self) {
+        let DataClassification {
+            flow: _,
+            classification: _,
+        } = self;
+    }
+}
+
+impl DataClassification {
+    /// The data of this class that flows this way.
+    pub fn new(
+        alloc: Global,
+        flow: &str,
+        classification: &str,
+    ) -> Result<DataClassification, AllocError>
+        ensures { IfOk result
+            (λ r. r ≡ record { flow = flow.now; classification = classification.now }) }
+    {
+        Ok(DataClassification {
+            flow: Text::new(alloc, flow)?,
+            classification: Text::new(alloc, classification)?,
+        })
+    }
+}
+
+impl HasTree for DataClassification {
+    ghost tree = { classification_tree };
+
+    ghost there = { λ x. refl };
+
+    fn copy(&self, alloc: Global) -> Result<DataClassification, AllocError> {
+        Ok(DataClassification {
+            flow: self.flow.copy(alloc)?,
+            classification: self.classification.copy(alloc)?,
+        })
+    }
+
+    fn agrees(&self, other: &DataClassification) -> bool {
+        self.flow.agrees(&other.flow) && self.classification.agrees(&other.classification)
+    }
+}
+
+impl Record for DataClassification {
+    ghost name = { classification };
+
+    ghost is_record = { λ x. refl };
+
+    ghost plain = { refl };
+}
+
+impl PartialEq for DataClassification {
+    ghost eq = { λ a b. same (classification_tree a) (classification_tree b) };
+
+    ghost laws = { same_laws classification_tree };
+
+    fn eq(&self, other: &DataClassification) -> bool
+        ensures { IsTrue result ↔ (classification_tree self.now ≡ classification_tree other.now) }
+    {
+        self.same(other)
+    }
+}
+
+/// Data with a name and a description. Known from 1.5 on.
+#[derive(Debug)]
+pub struct ServiceData {
+    /// The name of the data.
+    pub name: Option<Text>,
+    /// What the data are.
+    pub description: Option<Text>,
+    /// How they flow, and how they are classified.
+    pub classification: DataClassification,
+}
+
+// By hand, so that one is freed by a call wherever it ends, and not field by field.
+impl Drop for ServiceData {
+    fn drop(self) {
+        let ServiceData {
+            name: _,
+            description: _,
+            classification: _,
+        } = self;
+    }
+}
+
+impl HasTree for ServiceData {
+    ghost tree = { service_data_tree };
+
+    ghost there = { λ x. refl };
+
+    fn copy(&self, alloc: Global) -> Result<ServiceData, AllocError> {
+        Ok(ServiceData {
+            name: copy_row(alloc, &self.name)?,
+            description: copy_row(alloc, &self.description)?,
+            classification: self.classification.copy(alloc)?,
+        })
+    }
+
+    fn agrees(&self, other: &ServiceData) -> bool {
+        same_row(&self.name, &other.name)
+            && same_row(&self.description, &other.description)
+            && self.classification.agrees(&other.classification)
+    }
+}
+
+impl Record for ServiceData {
+    ghost name = { service_data };
+
+    ghost is_record = { λ x. refl };
+
+    ghost plain = { refl };
+}
+
+impl PartialEq for ServiceData {
+    ghost eq = { λ a b. same (service_data_tree a) (service_data_tree b) };
+
+    ghost laws = { same_laws service_data_tree };
+
+    fn eq(&self, other: &ServiceData) -> bool
+        ensures { IsTrue result ↔ (service_data_tree self.now ≡ service_data_tree other.now) }
+    {
+        self.same(other)
+    }
+}
+
+/// The data that a service takes or gives. It is seen as the list of its entries: a `ServiceData` with neither name
+/// nor description counts as its classification.
+#[derive(Debug, Drop)]
+pub enum Data {
+    /// Each with its classification alone.
+    Classification(List<DataClassification>),
+    /// Known from 1.5 on.
+    ServiceData(List<ServiceData>),
+}
+
+impl HasTree for Data {
+    ghost tree = { data_tree };
+
+    ghost there = { data_there };
+
+    fn copy(&self, alloc: Global) -> Result<Data, AllocError> {
+        match self {
+            Data::Classification(held) => Ok(Data::Classification(held.copy(alloc)?)),
+            Data::ServiceData(held) => Ok(Data::ServiceData(held.copy(alloc)?)),
+        }
+    }
+
+    fn agrees(&self, other: &Data) -> bool {
+        match (self, other) {
+            (Data::Classification(one), Data::Classification(other)) => one.agrees(other),
+            (Data::Classification(one), Data::ServiceData(other)) => same_entries(one, other),
+            (Data::ServiceData(one), Data::Classification(other)) => same_entries(other, one),
+            (Data::ServiceData(one), Data::ServiceData(other)) => same_entries(one, other),
+        }
+    }
+}
+
+impl Kinded for Data {
+    ghost kind = { a_data };
+}
+
+impl PartialEq for Data {
+    ghost eq = { λ a b. same (data_tree a) (data_tree b) };
+
+    ghost laws = { same_laws data_tree };
+
+    fn eq(&self, other: &Data) -> bool
+        ensures { IsTrue result ↔ (data_tree self.now ≡ data_tree other.now) }
+    {
+        self.same(other)
+    }
+}
+
+impl ServiceData {
+    /// Whether it has a name or a description, so that it is more than its classification. It takes no memory.
+    pub fn is_flow(&self) -> bool
+        ensures { result ≡ (is_some self.now.name || is_some self.now.description) }
+    {
+        self.name.is_some() || self.description.is_some()
+    }
+}
+
+/// A value that may stand among a service's data.
+trait Entry: HasTree {
+    /// Whether it is the same entry as a service data. It takes no memory.
+    fn same_entry(&self, other: &ServiceData) -> bool
+        ensures { result ≡ same (entry_of (Self.tree self.now)) (service_entry other.now) };
+}
+
+impl Entry for DataClassification {
+    fn same_entry(&self, other: &ServiceData) -> bool {
+        !other.is_flow() && self.same(&other.classification)
+    }
+}
+
+impl Entry for ServiceData {
+    fn same_entry(&self, other: &ServiceData) -> bool {
+        if self.is_flow() {
+            self.same(other)
+        } else {
+            self.classification.same_entry(other)
+        }
+    }
+}
+
+/// Whether the entries are equal one by one. It takes no memory.
+fn same_entries<T: Entry + Drop>(one: &List<T>, other: &List<ServiceData>) -> bool
+    ensures { result
+        ≡ same (list_tree (λ x. entry_of (T.tree x)) one.now)
+        (list_tree service_entry other.now) }
+{
+    let one = one.as_slice();
+    let other = other.as_slice();
+    if one.len() != other.len() {
+        return false;
+    }
+    for i in 0..one.len() {
+        if !one[i].same_entry(&other[i]) {
+            return false;
+        }
+    }
+    true
+}
+
+/// The classification of each. Only want of memory is refused.
+pub(crate) fn classifications(
+    alloc: Global,
+    held: &List<ServiceData>,
+) -> Result<List<DataClassification>, AllocError>
+    ensures { IfOk result
+        (λ r. list_tree classification_tree r ≡ list_tree service_classification held.now) }
+{
+    let mut copies = List::with_capacity(alloc, held.len())?;
+    for item in held.as_slice() {
+        copies.push(item.classification.copy(alloc)?)?;
+    }
+    Ok(copies)
+}
