@@ -129,7 +129,8 @@ impl PartialEq for Bom {
     ghost laws = { same_laws bom_tree };
 
     fn eq(&self, other: &Bom) -> bool
-        ensures { IsTrue result ↔ (bom_tree self.now ≡ bom_tree other.now) }
+        ensures test { result ≡ same (bom_tree self.now) (bom_tree other.now) }
+        ensures equality { IsTrue result ↔ (bom_tree self.now ≡ bom_tree other.now) }
     {
         self.same(other)
     }

@@ -68,7 +68,8 @@ impl PartialEq for IdentifiableAction {
     ghost laws = { same_laws action_tree };
 
     fn eq(&self, other: &IdentifiableAction) -> bool
-        ensures { IsTrue result ↔ (action_tree self.now ≡ action_tree other.now) }
+        ensures test { result ≡ same (action_tree self.now) (action_tree other.now) }
+        ensures equality { IsTrue result ↔ (action_tree self.now ≡ action_tree other.now) }
     {
         self.same(other)
     }
@@ -140,7 +141,8 @@ impl PartialEq for Commit {
     ghost laws = { same_laws commit_tree };
 
     fn eq(&self, other: &Commit) -> bool
-        ensures { IsTrue result ↔ (commit_tree self.now ≡ commit_tree other.now) }
+        ensures test { result ≡ same (commit_tree self.now) (commit_tree other.now) }
+        ensures equality { IsTrue result ↔ (commit_tree self.now ≡ commit_tree other.now) }
     {
         self.same(other)
     }
@@ -174,7 +176,8 @@ impl PartialEq for Commits {
     ghost laws = { same_laws commits_tree };
 
     fn eq(&self, other: &Commits) -> bool
-        ensures { IsTrue result ↔ (commits_tree self.now ≡ commits_tree other.now) }
+        ensures test { result ≡ same (commits_tree self.now) (commits_tree other.now) }
+        ensures equality { IsTrue result ↔ (commits_tree self.now ≡ commits_tree other.now) }
     {
         self.same(other)
     }

@@ -227,7 +227,8 @@ impl PartialEq for Component {
     ghost laws = { same_laws component_tree };
 
     fn eq(&self, other: &Component) -> bool
-        ensures { IsTrue result ↔ (component_tree self.now ≡ component_tree other.now) }
+        ensures test { result ≡ same (component_tree self.now) (component_tree other.now) }
+        ensures equality { IsTrue result ↔ (component_tree self.now ≡ component_tree other.now) }
     {
         self.same(other)
     }
@@ -257,7 +258,8 @@ impl PartialEq for Components {
     ghost laws = { same_laws components_tree };
 
     fn eq(&self, other: &Components) -> bool
-        ensures { IsTrue result ↔ (components_tree self.now ≡ components_tree other.now) }
+        ensures test { result ≡ same (components_tree self.now) (components_tree other.now) }
+        ensures equality { IsTrue result ↔ (components_tree self.now ≡ components_tree other.now) }
     {
         self.same(other)
     }
@@ -287,7 +289,8 @@ impl PartialEq for Pedigree {
     ghost laws = { same_laws pedigree_tree };
 
     fn eq(&self, other: &Pedigree) -> bool
-        ensures { IsTrue result ↔ (pedigree_tree self.now ≡ pedigree_tree other.now) }
+        ensures test { result ≡ same (pedigree_tree self.now) (pedigree_tree other.now) }
+        ensures equality { IsTrue result ↔ (pedigree_tree self.now ≡ pedigree_tree other.now) }
     {
         self.same(other)
     }

@@ -89,7 +89,8 @@ impl PartialEq for Swid {
     ghost laws = { same_laws swid_tree };
 
     fn eq(&self, other: &Swid) -> bool
-        ensures { IsTrue result ↔ (swid_tree self.now ≡ swid_tree other.now) }
+        ensures test { result ≡ same (swid_tree self.now) (swid_tree other.now) }
+        ensures equality { IsTrue result ↔ (swid_tree self.now ≡ swid_tree other.now) }
     {
         self.same(other)
     }
@@ -123,7 +124,8 @@ impl PartialEq for Cpe {
     ghost laws = { same_laws cpe_tree };
 
     fn eq(&self, other: &Cpe) -> bool
-        ensures { IsTrue result ↔ (cpe_tree self.now ≡ cpe_tree other.now) }
+        ensures test { result ≡ same (cpe_tree self.now) (cpe_tree other.now) }
+        ensures equality { IsTrue result ↔ (cpe_tree self.now ≡ cpe_tree other.now) }
     {
         self.same(other)
     }
@@ -157,7 +159,8 @@ impl PartialEq for MimeType {
     ghost laws = { same_laws mime_type_tree };
 
     fn eq(&self, other: &MimeType) -> bool
-        ensures { IsTrue result ↔ (mime_type_tree self.now ≡ mime_type_tree other.now) }
+        ensures test { result ≡ same (mime_type_tree self.now) (mime_type_tree other.now) }
+        ensures equality { IsTrue result ↔ (mime_type_tree self.now ≡ mime_type_tree other.now) }
     {
         self.same(other)
     }
@@ -213,7 +216,8 @@ impl PartialEq for ComponentEvidence {
     ghost laws = { same_laws evidence_tree };
 
     fn eq(&self, other: &ComponentEvidence) -> bool
-        ensures { IsTrue result ↔ (evidence_tree self.now ≡ evidence_tree other.now) }
+        ensures test { result ≡ same (evidence_tree self.now) (evidence_tree other.now) }
+        ensures equality { IsTrue result ↔ (evidence_tree self.now ≡ evidence_tree other.now) }
     {
         self.same(other)
     }
@@ -256,7 +260,8 @@ impl PartialEq for Copyright {
     ghost laws = { same_laws copyright_tree };
 
     fn eq(&self, other: &Copyright) -> bool
-        ensures { IsTrue result ↔ (copyright_tree self.now ≡ copyright_tree other.now) }
+        ensures test { result ≡ same (copyright_tree self.now) (copyright_tree other.now) }
+        ensures equality { IsTrue result ↔ (copyright_tree self.now ≡ copyright_tree other.now) }
     {
         self.same(other)
     }
@@ -290,7 +295,8 @@ impl PartialEq for CopyrightTexts {
     ghost laws = { same_laws copyrights_tree };
 
     fn eq(&self, other: &CopyrightTexts) -> bool
-        ensures { IsTrue result ↔ (copyrights_tree self.now ≡ copyrights_tree other.now) }
+        ensures test { result ≡ same (copyrights_tree self.now) (copyrights_tree other.now) }
+        ensures equality { IsTrue result ↔ (copyrights_tree self.now ≡ copyrights_tree other.now) }
     {
         self.same(other)
     }

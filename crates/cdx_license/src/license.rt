@@ -53,7 +53,8 @@ impl PartialEq for LicenseIdentifier {
     ghost laws = { same_laws identifier_tree };
 
     fn eq(&self, other: &LicenseIdentifier) -> bool
-        ensures { IsTrue result ↔ (identifier_tree self.now ≡ identifier_tree other.now) }
+        ensures test { result ≡ same (identifier_tree self.now) (identifier_tree other.now) }
+        ensures equality { IsTrue result ↔ (identifier_tree self.now ≡ identifier_tree other.now) }
     {
         self.same(other)
     }
@@ -125,7 +126,8 @@ impl PartialEq for License {
     ghost laws = { same_laws license_tree };
 
     fn eq(&self, other: &License) -> bool
-        ensures { IsTrue result ↔ (license_tree self.now ≡ license_tree other.now) }
+        ensures test { result ≡ same (license_tree self.now) (license_tree other.now) }
+        ensures equality { IsTrue result ↔ (license_tree self.now ≡ license_tree other.now) }
     {
         self.same(other)
     }
@@ -183,7 +185,8 @@ impl PartialEq for Expression {
     ghost laws = { same_laws expression_tree };
 
     fn eq(&self, other: &Expression) -> bool
-        ensures { IsTrue result ↔ (expression_tree self.now ≡ expression_tree other.now) }
+        ensures test { result ≡ same (expression_tree self.now) (expression_tree other.now) }
+        ensures equality { IsTrue result ↔ (expression_tree self.now ≡ expression_tree other.now) }
     {
         self.same(other)
     }
@@ -230,7 +233,8 @@ impl PartialEq for LicenseChoice {
     ghost laws = { same_laws choice_tree };
 
     fn eq(&self, other: &LicenseChoice) -> bool
-        ensures { IsTrue result ↔ (choice_tree self.now ≡ choice_tree other.now) }
+        ensures test { result ≡ same (choice_tree self.now) (choice_tree other.now) }
+        ensures equality { IsTrue result ↔ (choice_tree self.now ≡ choice_tree other.now) }
     {
         self.same(other)
     }
@@ -264,7 +268,8 @@ impl PartialEq for Licenses {
     ghost laws = { same_laws licenses_tree };
 
     fn eq(&self, other: &Licenses) -> bool
-        ensures { IsTrue result ↔ (licenses_tree self.now ≡ licenses_tree other.now) }
+        ensures test { result ≡ same (licenses_tree self.now) (licenses_tree other.now) }
+        ensures equality { IsTrue result ↔ (licenses_tree self.now ≡ licenses_tree other.now) }
     {
         self.same(other)
     }

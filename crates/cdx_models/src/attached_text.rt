@@ -57,7 +57,8 @@ impl PartialEq for AttachedText {
     ghost laws = { same_laws attached_text_tree };
 
     fn eq(&self, other: &AttachedText) -> bool
-        ensures { IsTrue result ↔ (attached_text_tree self.now ≡ attached_text_tree other.now) }
+        ensures test { result ≡ same (attached_text_tree self.now) (attached_text_tree other.now) }
+        ensures equality { IsTrue result ↔ (attached_text_tree self.now ≡ attached_text_tree other.now) }
     {
         self.same(other)
     }

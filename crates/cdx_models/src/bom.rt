@@ -92,7 +92,8 @@ impl PartialEq for UrnUuid {
     ghost laws = { same_laws urn_tree };
 
     fn eq(&self, other: &UrnUuid) -> bool
-        ensures { IsTrue result ↔ (urn_tree self.now ≡ urn_tree other.now) }
+        ensures test { result ≡ same (urn_tree self.now) (urn_tree other.now) }
+        ensures equality { IsTrue result ↔ (urn_tree self.now ≡ urn_tree other.now) }
     {
         self.same(other)
     }

@@ -75,7 +75,8 @@ impl PartialEq for Uri {
     ghost laws = { same_laws uri_tree };
 
     fn eq(&self, other: &Uri) -> bool
-        ensures { IsTrue result ↔ (uri_tree self.now ≡ uri_tree other.now) }
+        ensures test { result ≡ same (uri_tree self.now) (uri_tree other.now) }
+        ensures equality { IsTrue result ↔ (uri_tree self.now ≡ uri_tree other.now) }
     {
         self.same(other)
     }
@@ -135,7 +136,8 @@ impl PartialEq for ExternalReference {
     ghost laws = { same_laws reference_tree };
 
     fn eq(&self, other: &ExternalReference) -> bool
-        ensures { IsTrue result ↔ (reference_tree self.now ≡ reference_tree other.now) }
+        ensures test { result ≡ same (reference_tree self.now) (reference_tree other.now) }
+        ensures equality { IsTrue result ↔ (reference_tree self.now ≡ reference_tree other.now) }
     {
         self.same(other)
     }
@@ -165,7 +167,8 @@ impl PartialEq for ExternalReferences {
     ghost laws = { same_laws references_tree };
 
     fn eq(&self, other: &ExternalReferences) -> bool
-        ensures { IsTrue result ↔ (references_tree self.now ≡ references_tree other.now) }
+        ensures test { result ≡ same (references_tree self.now) (references_tree other.now) }
+        ensures equality { IsTrue result ↔ (references_tree self.now ≡ references_tree other.now) }
     {
         self.same(other)
     }

@@ -33,7 +33,8 @@ impl PartialEq for HashValue {
     ghost laws = { same_laws hash_value_tree };
 
     fn eq(&self, other: &HashValue) -> bool
-        ensures { IsTrue result ↔ (hash_value_tree self.now ≡ hash_value_tree other.now) }
+        ensures test { result ≡ same (hash_value_tree self.now) (hash_value_tree other.now) }
+        ensures equality { IsTrue result ↔ (hash_value_tree self.now ≡ hash_value_tree other.now) }
     {
         self.same(other)
     }
@@ -71,7 +72,8 @@ impl PartialEq for Hash {
     ghost laws = { same_laws hash_tree };
 
     fn eq(&self, other: &Hash) -> bool
-        ensures { IsTrue result ↔ (hash_tree self.now ≡ hash_tree other.now) }
+        ensures test { result ≡ same (hash_tree self.now) (hash_tree other.now) }
+        ensures equality { IsTrue result ↔ (hash_tree self.now ≡ hash_tree other.now) }
     {
         self.same(other)
     }
@@ -101,7 +103,8 @@ impl PartialEq for Hashes {
     ghost laws = { same_laws hashes_tree };
 
     fn eq(&self, other: &Hashes) -> bool
-        ensures { IsTrue result ↔ (hashes_tree self.now ≡ hashes_tree other.now) }
+        ensures test { result ≡ same (hashes_tree self.now) (hashes_tree other.now) }
+        ensures equality { IsTrue result ↔ (hashes_tree self.now ≡ hashes_tree other.now) }
     {
         self.same(other)
     }

@@ -62,7 +62,8 @@ impl PartialEq for OrganizationalContact {
     ghost laws = { same_laws contact_tree };
 
     fn eq(&self, other: &OrganizationalContact) -> bool
-        ensures { IsTrue result ↔ (contact_tree self.now ≡ contact_tree other.now) }
+        ensures test { result ≡ same (contact_tree self.now) (contact_tree other.now) }
+        ensures equality { IsTrue result ↔ (contact_tree self.now ≡ contact_tree other.now) }
     {
         self.same(other)
     }
@@ -136,7 +137,8 @@ impl PartialEq for OrganizationalEntity {
     ghost laws = { same_laws entity_tree };
 
     fn eq(&self, other: &OrganizationalEntity) -> bool
-        ensures { IsTrue result ↔ (entity_tree self.now ≡ entity_tree other.now) }
+        ensures test { result ≡ same (entity_tree self.now) (entity_tree other.now) }
+        ensures equality { IsTrue result ↔ (entity_tree self.now ≡ entity_tree other.now) }
     {
         self.same(other)
     }

@@ -41,7 +41,8 @@ impl PartialEq for Property {
     ghost laws = { same_laws property_tree };
 
     fn eq(&self, other: &Property) -> bool
-        ensures { IsTrue result ↔ (property_tree self.now ≡ property_tree other.now) }
+        ensures test { result ≡ same (property_tree self.now) (property_tree other.now) }
+        ensures equality { IsTrue result ↔ (property_tree self.now ≡ property_tree other.now) }
     {
         self.same(other)
     }
@@ -71,7 +72,8 @@ impl PartialEq for Properties {
     ghost laws = { same_laws properties_tree };
 
     fn eq(&self, other: &Properties) -> bool
-        ensures { IsTrue result ↔ (properties_tree self.now ≡ properties_tree other.now) }
+        ensures test { result ≡ same (properties_tree self.now) (properties_tree other.now) }
+        ensures equality { IsTrue result ↔ (properties_tree self.now ≡ properties_tree other.now) }
     {
         self.same(other)
     }

@@ -91,7 +91,8 @@ impl PartialEq for Tool {
     ghost laws = { same_laws tool_tree };
 
     fn eq(&self, other: &Tool) -> bool
-        ensures { IsTrue result ↔ (tool_tree self.now ≡ tool_tree other.now) }
+        ensures test { result ≡ same (tool_tree self.now) (tool_tree other.now) }
+        ensures equality { IsTrue result ↔ (tool_tree self.now ≡ tool_tree other.now) }
     {
         self.same(other)
     }

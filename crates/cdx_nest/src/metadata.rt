@@ -127,7 +127,8 @@ impl PartialEq for Metadata {
     ghost laws = { same_laws metadata_tree };
 
     fn eq(&self, other: &Metadata) -> bool
-        ensures { IsTrue result ↔ (metadata_tree self.now ≡ metadata_tree other.now) }
+        ensures test { result ≡ same (metadata_tree self.now) (metadata_tree other.now) }
+        ensures equality { IsTrue result ↔ (metadata_tree self.now ≡ metadata_tree other.now) }
     {
         self.same(other)
     }

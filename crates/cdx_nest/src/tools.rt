@@ -73,7 +73,8 @@ impl PartialEq for Tools {
     ghost laws = { same_laws tools_tree };
 
     fn eq(&self, other: &Tools) -> bool
-        ensures { IsTrue result ↔ (tools_tree self.now ≡ tools_tree other.now) }
+        ensures test { result ≡ same (tools_tree self.now) (tools_tree other.now) }
+        ensures equality { IsTrue result ↔ (tools_tree self.now ≡ tools_tree other.now) }
     {
         self.same(other)
     }

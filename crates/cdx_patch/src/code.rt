@@ -59,7 +59,8 @@ impl PartialEq for Diff {
     ghost laws = { same_laws diff_tree };
 
     fn eq(&self, other: &Diff) -> bool
-        ensures { IsTrue result ↔ (diff_tree self.now ≡ diff_tree other.now) }
+        ensures test { result ≡ same (diff_tree self.now) (diff_tree other.now) }
+        ensures equality { IsTrue result ↔ (diff_tree self.now ≡ diff_tree other.now) }
     {
         self.same(other)
     }
@@ -112,7 +113,8 @@ impl PartialEq for Source {
     ghost laws = { same_laws source_tree };
 
     fn eq(&self, other: &Source) -> bool
-        ensures { IsTrue result ↔ (source_tree self.now ≡ source_tree other.now) }
+        ensures test { result ≡ same (source_tree self.now) (source_tree other.now) }
+        ensures equality { IsTrue result ↔ (source_tree self.now ≡ source_tree other.now) }
     {
         self.same(other)
     }
@@ -189,7 +191,8 @@ impl PartialEq for Issue {
     ghost laws = { same_laws issue_tree };
 
     fn eq(&self, other: &Issue) -> bool
-        ensures { IsTrue result ↔ (issue_tree self.now ≡ issue_tree other.now) }
+        ensures test { result ≡ same (issue_tree self.now) (issue_tree other.now) }
+        ensures equality { IsTrue result ↔ (issue_tree self.now ≡ issue_tree other.now) }
     {
         self.same(other)
     }
@@ -251,7 +254,8 @@ impl PartialEq for Patch {
     ghost laws = { same_laws patch_tree };
 
     fn eq(&self, other: &Patch) -> bool
-        ensures { IsTrue result ↔ (patch_tree self.now ≡ patch_tree other.now) }
+        ensures test { result ≡ same (patch_tree self.now) (patch_tree other.now) }
+        ensures equality { IsTrue result ↔ (patch_tree self.now ≡ patch_tree other.now) }
     {
         self.same(other)
     }
@@ -285,7 +289,8 @@ impl PartialEq for Patches {
     ghost laws = { same_laws patches_tree };
 
     fn eq(&self, other: &Patches) -> bool
-        ensures { IsTrue result ↔ (patches_tree self.now ≡ patches_tree other.now) }
+        ensures test { result ≡ same (patches_tree self.now) (patches_tree other.now) }
+        ensures equality { IsTrue result ↔ (patches_tree self.now ≡ patches_tree other.now) }
     {
         self.same(other)
     }

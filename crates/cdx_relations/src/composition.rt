@@ -50,7 +50,8 @@ impl PartialEq for BomReference {
     ghost laws = { same_laws bom_reference_tree };
 
     fn eq(&self, other: &BomReference) -> bool
-        ensures { IsTrue result ↔ (bom_reference_tree self.now ≡ bom_reference_tree other.now) }
+        ensures test { result ≡ same (bom_reference_tree self.now) (bom_reference_tree other.now) }
+        ensures equality { IsTrue result ↔ (bom_reference_tree self.now ≡ bom_reference_tree other.now) }
     {
         self.same(other)
     }
@@ -127,7 +128,8 @@ impl PartialEq for Composition {
     ghost laws = { same_laws composition_tree };
 
     fn eq(&self, other: &Composition) -> bool
-        ensures { IsTrue result ↔ (composition_tree self.now ≡ composition_tree other.now) }
+        ensures test { result ≡ same (composition_tree self.now) (composition_tree other.now) }
+        ensures equality { IsTrue result ↔ (composition_tree self.now ≡ composition_tree other.now) }
     {
         self.same(other)
     }
@@ -161,7 +163,8 @@ impl PartialEq for Compositions {
     ghost laws = { same_laws compositions_tree };
 
     fn eq(&self, other: &Compositions) -> bool
-        ensures { IsTrue result ↔ (compositions_tree self.now ≡ compositions_tree other.now) }
+        ensures test { result ≡ same (compositions_tree self.now) (compositions_tree other.now) }
+        ensures equality { IsTrue result ↔ (compositions_tree self.now ≡ compositions_tree other.now) }
     {
         self.same(other)
     }

@@ -53,7 +53,8 @@ impl PartialEq for Dependency {
     ghost laws = { same_laws dependency_tree };
 
     fn eq(&self, other: &Dependency) -> bool
-        ensures { IsTrue result ↔ (dependency_tree self.now ≡ dependency_tree other.now) }
+        ensures test { result ≡ same (dependency_tree self.now) (dependency_tree other.now) }
+        ensures equality { IsTrue result ↔ (dependency_tree self.now ≡ dependency_tree other.now) }
     {
         self.same(other)
     }
@@ -87,7 +88,8 @@ impl PartialEq for Dependencies {
     ghost laws = { same_laws dependencies_tree };
 
     fn eq(&self, other: &Dependencies) -> bool
-        ensures { IsTrue result ↔ (dependencies_tree self.now ≡ dependencies_tree other.now) }
+        ensures test { result ≡ same (dependencies_tree self.now) (dependencies_tree other.now) }
+        ensures equality { IsTrue result ↔ (dependencies_tree self.now ≡ dependencies_tree other.now) }
     {
         self.same(other)
     }

@@ -166,7 +166,8 @@ impl PartialEq for Service {
     ghost laws = { same_laws service_tree };
 
     fn eq(&self, other: &Service) -> bool
-        ensures { IsTrue result ↔ (service_tree self.now ≡ service_tree other.now) }
+        ensures test { result ≡ same (service_tree self.now) (service_tree other.now) }
+        ensures equality { IsTrue result ↔ (service_tree self.now ≡ service_tree other.now) }
     {
         self.same(other)
     }
@@ -196,7 +197,8 @@ impl PartialEq for Services {
     ghost laws = { same_laws services_tree };
 
     fn eq(&self, other: &Services) -> bool
-        ensures { IsTrue result ↔ (services_tree self.now ≡ services_tree other.now) }
+        ensures test { result ≡ same (services_tree self.now) (services_tree other.now) }
+        ensures equality { IsTrue result ↔ (services_tree self.now ≡ services_tree other.now) }
     {
         self.same(other)
     }

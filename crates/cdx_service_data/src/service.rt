@@ -80,7 +80,8 @@ impl PartialEq for DataClassification {
     ghost laws = { same_laws classification_tree };
 
     fn eq(&self, other: &DataClassification) -> bool
-        ensures { IsTrue result ↔ (classification_tree self.now ≡ classification_tree other.now) }
+        ensures test { result ≡ same (classification_tree self.now) (classification_tree other.now) }
+        ensures equality { IsTrue result ↔ (classification_tree self.now ≡ classification_tree other.now) }
     {
         self.same(other)
     }
@@ -142,7 +143,8 @@ impl PartialEq for ServiceData {
     ghost laws = { same_laws service_data_tree };
 
     fn eq(&self, other: &ServiceData) -> bool
-        ensures { IsTrue result ↔ (service_data_tree self.now ≡ service_data_tree other.now) }
+        ensures test { result ≡ same (service_data_tree self.now) (service_data_tree other.now) }
+        ensures equality { IsTrue result ↔ (service_data_tree self.now ≡ service_data_tree other.now) }
     {
         self.same(other)
     }
@@ -190,7 +192,8 @@ impl PartialEq for Data {
     ghost laws = { same_laws data_tree };
 
     fn eq(&self, other: &Data) -> bool
-        ensures { IsTrue result ↔ (data_tree self.now ≡ data_tree other.now) }
+        ensures test { result ≡ same (data_tree self.now) (data_tree other.now) }
+        ensures equality { IsTrue result ↔ (data_tree self.now ≡ data_tree other.now) }
     {
         self.same(other)
     }

@@ -139,7 +139,8 @@ impl PartialEq for Algorithm {
     ghost laws = { same_laws algorithm_tree };
 
     fn eq(&self, other: &Algorithm) -> bool
-        ensures { IsTrue result ↔ (algorithm_tree self.now ≡ algorithm_tree other.now) }
+        ensures test { result ≡ same (algorithm_tree self.now) (algorithm_tree other.now) }
+        ensures equality { IsTrue result ↔ (algorithm_tree self.now ≡ algorithm_tree other.now) }
     {
         self.same(other)
     }
@@ -207,7 +208,8 @@ impl PartialEq for Signer {
     ghost laws = { same_laws signer_tree };
 
     fn eq(&self, other: &Signer) -> bool
-        ensures { IsTrue result ↔ (signer_tree self.now ≡ signer_tree other.now) }
+        ensures test { result ≡ same (signer_tree self.now) (signer_tree other.now) }
+        ensures equality { IsTrue result ↔ (signer_tree self.now ≡ signer_tree other.now) }
     {
         self.same(other)
     }
@@ -285,7 +287,8 @@ impl PartialEq for Signature {
     ghost laws = { same_laws signature_tree };
 
     fn eq(&self, other: &Signature) -> bool
-        ensures { IsTrue result ↔ (signature_tree self.now ≡ signature_tree other.now) }
+        ensures test { result ≡ same (signature_tree self.now) (signature_tree other.now) }
+        ensures equality { IsTrue result ↔ (signature_tree self.now ≡ signature_tree other.now) }
     {
         self.same(other)
     }
