@@ -6,6 +6,7 @@ use Rattle.cdx_models.specs.declared.bom.SpecVersion.{SpecVersion}
 use Rattle.cdx_models.specs.declared.bom.SpecVersion.TheVariants.{V1_3, V1_4, V1_5}
 use Rattle.cdx_models.specs.Versions.{knows, lowest}
 use Rattle.cdx_models.specs.Trees.{Name, classification, service_data, tools_object, Tree, absent, text, number, boolean, items, fields, Trees, none, more, field}
+use Rattle.cdx_schema.proofs.JsonBack.{more_same}
 use Rattle.cdx_schema.specs.Kinds.{Kind, a_version, a_record, a_license_choice, a_license_identifier, a_tools, an_entry, a_signature, a_bill, Row}
 use Rattle.cdx_schema.specs.Held.{held_kind}
 use Rattle.cdx_schema.specs.Table.{rows}
@@ -147,9 +148,6 @@ record_twice v w l m a_signature n ts is of same = plain_twice v w l m a_signatu
 record_twice v w l m a_bill n ts is of same = plain_twice v w l m a_bill n ts (λ us. refl) same
 record_twice v w l m _ n ts is of same = absurd (true≢false is)
 
-more_twice : {t u : Tree} {ts us : Trees} → t ≡ u → ts ≡ us → more t ts ≡ more u us
-more_twice p q = rw (p, q) refl
-
 absent_twice : (v w l m : SpecVersion) (r : Row) (t : Tree) → t ≡ absent → kept v m (kept w l t r.kind) r.kind ≡ kept (lowest v w) m t r.kind
 unfolding kept
 absent_twice v w l m r t h = rw h refl
@@ -165,11 +163,11 @@ mutual
 
   pub items_twice : (v w l m : SpecVersion) (ts : Trees) (k : Kind) → HaveShape ts k → items_kept v m (items_kept w l ts k) k ≡ items_kept (lowest v w) m ts k
   items_twice v w l m none k h = refl
-  items_twice v w l m (more t ts) k h = more_twice (kept_twice v w l m t k h.0) (items_twice v w l m ts k h.1)
+  items_twice v w l m (more t ts) k h = more_same (kept_twice v w l m t k h.0) (items_twice v w l m ts k h.1)
 
   pub rows_twice : (v w l m : SpecVersion) (ts : Trees) (rs : List Row) → FieldsHaveShape ts rs → rows_kept v m (rows_kept w l ts rs) rs ≡ rows_kept (lowest v w) m ts rs
   rows_twice v w l m none rs h = refl
   rows_twice v w l m (more t ts) [] h = refl
-  rows_twice v w l m (more t ts) (r ∷ rs) h = more_twice
+  rows_twice v w l m (more t ts) (r ∷ rs) h = more_same
       (field_twice v w l m r (knows r.since v) (knows r.since w) _ t (knows-lowest r.since v w) (elim h.0 [ inl e ↦ absent_twice v w l m r t e.0 | inr e ↦ kept_twice v w l m t r.kind e ]))
       (rows_twice v w l m ts rs h.1)

@@ -408,11 +408,29 @@ list_row_held w d r ts (inr (inl h)) = by r.need ts h.1
     by _ us e = absurd (true≢false e)
 list_row_held w d r ts (inr (inr h)) = h.2.1
 
--- what else a row of children can't hold
-pub no_leaf : (w : SpecVersion) (d : Depth) (r : Row) (t : Tree) → is_absent t ≡ false → ((n : Need) → is_written n t ≡ true) → (Held w d t r.kind → Never) → RowHeld w d t r → Never
-no_leaf w d r t there written' never (inl h) = sym (ap is_absent h.1) ∙ there
-no_leaf w d r t there written' never (inr (inl h)) = sym (written' r.need) ∙ h.1
-no_leaf w d r t there written' never (inr (inr h)) = never h.2
+-- whether a tree is there and no list
+abbrev is_other : Tree → Bool
+is_other absent = false
+is_other (items ts) = false
+is_other _ = true
+
+other_written : (t : Tree) (n : Need) → is_other t ≡ true → is_written n t ≡ true
+other_written absent n o = absurd (true≢false (sym o))
+other_written (items ts) n o = absurd (true≢false (sym o))
+other_written _ optional o = refl
+other_written _ _ o = refl
+
+other_not_held : (w : SpecVersion) (d : Depth) (t : Tree) (l : Lists) → is_other t ≡ true → Held w d t (a_list l) → ⊥
+other_not_held w d absent l o h = absurd (true≢false (sym o))
+other_not_held w d (items ts) l o h = absurd (true≢false (sym o))
+other_not_held w d (fields m s) l o h = true≢false h.0
+other_not_held w d _ l o h = true≢false h
+
+-- A row of children holds nothing but a list.
+no_other : (w : SpecVersion) (d : Depth) (t : Tree) (l : Lists) (r : Row) → r.kind ≡ a_list l → is_other t ≡ true → RowHeld w d t r → ⊥
+no_other w d t l r e o (inl h) = true≢false (sym o ∙ ap is_other h.1)
+no_other w d t l r e o (inr (inl h)) = true≢false (sym (other_written t r.need o) ∙ h.1)
+no_other w d t l r e o (inr (inr h)) = other_not_held w d t l o (subst (λ (k : Kind). Held w d t k) e h.2)
 
 pub known_of : (w : SpecVersion) (d : Depth) (r : Row) (ts : Trees) → RowHeld w d (items ts) r → knows r.since w ≡ true
 known_of w d r ts (inl h) = absurd (true≢false (sym (ap is_absent h.1)))
@@ -428,26 +446,7 @@ children_row_back w d (items ts) l n r e x name h f =
     items_row w d ts (items_tripped w ts (list l).kind) r n x (known_of w d r ts h)
     (λ plan i found. subst (λ (k : Kind). SetItems plan w d i (nodes_of (items ts) w k) (items_tripped w ts (list l).kind)) (sym e)
     (f ts refl plan i (subst (λ (k : Kind). AllHeld w d ts (held_kind k)) e (list_row_held w d r ts h)) (subst (λ (k : Kind). find_child w n plan.children ≡ Some (record { name = n; since = r.since; kind = held_kind k; field = i; place = all })) e found)))
-children_row_back w d (text s) l n r e x name h f = absurd (true≢false (no_leaf w d r (text s) refl (λ m. by m) (λ g. subst (λ (k : Kind). Held w d (text s) k) e g) h))
-  where
-    by : (m : Need) → is_written m (text s) ≡ true
-    by optional = refl
-    by _ = refl
-children_row_back w d (number s) l n r e x name h f = absurd (true≢false (no_leaf w d r (number s) refl (λ m. by m) (λ g. subst (λ (k : Kind). Held w d (number s) k) e g) h))
-  where
-    by : (m : Need) → is_written m (number s) ≡ true
-    by optional = refl
-    by _ = refl
-children_row_back w d (boolean s) l n r e x name h f = absurd (true≢false (no_leaf w d r (boolean s) refl (λ m. by m) (λ g. subst (λ (k : Kind). Held w d (boolean s) k) e g) h))
-  where
-    by : (m : Need) → is_written m (boolean s) ≡ true
-    by optional = refl
-    by _ = refl
-children_row_back w d (fields m s) l n r e x name h f = absurd (true≢false (no_leaf w d r (fields m s) refl (λ q. by q) (λ g. (subst (λ (k : Kind). Held w d (fields m s) k) e g).0) h))
-  where
-    by : (q : Need) → is_written q (fields m s) ≡ true
-    by optional = refl
-    by _ = refl
+children_row_back w d t l n r e x name h f = absurd (no_other w d t l r e refl h)
 
 -- ---- any row
 
@@ -639,26 +638,7 @@ list_end w d (items ts) r n l e listed always h = by r.need listed (items_trippe
     by required_first i us = absurd (true≢false (sym i))
     by else_empty i (more u us) = refl
     by _ i none = refl
-list_end w d (text s) r n l e listed always h = absurd (true≢false (no_leaf w d r (text s) refl (λ m. by m) (λ g. subst (λ (k : Kind). Held w d (text s) k) e g) h))
-  where
-    by : (m : Need) → is_written m (text s) ≡ true
-    by optional = refl
-    by _ = refl
-list_end w d (number s) r n l e listed always h = absurd (true≢false (no_leaf w d r (number s) refl (λ m. by m) (λ g. subst (λ (k : Kind). Held w d (number s) k) e g) h))
-  where
-    by : (m : Need) → is_written m (number s) ≡ true
-    by optional = refl
-    by _ = refl
-list_end w d (boolean s) r n l e listed always h = absurd (true≢false (no_leaf w d r (boolean s) refl (λ m. by m) (λ g. subst (λ (k : Kind). Held w d (boolean s) k) e g) h))
-  where
-    by : (m : Need) → is_written m (boolean s) ≡ true
-    by optional = refl
-    by _ = refl
-list_end w d (fields m s) r n l e listed always h = absurd (true≢false (no_leaf w d r (fields m s) refl (λ q. by q) (λ g. (subst (λ (k : Kind). Held w d (fields m s) k) e g).0) h))
-  where
-    by : (q : Need) → is_written q (fields m s) ≡ true
-    by optional = refl
-    by _ = refl
+list_end w d t r n l e listed always h = absurd (no_other w d t l r e refl h)
 
 -- ---- rows together
 
