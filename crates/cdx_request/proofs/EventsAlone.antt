@@ -180,24 +180,23 @@ text_alone k event writes ds e h =
     let text = made event (text_at k (object ds)) e t.1 in
     subst (λ (e : XmlEvent). WritesEvent (object ds) e) text.2 (writes (object ds) text.0 (one_held k ds text.0 t.0 text.1))
 
-mark_is : (s : List ℕ) (e : XmlEvent) → mark_of s ≡ Some e → ((s ≡ codes "start") × (e ≡ StartDocument)) ⊎ ((s ≡ codes "end") × (e ≡ EndDocument))
-mark_is s e h = by (bytes_eq s (codes "start")) (bytes_eq s (codes "end")) refl refl h
+mark_writes : (d : Data) (s : List ℕ) (e : XmlEvent) → mark_of s ≡ Some e → HoldsTheSame d (one_text (codes "document") s) → WritesEvent d e
+mark_writes d s e = by (bytes_eq s (codes "start")) (bytes_eq s (codes "end")) refl refl
   where
+    as_text : (w : List ℕ) → bytes_eq s w ≡ true → HoldsTheSame d (one_text (codes "document") s) → HoldsTheSame d (one_text (codes "document") w)
+    as_text w is = subst (λ (s : List ℕ). HoldsTheSame d (one_text (codes "document") s)) ((bytes_eq-Decides s w).0 is)
+
     by : (b c : Bool) → bytes_eq s (codes "start") ≡ b → bytes_eq s (codes "end") ≡ c → (if b then Some StartDocument else (if c then Some EndDocument else None)) ≡ Some e
-        → ((s ≡ codes "start") × (e ≡ StartDocument)) ⊎ ((s ≡ codes "end") × (e ≡ EndDocument))
-    by true c p q h = inl ((bytes_eq-Decides s (codes "start")).0 p, sym (same_some _ _ h))
-    by false true p q h = inr ((bytes_eq-Decides s (codes "end")).0 q, sym (same_some _ _ h))
-    by false false p q h = absurd cc
+        → HoldsTheSame d (one_text (codes "document") s) → WritesEvent d e
+    by true c p q h held = subst (λ (e : XmlEvent). WritesEvent d e) (same_some StartDocument e h) (as_text (codes "start") p held)
+    by false true p q h held = subst (λ (e : XmlEvent). WritesEvent d e) (same_some EndDocument e h) (as_text (codes "end") q held)
+    by false false p q h held = absurd cc
 
 mark_alone : (ds : Members) (e : XmlEvent) → mark_event (object ds) ≡ Some e → WritesEvent (object ds) e
 mark_alone ds e h =
     let t = tested (members_len ds == 1) _ e h in
     let text = given (text_at (codes "document") (object ds)) mark_of e t.1 in
-    by text.0 (one_held (codes "document") ds text.0 t.0 text.1) (mark_is text.0 e text.2)
-  where
-    by : (s : List ℕ) → HoldsTheSame (object ds) (one_text (codes "document") s) → ((s ≡ codes "start") × (e ≡ StartDocument)) ⊎ ((s ≡ codes "end") × (e ≡ EndDocument)) → WritesEvent (object ds) e
-    by s held (inl is) = subst (λ (e : XmlEvent). WritesEvent (object ds) e) (sym is.1) (subst (λ (s : List ℕ). HoldsTheSame (object ds) (one_text (codes "document") s)) is.0 held)
-    by s held (inr is) = subst (λ (e : XmlEvent). WritesEvent (object ds) e) (sym is.1) (subst (λ (s : List ℕ). HoldsTheSame (object ds) (one_text (codes "document") s)) is.0 held)
+    mark_writes (object ds) text.0 e text.2 (one_held (codes "document") ds text.0 t.0 text.1)
 
 -- ---- events
 

@@ -5,7 +5,8 @@ use Rattle.serde_json.specs.Find.{get_member}
 use Rattle.serde_json.specs.Events.{members_len}
 
 abbrev mutual
-  -- The first value is the second with the members of its objects in any order. No object of the second has a name twice.
+  -- The first value is the second with the members of its objects in any order, where no object of the second has a
+  -- name twice, as in each value that is written.
   pub HoldsTheSame : Data → Data → Type 0
   HoldsTheSame (array ds) (array ws) = HoldTheSame ds ws
   HoldsTheSame (object ds) (object ws) = (members_len ds ≡ members_len ws) × HasMembers ds ws
