@@ -17,7 +17,8 @@ use Rattle.cdx_schema.specs.JsonSpelling.{jspell, items_spelled, members_spelled
 use Rattle.cdx_schema.specs.Laws.{HasBillShape}
 use Rattle.cdx_schema.proofs.Stated.{nests}
 use Rattle.cdx_canon.specs.Canon.{plain}
-use Rattle.cdx_tool.proofs.Ordered.{IsOrdered, AreItemsOrdered, AreOrdered, put_ordered, read_text}
+use Rattle.cdx_ordered.specs.Ordered.{IsOrdered, AreItemsOrdered, AreOrdered}
+use Rattle.cdx_ordered.proofs.ReadBack.{put_ordered, read_text}
 use Rattle.cdx_canon.proofs.PlainBill.{TextsRead, plain_of, plain_shallow}
 
 small : (k : Kind) (n : ℕ) → IsNumberOf k n → n < 2 ^ 64

@@ -7,4 +7,3 @@ pub mod Settling
 pub mod MadeRoads
 pub mod MadeBills
 pub mod Printing
-pub mod Ordered

@@ -1,29 +1,34 @@
-//! JSON written straight as text: what `Value::to_string` would give, without the values.
+//! JSON printed piece by piece, each text by `serde_json`: what `Value::to_string` would give, without the value.
 
-ghost use Rattle.std.specs.Prelude.{◌≡◌, ◌++◌, map as each};
-ghost use Rattle.serde_json.specs.Data.{Data, array};
-ghost use Rattle.serde_json.specs.View.{items_of};
-ghost use Rattle.cdx_tool.specs.Prints.{Becomes, tokens_of};
+ghost use Rattle.std.specs.Prelude.{◌≡◌, ◌++◌, OnOk, string_bytes};
+ghost use Rattle.serde_json.specs.Written.{comma_if};
+ghost use Rattle.cdx_tool.specs.Prints.{then_text};
 
-use json::Writer;
-use std::alloc::AllocError;
+use std::alloc::{AllocError, Global};
 
-/// What is printed as JSON.
-pub(crate) trait Printed {
-    ghost printed: { Self → Data };
-
-    fn print(&self, out: &mut Writer) -> Result<(), AllocError>
-        ensures { Becomes result out.old out.new (out.old.tokens ++ tokens_of (printed self.now)) };
+/// The start of a member, and then the text as JSON.
+pub(crate) fn print_text(
+    alloc: Global,
+    out: &mut String,
+    start: &str,
+    text: &str,
+) -> Result<(), AllocError>
+    ensures { OnOk result
+        (string_bytes out.new ≡ then_text start.now text.now (string_bytes out.old)) }
+{
+    out.push_str(start)?;
+    match serde_json::to_string(alloc, &text) {
+        Ok(text) => out.push_str(text.as_str()),
+        Err(_) => Err(AllocError),
+    }
 }
 
-/// An array of the items.
-pub(crate) fn print_items<P: Printed>(items: &[P], out: &mut Writer) -> Result<(), AllocError>
-    ensures { Becomes result out.old out.new
-        (out.old.tokens ++ tokens_of (array (items_of (each P.printed items.now)))) }
+/// A comma, where an item stands before.
+pub(crate) fn print_comma_if(out: &mut String, is_later: bool) -> Result<(), AllocError>
+    ensures { OnOk result (string_bytes out.new ≡ string_bytes out.old ++ comma_if is_later) }
 {
-    out.begin_array()?;
-    for item in items {
-        item.print(out)?;
+    if is_later {
+        out.push_str(",")?;
     }
-    out.end_array()
+    Ok(())
 }

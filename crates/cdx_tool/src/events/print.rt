@@ -1,140 +1,182 @@
-//! Events printed as JSON, token by token.
+//! Events printed as JSON, one after another.
 
-ghost use Rattle.std.specs.Prelude.{◌≡◌, ◌∷◌, [], ◌++◌, codes, IfOk, string_bytes};
-ghost use Rattle.json.specs.Token.{begin_object, end_object};
+ghost use Rattle.std.specs.Prelude.{◌≡◌, ◌++◌, codes, map as each, OnOk, string_bytes};
+ghost use Rattle.serde_json.specs.Data.{array};
+ghost use Rattle.serde_json.specs.View.{items_of};
 ghost use Rattle.serde_json.specs.Written.{compact_text};
 ghost use Rattle.cdx_request.specs.EventValues.{attribute_value, event_value, events_value};
-ghost use Rattle.cdx_tool.specs.Prints.{Becomes, then_text, then_text_if, then_name, then_attributes, tokens_of};
+ghost use Rattle.cdx_tool.specs.Prints.{then_text, then_text_if, then_name, then_default, then_attributes};
 
-use crate::printed::{Printed, print_items};
+use crate::printed::{print_comma_if, print_text};
 use cdx_events::{
     EventReader, Events, List as Items, OwnedAttribute, OwnedName, Text, XmlEvent as Event,
 };
-use json::Writer;
 use std::alloc::{AllocError, Global};
 
-fn print_text(out: &mut Writer, name: &str, text: &str) -> Result<(), AllocError>
-    ensures { Becomes result out.old out.new (then_text name.now text.now out.old.tokens) }
-{
-    out.key(name)?;
-    out.string(text)
-}
-
-fn print_text_if(out: &mut Writer, name: &str, text: &Option<Text>) -> Result<(), AllocError>
-    ensures { Becomes result out.old out.new (then_text_if name.now text.now out.old.tokens) }
+fn print_text_if(
+    alloc: Global,
+    out: &mut String,
+    start: &str,
+    text: &Option<Text>,
+) -> Result<(), AllocError>
+    ensures { OnOk result
+        (string_bytes out.new ≡ then_text_if start.now text.now (string_bytes out.old)) }
 {
     match text {
         None => Ok(()),
-        Some(text) => print_text(out, name, text.as_str()),
+        Some(text) => print_text(alloc, out, start, text.as_str()),
     }
 }
 
 // The members of a name, in byte order as all members are.
-fn print_name(out: &mut Writer, local: &str, name: &OwnedName) -> Result<(), AllocError>
-    ensures { Becomes result out.old out.new (then_name local.now name.now out.old.tokens) }
+fn print_name(
+    alloc: Global,
+    out: &mut String,
+    start: &str,
+    name: &OwnedName,
+) -> Result<(), AllocError>
+    ensures { OnOk result
+        (string_bytes out.new ≡ then_name start.now name.now (string_bytes out.old)) }
 {
-    print_text(out, local, name.local_name.as_str())?;
-    print_text_if(out, "prefix", &name.prefix)?;
-    print_text_if(out, "uri", &name.namespace)
+    print_text(alloc, out, start, name.local_name.as_str())?;
+    print_text_if(alloc, out, ",\"prefix\":", &name.prefix)?;
+    print_text_if(alloc, out, ",\"uri\":", &name.namespace)
 }
 
-impl Printed for OwnedAttribute {
-    ghost printed = { attribute_value };
+fn print_attribute(
+    alloc: Global,
+    out: &mut String,
+    attribute: &OwnedAttribute,
+) -> Result<(), AllocError>
+    ensures { OnOk result (string_bytes out.new
+        ≡ string_bytes out.old ++ compact_text (attribute_value attribute.now)) }
+{
+    print_name(alloc, out, "{\"name\":", &attribute.name)?;
+    print_text(alloc, out, ",\"value\":", attribute.value.as_str())?;
+    out.push_str("}")
+}
 
-    fn print(&self, out: &mut Writer) -> Result<(), AllocError> {
-        out.begin_object()?;
-        print_name(out, "name", &self.name)?;
-        print_text(out, "value", self.value.as_str())?;
-        out.end_object()
+fn print_list(
+    alloc: Global,
+    out: &mut String,
+    attributes: &[OwnedAttribute],
+) -> Result<(), AllocError>
+    ensures { OnOk result (string_bytes out.new ≡ string_bytes out.old
+        ++ compact_text (array (items_of (each attribute_value attributes.now)))) }
+{
+    out.push_str("[")?;
+    let mut is_later = false;
+    for attribute in attributes {
+        print_comma_if(out, is_later)?;
+        print_attribute(alloc, out, attribute)?;
+        is_later = true;
     }
+    out.push_str("]")
 }
 
-fn print_attributes(out: &mut Writer, attributes: &Items<OwnedAttribute>) -> Result<(), AllocError>
-    ensures { Becomes result out.old out.new (then_attributes attributes.now out.old.tokens) }
+// The attributes, where there are some, before the member that follows.
+fn print_attributes(
+    alloc: Global,
+    out: &mut String,
+    attributes: &Items<OwnedAttribute>,
+) -> Result<(), AllocError>
+    ensures { OnOk result
+        (string_bytes out.new ≡ then_attributes attributes.now (string_bytes out.old)) }
 {
     match attributes.as_slice() {
         [] => Ok(()),
-        items => {
-            out.key("attributes")?;
-            print_items(items, out)
+        some => {
+            out.push_str("\"attributes\":")?;
+            print_list(alloc, out, some)?;
+            out.push_str(",")
+        }
+    }
+}
+
+// The default namespace, where there is one, before the member that follows.
+fn print_default(alloc: Global, out: &mut String, default: &Option<Text>) -> Result<(), AllocError>
+    ensures { OnOk result
+        (string_bytes out.new ≡ then_default default.now (string_bytes out.old)) }
+{
+    match default {
+        None => Ok(()),
+        Some(text) => {
+            print_text(alloc, out, "\"default\":", text.as_str())?;
+            out.push_str(",")
         }
     }
 }
 
 fn print_start(
-    out: &mut Writer,
+    alloc: Global,
+    out: &mut String,
     name: &OwnedName,
     attributes: &Items<OwnedAttribute>,
     default: &Option<Text>,
 ) -> Result<(), AllocError>
-    ensures { Becomes result out.old out.new (then_name (codes "element") name.now
-        (then_text_if (codes "default") default.now
-        (then_attributes attributes.now (out.old.tokens ++ begin_object ∷ [])))
-        ++ end_object ∷ []) }
+    ensures { OnOk result (string_bytes out.new ≡ then_name (codes "\"element\":") name.now
+        (then_default default.now
+        (then_attributes attributes.now (string_bytes out.old ++ codes "{")))
+        ++ codes "}") }
 {
-    out.begin_object()?;
-    print_attributes(out, attributes)?;
-    print_text_if(out, "default", default)?;
-    print_name(out, "element", name)?;
-    out.end_object()
+    out.push_str("{")?;
+    print_attributes(alloc, out, attributes)?;
+    print_default(alloc, out, default)?;
+    print_name(alloc, out, "\"element\":", name)?;
+    out.push_str("}")
 }
 
-fn print_end(out: &mut Writer, name: &OwnedName) -> Result<(), AllocError>
-    ensures { Becomes result out.old out.new (then_name (codes "end") name.now
-        (out.old.tokens ++ begin_object ∷ [])
-        ++ end_object ∷ []) }
+fn print_end(alloc: Global, out: &mut String, name: &OwnedName) -> Result<(), AllocError>
+    ensures { OnOk result (string_bytes out.new
+        ≡ then_name (codes "{\"end\":") name.now (string_bytes out.old) ++ codes "}") }
 {
-    out.begin_object()?;
-    print_name(out, "end", name)?;
-    out.end_object()
+    print_name(alloc, out, "{\"end\":", name)?;
+    out.push_str("}")
 }
 
 // An object with this text alone.
-fn print_only(out: &mut Writer, name: &str, text: &str) -> Result<(), AllocError>
-    ensures { Becomes result out.old out.new
-        (then_text name.now text.now (out.old.tokens ++ begin_object ∷ []) ++ end_object ∷ []) }
+fn print_only(alloc: Global, out: &mut String, start: &str, text: &str) -> Result<(), AllocError>
+    ensures { OnOk result (string_bytes out.new
+        ≡ then_text start.now text.now (string_bytes out.old) ++ codes "}") }
 {
-    out.begin_object()?;
-    print_text(out, name, text)?;
-    out.end_object()
+    print_text(alloc, out, start, text)?;
+    out.push_str("}")
 }
 
-impl Printed for Event {
-    ghost printed = { event_value };
-
-    fn print(&self, out: &mut Writer) -> Result<(), AllocError> {
-        match self {
-            Event::StartDocument => print_only(out, "document", "start"),
-            Event::EndDocument => print_only(out, "document", "end"),
-            Event::StartElement {
-                name,
-                attributes,
-                namespace,
-            } => print_start(out, name, attributes, &namespace.default),
-            Event::EndElement { name } => print_end(out, name),
-            Event::Characters(text) => print_only(out, "text", text.as_str()),
-            Event::CData(text) => print_only(out, "cdata", text.as_str()),
-        }
+fn print_event(alloc: Global, out: &mut String, event: &Event) -> Result<(), AllocError>
+    ensures { OnOk result (string_bytes out.new
+        ≡ string_bytes out.old ++ compact_text (event_value event.now)) }
+{
+    match event {
+        Event::StartDocument => print_only(alloc, out, "{\"document\":", "start"),
+        Event::EndDocument => print_only(alloc, out, "{\"document\":", "end"),
+        Event::StartElement {
+            name,
+            attributes,
+            namespace,
+        } => print_start(alloc, out, name, attributes, &namespace.default),
+        Event::EndElement { name } => print_end(alloc, out, name),
+        Event::Characters(text) => print_only(alloc, out, "{\"text\":", text.as_str()),
+        Event::CData(text) => print_only(alloc, out, "{\"cdata\":", text.as_str()),
     }
 }
 
-fn print_events(out: &mut Writer, events: &Events) -> Result<(), AllocError>
-    ensures { Becomes result out.old out.new
-        (out.old.tokens ++ tokens_of (events_value events.now.list)) }
+/// The text of `events_to_json`, without its value. Only want of memory refuses.
+pub(crate) fn print_events(
+    alloc: Global,
+    out: &mut String,
+    events: &Events,
+) -> Result<(), AllocError>
+    ensures { OnOk result (string_bytes out.new
+        ≡ string_bytes out.old ++ compact_text (events_value events.now.list)) }
 {
     let mut reader = EventReader::new(events);
-    out.begin_array()?;
+    out.push_str("[")?;
+    let mut is_later = false;
     while let Some(event) = reader.next() {
-        event.print(out)?;
+        print_comma_if(out, is_later)?;
+        print_event(alloc, out, event)?;
+        is_later = true;
     }
-    out.end_array()
-}
-
-/// The text of `events_to_json`, without its value.
-pub(crate) fn events_text(alloc: Global, events: &Events) -> Result<String, AllocError>
-    ensures { IfOk result (λ s. string_bytes s ≡ compact_text (events_value events.now.list)) }
-{
-    let mut out = Writer::new(Vec::new(alloc));
-    print_events(&mut out, events)?;
-    Ok(String::from_utf8(out.into_inner()).unwrap())
+    out.push_str("]")
 }

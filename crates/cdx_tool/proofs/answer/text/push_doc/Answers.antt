@@ -6,19 +6,17 @@ use Rattle.cdx_tool.specs.Shows.{doc_shown}
 use Rattle.cdx_tool.proofs.Printing.{json_printed, xml_printed, free_inside}
 use Rattle.cdx_tool.proofs.answer.text.push_doc.Goals as goal
 
-pub returns-in_ok-to_string-in-Json : goal.returns-in_ok-to_string-in-Json
-returns-in_ok-to_string-in-Json c =
-    let old = string_bytes c.args.text.now in
-    let value = view c.in-Json.value in
-    let free = free_inside (codes "json") value (subst (λ d. has_float (doc_shown d) ≡ false) c.in-Json.is c.requires) in
-    let text = c.as_str.ensures.value ∙ c.in_ok-to_string-in-Json.ensures.text free in
-    let whole = ap (λ s. ((old ++ codes "{\"json\":") ++ s) ++ codes "}") text ∙ json_printed old value ∙ ap (λ d. old ++ compact_text (doc_shown d)) (sym c.in-Json.is) in
-    subst (λ (s : List ℕ). OnOk c.push_closed.result (string_bytes c.push_closed.new.text ≡ s)) whole c.push_closed.ensures
+pub push_json-requires : goal.push_json-requires
+push_json-requires c = free_inside (codes "json") (view c.in-Json.value) (subst (λ d. has_float (doc_shown d) ≡ false) c.in-Json.is c.requires)
 
-pub returns-in_ok-events_text-in-Xml : goal.returns-in_ok-events_text-in-Xml
-returns-in_ok-events_text-in-Xml c =
+pub returns-in-Json : goal.returns-in-Json
+returns-in-Json c =
     let old = string_bytes c.args.text.now in
-    let value = events_value c.in-Xml.events.list in
-    let text = c.as_str-in-Xml.ensures.value ∙ c.in_ok-events_text-in-Xml.ensures in
-    let whole = ap (λ s. ((old ++ codes "{\"xml\":") ++ s) ++ codes "}") text ∙ xml_printed old value ∙ ap (λ d. old ++ compact_text (doc_shown d)) (sym c.in-Xml.is) in
-    subst (λ (s : List ℕ). OnOk c.push_closed-in-Xml.result (string_bytes c.push_closed-in-Xml.new.text ≡ s)) whole c.push_closed-in-Xml.ensures
+    let whole = json_printed old (view c.in-Json.value) ∙ ap (λ d. old ++ compact_text (doc_shown d)) (sym c.in-Json.is) in
+    subst (λ (s : List ℕ). OnOk c.push_json.result (string_bytes c.push_json.new.text ≡ s)) whole c.push_json.ensures
+
+pub returns-in-Xml : goal.returns-in-Xml
+returns-in-Xml c =
+    let old = string_bytes c.args.text.now in
+    let whole = xml_printed old (events_value c.in-Xml.events.list) ∙ ap (λ d. old ++ compact_text (doc_shown d)) (sym c.in-Xml.is) in
+    subst (λ (s : List ℕ). OnOk c.push_xml.result (string_bytes c.push_xml.new.text ≡ s)) whole c.push_xml.ensures

@@ -1,12 +1,12 @@
-use Rattle.std.proofs.Common.{rules, ap, sym, append-nil, ◌≡◌, ◌∙◌, [], ◌++◌}
-use Rattle.std.specs.List.{flat_map}
-use Rattle.cdx_request.specs.EventValues.{event_value}
-use Rattle.cdx_tool.specs.Prints.{tokens_of}
-use Rattle.cdx_tool.proofs.Printing.{array_closed}
+use Rattle.std.proofs.Common.{rules, ◌≡◌, ◌∙◌, ◌∷◌, [], ◌++◌, map, ap, sym, string_bytes}
+use Rattle.serde_json.specs.View.{items_of}
+use Rattle.serde_json.specs.Written.{compact_text, items_text}
+use Rattle.cdx_request.specs.EventValues.{event_value, events_value}
 use Rattle.cdx_tool.proofs.events.print.print_events.Goals as goal
 
 pub returns : goal.returns
 returns c =
+    let held = string_bytes c.loop-event.out in
     let none : c.loop-event.reader.ahead ≡ [] = search rules in
-    let so_far = sym (append-nil c.loop-event.out.tokens) ∙ sym (ap (λ xs. c.loop-event.out.tokens ++ flat_map (λ x. tokens_of (event_value x)) xs) none) ∙ c.loop-event.invariant.1 in
-    array_closed event_value c.args.events.now.list c.end_array.result c.args.out.now c.loop-event.out c.end_array.new.self c.loop-event.invariant.0 so_far c.end_array.ensures
+    let so_far : held ++ 93 ∷ [] ≡ string_bytes c.args.out.now ++ compact_text (events_value c.args.events.now.list) = sym (ap (λ xs. held ++ items_text c.loop-event.is_later (items_of (map event_value xs))) none) ∙ c.loop-event.invariant in
+    search rules

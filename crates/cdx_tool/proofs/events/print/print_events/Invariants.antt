@@ -1,13 +1,12 @@
-use Rattle.std.proofs.Common.{◌≡◌, [], ◌∷◌, ◌++◌, length}
-use Rattle.std.specs.List.{flat_map}
-use Rattle.json.specs.Token.{begin_array}
-use Rattle.cdx_request.specs.EventValues.{event_value}
-use Rattle.cdx_tool.specs.Prints.{tokens_of}
+use Rattle.std.proofs.Common.{◌≡◌, ◌++◌, length, map, string_bytes}
+use Rattle.serde_json.specs.View.{items_of}
+use Rattle.serde_json.specs.Written.{compact_text, items_text}
+use Rattle.cdx_request.specs.EventValues.{event_value, events_value}
 use Rattle.cdx_tool.proofs.events.print.print_events.Given as goal
 
--- the tokens so far, and then those of the events ahead
+-- the events so far, and then those ahead
 abbrev pub invariant-loop-event : goal.invariant-loop-event
-invariant-loop-event l = (l.out.before ≡ l.fn.out.before) × (l.out.tokens ++ flat_map (λ x. tokens_of (event_value x)) l.reader.ahead ≡ (l.fn.out.tokens ++ begin_array ∷ []) ++ flat_map (λ x. tokens_of (event_value x)) l.events.list)
+invariant-loop-event l = string_bytes l.out ++ items_text l.is_later (items_of (map event_value l.reader.ahead)) ≡ string_bytes l.fn.out ++ compact_text (events_value l.events.list)
 
 abbrev pub decreases-loop-event : goal.decreases-loop-event
 decreases-loop-event l = length l.reader.ahead

@@ -1,6 +1,5 @@
--- Objects whose members stand in order are read from their text as they are.
-use Rattle.std.proofs.Common.{◌≡◌, refl, sym, ap, ◌∙◌, subst, ℕ, suc, ◌<◌, ◌≤◌, ◌^◌, List, [], ◌∷◌, true, false, Option, Some, option_map, option_and_then, Ordering, Less, Equal, Greater, append-nil, true≢false, arith}
-use Rattle.std.specs.Prelude.{⊤}
+-- Values whose members stand in order are read from their text as they are.
+use Rattle.std.proofs.Common.{◌≡◌, refl, sym, ap, ◌∙◌, subst, ℕ, suc, ◌≤◌, List, [], Option, Some, option_map, option_and_then, Ordering, Less, Equal, Greater, append-nil, true≢false, arith}
 use Rattle.std.specs.Ordering.{nat_cmp, match_ordering, ordering_reverse}
 use Rattle.std.specs.Cmp.Lexicographic.{slice_cmp}
 use Rattle.std.proofs.lemmas.Cmp.{nat_list_cmp_total}
@@ -11,38 +10,12 @@ use Rattle.json.specs.Lex.{tokens}
 use Rattle.json.proofs.Printed.Decimals.{IsNumber-decimal}
 use Rattle.json.proofs.Printed.Tokens.{tokens-print}
 use Rattle.json.proofs.Printed.Trees.{value-json_tokens, ArePrintable-json_tokens}
-use Rattle.serde_json.specs.Data.{Num, unsigned, negative, float, Data, null, boolean, number, string, array, object, Items, no_items, item, Members, no_members, member, put, depth, items_depth, members_depth}
+use Rattle.serde_json.specs.Data.{unsigned, negative, float, Data, null, boolean, number, string, array, object, Items, no_items, item, Members, no_members, member, put, depth, items_depth, members_depth}
 use Rattle.serde_json.specs.Read.{read, of_json, of_items, of_members, max_depth}
 use Rattle.serde_json.specs.Written.{outline, items_outline, members_outline, compact_text}
 use Rattle.serde_json.proofs.Numbers.{number_of-decimal}
 use Rattle.serde_json.proofs.Texts.{print-outline}
-
--- ---- values whose members stand in order, each name once, and whose numbers fit 64 bits
-
-abbrev pub IsBelow : List ℕ → Members → Type 0
-IsBelow k no_members = ⊤
-IsBelow k (member l d ms) = (slice_cmp nat_cmp k l ≡ Less) × IsBelow k ms
-
-abbrev pub IsNatural : Num → Type 0
-IsNatural (unsigned n) = n < 2 ^ 64
-IsNatural _ = true ≡ false
-
-abbrev mutual
-  pub IsOrdered : Data → Type 0
-  IsOrdered null = ⊤
-  IsOrdered (boolean b) = ⊤
-  IsOrdered (number n) = IsNatural n
-  IsOrdered (string s) = ⊤
-  IsOrdered (array ds) = AreItemsOrdered ds
-  IsOrdered (object ms) = AreOrdered ms
-
-  pub AreItemsOrdered : Items → Type 0
-  AreItemsOrdered no_items = ⊤
-  AreItemsOrdered (item d ds) = IsOrdered d × AreItemsOrdered ds
-
-  pub AreOrdered : Members → Type 0
-  AreOrdered no_members = ⊤
-  AreOrdered (member k d ms) = IsBelow k ms × (IsOrdered d × AreOrdered ms)
+use Rattle.cdx_ordered.specs.Ordered.{IsBelow, IsOrdered, AreItemsOrdered, AreOrdered}
 
 -- ---- putting keeps the order
 
