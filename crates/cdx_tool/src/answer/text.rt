@@ -19,7 +19,8 @@ use std::alloc::{AllocError, Global};
 fn push_json(alloc: Global, text: &mut String, value: &Value) -> Result<(), AllocError>
     requires { has_float (view value.now) ≡ false }
     ensures { OnOk result (string_bytes text.new
-        ≡ ((string_bytes text.old ++ codes "{\"json\":") ++ compact_text (view value.now)) ++ codes "}") }
+        ≡ ((string_bytes text.old ++ codes "{\"json\":") ++ compact_text (view value.now))
+        ++ codes "}") }
 {
     text.push_str("{\"json\":")?;
     text.push_str(value.to_string(alloc)?.as_str())?;
@@ -28,8 +29,8 @@ fn push_json(alloc: Global, text: &mut String, value: &Value) -> Result<(), Allo
 
 fn push_xml(alloc: Global, text: &mut String, events: &Events) -> Result<(), AllocError>
     ensures { OnOk result (string_bytes text.new
-        ≡ ((string_bytes text.old ++ codes "{\"xml\":") ++ compact_text (events_value events.now.list))
-        ++ codes "}") }
+        ≡ ((string_bytes text.old ++ codes "{\"xml\":")
+        ++ compact_text (events_value events.now.list)) ++ codes "}") }
 {
     text.push_str("{\"xml\":")?;
     print_events(alloc, text, events)?;
