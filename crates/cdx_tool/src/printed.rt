@@ -4,6 +4,7 @@ ghost use Rattle.std.specs.Prelude.{◌≡◌, ◌++◌, OnOk, string_bytes};
 ghost use Rattle.serde_json.specs.Written.{comma_if};
 ghost use Rattle.cdx_tool.specs.Prints.{then_text};
 
+use serde_json::Value;
 use std::alloc::{AllocError, Global};
 
 /// The start of a member, and then the text as JSON.
@@ -17,10 +18,7 @@ pub(crate) fn print_text(
         (string_bytes out.new ≡ then_text start.now text.now (string_bytes out.old)) }
 {
     out.push_str(start)?;
-    match serde_json::to_string(alloc, &text) {
-        Ok(text) => out.push_str(text.as_str()),
-        Err(_) => Err(AllocError),
-    }
+    out.push_str(Value::try_from_str(alloc, text)?.to_string(alloc)?.as_str())
 }
 
 /// A comma, where an item stands before.
