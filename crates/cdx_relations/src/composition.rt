@@ -51,7 +51,8 @@ impl PartialEq for BomReference {
 
     fn eq(&self, other: &BomReference) -> bool
         ensures test { result ≡ same (bom_reference_tree self.now) (bom_reference_tree other.now) }
-        ensures equality { IsTrue result ↔ (bom_reference_tree self.now ≡ bom_reference_tree other.now) }
+        ensures equality { IsTrue result
+            ↔ (bom_reference_tree self.now ≡ bom_reference_tree other.now) }
     {
         self.same(other)
     }
@@ -129,7 +130,8 @@ impl PartialEq for Composition {
 
     fn eq(&self, other: &Composition) -> bool
         ensures test { result ≡ same (composition_tree self.now) (composition_tree other.now) }
-        ensures equality { IsTrue result ↔ (composition_tree self.now ≡ composition_tree other.now) }
+        ensures equality { IsTrue result
+            ↔ (composition_tree self.now ≡ composition_tree other.now) }
     {
         self.same(other)
     }
@@ -164,7 +166,8 @@ impl PartialEq for Compositions {
 
     fn eq(&self, other: &Compositions) -> bool
         ensures test { result ≡ same (compositions_tree self.now) (compositions_tree other.now) }
-        ensures equality { IsTrue result ↔ (compositions_tree self.now ≡ compositions_tree other.now) }
+        ensures equality { IsTrue result
+            ↔ (compositions_tree self.now ≡ compositions_tree other.now) }
     {
         self.same(other)
     }

@@ -89,7 +89,8 @@ impl PartialEq for Dependencies {
 
     fn eq(&self, other: &Dependencies) -> bool
         ensures test { result ≡ same (dependencies_tree self.now) (dependencies_tree other.now) }
-        ensures equality { IsTrue result ↔ (dependencies_tree self.now ≡ dependencies_tree other.now) }
+        ensures equality { IsTrue result
+            ↔ (dependencies_tree self.now ≡ dependencies_tree other.now) }
     {
         self.same(other)
     }

@@ -80,8 +80,10 @@ impl PartialEq for DataClassification {
     ghost laws = { same_laws classification_tree };
 
     fn eq(&self, other: &DataClassification) -> bool
-        ensures test { result ≡ same (classification_tree self.now) (classification_tree other.now) }
-        ensures equality { IsTrue result ↔ (classification_tree self.now ≡ classification_tree other.now) }
+        ensures test { result
+            ≡ same (classification_tree self.now) (classification_tree other.now) }
+        ensures equality { IsTrue result
+            ↔ (classification_tree self.now ≡ classification_tree other.now) }
     {
         self.same(other)
     }
@@ -144,7 +146,8 @@ impl PartialEq for ServiceData {
 
     fn eq(&self, other: &ServiceData) -> bool
         ensures test { result ≡ same (service_data_tree self.now) (service_data_tree other.now) }
-        ensures equality { IsTrue result ↔ (service_data_tree self.now ≡ service_data_tree other.now) }
+        ensures equality { IsTrue result
+            ↔ (service_data_tree self.now ≡ service_data_tree other.now) }
     {
         self.same(other)
     }
