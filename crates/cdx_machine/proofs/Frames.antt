@@ -1,0 +1,166 @@
+-- Elements that are read child by child, event by event.
+use Rattle.std.proofs.Common.{◌≡◌, ℕ, zero, suc, ◌+◌, ◌≤◌, List, [], Bool, true, false, Option, Some, None, Result, Ok, Err, refl, sym, ap, ◌∙◌, subst, arith}
+use Rattle.std.specs.Prelude.{if◌then◌else◌}
+use Rattle.cdx_events.specs.declared.name.OwnedName.{OwnedName}
+use Rattle.cdx_events.specs.declared.name.OwnedAttribute.{OwnedAttribute}
+use Rattle.cdx_events.specs.declared.name.Namespace.{Namespace}
+use Rattle.cdx_events.specs.declared.event.XmlEvent.{XmlEvent}
+use Rattle.cdx_events.specs.declared.event.XmlEvent.TheVariants.{StartDocument, EndDocument, StartElement, EndElement, Characters, CData}
+use Rattle.cdx_events.specs.declared.event.EventKind.TheVariants as kinds
+use Rattle.cdx_events.specs.Event.{kind_of}
+use Rattle.cdx_events.specs.Nodes.{Node, characters, cdata, element, Nodes, no_nodes, node}
+use Rattle.cdx_models.specs.declared.bom.SpecVersion.{SpecVersion}
+use Rattle.cdx_models.specs.declared.errors.XmlReadError.{XmlReadError}
+use Rattle.cdx_models.specs.Trees.{Tree, Trees, field}
+use Rattle.cdx_schema.specs.Depth.{Depth}
+use Rattle.cdx_schema.specs.Faults.{unexpected}
+use Rattle.cdx_schema.specs.Kinds.{Kind}
+use Rattle.cdx_schema.specs.Kinds as sorts
+use Rattle.cdx_schema.specs.Locality.{fault_place}
+use Rattle.cdx_schema.specs.Nodes.{places, places_of, ◌⊕◌}
+use Rattle.cdx_schema.specs.Results.{◌>>=◌}
+use Rattle.cdx_schema.specs.XmlReading.{Reading, Plan, Child, find_child, is_second, stored, unknown, child_read, node_read, nodes_read, xread}
+use Rattle.cdx_schema.proofs.Groups.{one_node_more, under_ok, after}
+use Rattle.cdx_leaf.specs.declared.rule.Rule.{Rule}
+use Rattle.cdx_leaf.specs.Attribute.{Gives}
+use Rattle.cdx_leaf.specs.Fault.{Fails, Refused}
+use Rattle.cdx_leaf.specs.Reading.{kind_of_node}
+use Rattle.cdx_leaf.specs.Rules.{skips, passes, as_rule}
+use Rattle.cdx_leaf.proofs.ChildSteps.{stray_fails, text_passes, cdata_passes}
+use Rattle.cdx_machine.specs.declared.offered.Inside.{Inside}
+use Rattle.cdx_machine.specs.declared.offered.Inside.TheVariants.{Nothing, Read, Skipped}
+use Rattle.cdx_machine.specs.Begun.{Begun, innermost, around, Next, still, whole, count, levels, start_name, ended_now, into, next_inside, next, TakesInside, Takes, lone}
+use Rattle.cdx_machine.specs.Contents.{First}
+use Rattle.cdx_machine.specs.Machines.{Refuses, IsQuiet, Steps, StepsRow, StepsChild, ChildHolding}
+use Rattle.cdx_machine.specs.Frames.{Last, read_so_far, IsFrame, IsOpen, IsSkipped, Stays, holds_inside, frame_holds, OffersChild, OffersFault, OffersSecond, EntersAt, Enters, Skips, SkipsOne}
+use Rattle.cdx_machine.proofs.Places.{places_more, count_below}
+use Rattle.cdx_machine.proofs.Faults.{refuses_along, refuses_on, refuses_known, quiet_at}
+use Rattle.cdx_machine.proofs.Contents.{ended_with}
+
+-- ---- names
+
+-- an element of this name
+abbrev pub IsNamed : OwnedName → Node → Type 0
+IsNamed n k = (a : List OwnedAttribute) × (s : Namespace) × (xs : Nodes) × (k ≡ element n a s xs)
+
+pub ended_named : (o : Begun) → IsNamed (start_name o) (ended_now o)
+ended_named (innermost n a s xs) = (a, s, xs, refl)
+ended_named (around n a s xs o) = (a, s, xs ⊕ lone (ended_now o), refl)
+
+abbrev pub Keeps : OwnedName → Next → Type 0
+Keeps n (still o) = start_name o ≡ n
+Keeps n (whole k) = IsNamed n k
+
+keeps_inside : (n : OwnedName) (a : List OwnedAttribute) (s : Namespace) (xs : Nodes) (event : XmlEvent) → Keeps n (next_inside n a s xs event)
+keeps_inside n a s xs StartDocument = refl
+keeps_inside n a s xs EndDocument = refl
+keeps_inside n a s xs (StartElement m b r) = refl
+keeps_inside n a s xs (EndElement m) = (a, s, xs, refl)
+keeps_inside n a s xs (Characters u) = refl
+keeps_inside n a s xs (CData u) = refl
+
+keeps_into : (n : OwnedName) (a : List OwnedAttribute) (s : Namespace) (xs : Nodes) (o : Next) → Keeps n (into n a s xs o)
+keeps_into n a s xs (still o) = refl
+keeps_into n a s xs (whole k) = refl
+
+pub keeps_name : (o : Begun) (event : XmlEvent) → Keeps (start_name o) (next o event)
+keeps_name (innermost n a s xs) event = keeps_inside n a s xs event
+keeps_name (around n a s xs o) event = keeps_into n a s xs (next o event)
+
+-- ---- levels
+
+skips_inside : (n : OwnedName) (a : List OwnedAttribute) (s : Namespace) (xs : Nodes) (event : XmlEvent) (old new : ℕ) (b : Bool) → TakesInside n event → zero ≡ old → SkipsOne old new event b → Skips old new (next_inside n a s xs event) b
+skips_inside n a s xs StartDocument old new b t e h = absurd t
+skips_inside n a s xs EndDocument old new b t e h = absurd t
+skips_inside n a s xs (StartElement m c r) old new b t e h = (h.0, ap suc e ∙ sym h.1)
+skips_inside n a s xs (EndElement m) zero new b t e h = h
+skips_inside n a s xs (EndElement m) (suc k) new b t e h = absurd (omega (arith, e))
+skips_inside n a s xs (Characters u) old new b t e h = (h.0, e ∙ sym h.1)
+skips_inside n a s xs (CData u) old new b t e h = (h.0, e ∙ sym h.1)
+
+pub level_less : (o : Begun) → levels o ≤ count o
+level_less (innermost n a s xs) = omega arith
+level_less (around n a s xs o) = let e : levels o ≤ count o = level_less o in omega (arith, e)
+
+-- one level above
+lower : (k new : ℕ) (event : XmlEvent) (b : Bool) → SkipsOne (suc k) new event b → (new' : ℕ) × (c : Bool) × SkipsOne k new' event c × ((c ≡ true) → (b ≡ false) × (new ≡ zero)) × ((c ≡ false) → (b ≡ false) × (new ≡ suc new'))
+lower k new StartDocument b h = (k, false, (refl, refl), (λ e. absurd (let wrong : false ≡ true = e in cc)), (λ e. h))
+lower k new EndDocument b h = (k, false, (refl, refl), (λ e. absurd (let wrong : false ≡ true = e in cc)), (λ e. h))
+lower k new (StartElement n a s) b h = (suc k, false, (refl, refl), (λ e. absurd (let wrong : false ≡ true = e in cc)), (λ e. h))
+lower zero new (EndElement n) b h = (zero, true, refl, (λ e. h), (λ e. absurd (let wrong : true ≡ false = e in cc)))
+lower (suc j) new (EndElement n) b h = (j, false, (refl, refl), (λ e. absurd (let wrong : false ≡ true = e in cc)), (λ e. h))
+lower k new (Characters t) b h = (k, false, (refl, refl), (λ e. absurd (let wrong : false ≡ true = e in cc)), (λ e. h))
+lower k new (CData t) b h = (k, false, (refl, refl), (λ e. absurd (let wrong : false ≡ true = e in cc)), (λ e. h))
+
+skips_into : (n : OwnedName) (a : List OwnedAttribute) (s : Namespace) (xs : Nodes) (k new new' : ℕ) (b c : Bool) (o : Next) → ((c ≡ true) → (b ≡ false) × (new ≡ zero)) → ((c ≡ false) → (b ≡ false) × (new ≡ suc new')) → Skips k new' o c → Skips (suc k) new (into n a s xs o) b
+skips_into n a s xs k new new' b c (still o) f g h = let e : (b ≡ false) × (new ≡ suc new') = g h.0 in (e.0, ap suc h.1 ∙ sym e.1)
+skips_into n a s xs k new new' b c (whole x) f g h = let e : (b ≡ false) × (new ≡ zero) = f h in (e.0, sym e.1)
+
+pub skips_next : (o : Begun) (event : XmlEvent) (old new : ℕ) (b : Bool) → Takes o event → levels o ≡ old → SkipsOne old new event b → Skips old new (next o event) b
+skips_next (innermost n a s xs) event old new b t e h = skips_inside n a s xs event old new b t e h
+skips_next (around n a s xs o) event zero new b t e h = absurd (omega (arith, e))
+skips_next (around n a s xs o) event (suc k) new b t e h =
+    let x : (new' : ℕ) × (c : Bool) × SkipsOne k new' event c × ((c ≡ true) → (b ≡ false) × (new ≡ zero)) × ((c ≡ false) → (b ≡ false) × (new ≡ suc new')) = lower k new event b h in
+    skips_into n a s xs k new x.0 b x.1 (next o event) x.3 x.4 (skips_next o event k x.0 x.1 t (suc_same e) x.2)
+  where
+    suc_same : {i j : ℕ} → suc i ≡ suc j → i ≡ j
+    suc_same e = omega (arith, e)
+
+-- ---- a child's start
+
+-- what a child of the plan makes of an element
+pub row_read : (found : Option Child) (row : Child) (rule : sorts.Rule) (read : Reading) (el : List ℕ) (v : SpecVersion) (d : Depth) (q : ℕ) (ts : Trees) → found ≡ Some row → is_second row.place (field row.field ts) ≡ false
+    → child_read found rule read el v d q ts ≡ (read v row.kind q d >>= λ t. Ok (stored row.place row.field t ts))
+row_read found row rule read el v d q ts f g =
+    ap (λ o. child_read o rule read el v d q ts) f ∙ ap (λ b. if b then Err (unexpected q el kinds.StartElement) else (read v row.kind q d >>= λ t. Ok (stored row.place row.field t ts))) g
+
+second_read : (found : Option Child) (row : Child) (rule : sorts.Rule) (read : Reading) (el : List ℕ) (v : SpecVersion) (d : Depth) (q : ℕ) (ts : Trees) → found ≡ Some row → is_second row.place (field row.field ts) ≡ true
+    → child_read found rule read el v d q ts ≡ Err (unexpected q el kinds.StartElement)
+second_read found row rule read el v d q ts f g =
+    ap (λ o. child_read o rule read el v d q ts) f ∙ ap (λ b. if b then Err (unexpected q el kinds.StartElement) else (read v row.kind q d >>= λ t. Ok (stored row.place row.field t ts))) g
+
+unknown_read : (found : Option Child) (rule : sorts.Rule) (read : Reading) (el : List ℕ) (v : SpecVersion) (d : Depth) (q : ℕ) (ts : Trees) → found ≡ None → child_read found rule read el v d q ts ≡ unknown rule el q ts
+unknown_read found rule read el v d q ts f = ap (λ o. child_read o rule read el v d q ts) f
+
+unknown_by : (r : Rule) (el : List ℕ) (q : ℕ) (ts : Trees) → skips r ≡ true → unknown (as_rule r) el q ts ≡ Ok ts
+unknown_by Rattle.cdx_leaf.specs.declared.rule.Rule.TheVariants.Lax el q ts h = refl
+unknown_by Rattle.cdx_leaf.specs.declared.rule.Rule.TheVariants.Strict el q ts h = absurd (let wrong : false ≡ true = h in cc)
+unknown_by Rattle.cdx_leaf.specs.declared.rule.Rule.TheVariants.Passing el q ts h = refl
+
+unknown_not : (r : Rule) (el : List ℕ) (q : ℕ) (ts : Trees) → skips r ≡ false → unknown (as_rule r) el q ts ≡ Err (unexpected q el kinds.StartElement)
+unknown_not Rattle.cdx_leaf.specs.declared.rule.Rule.TheVariants.Lax el q ts h = absurd (let wrong : true ≡ false = h in cc)
+unknown_not Rattle.cdx_leaf.specs.declared.rule.Rule.TheVariants.Strict el q ts h = refl
+unknown_not Rattle.cdx_leaf.specs.declared.rule.Rule.TheVariants.Passing el q ts h = absurd (let wrong : true ≡ false = h in cc)
+
+module _ {C : Type 0} (holds : ChildHolding C) (plan : Plan) (ts : Trees) (v : SpecVersion) (n : OwnedName) (q : ℕ) (d : Depth) (m : OwnedName) (b : List OwnedAttribute) (s : Namespace) where
+  abbrev Start : Begun
+  Start = innermost m b s no_nodes
+
+  read_here : Result Trees XmlReadError
+  read_here = child_read (find_child v m.local_name plan.children) plan.rule (xread (element m b s no_nodes)) n.local_name v d q ts
+
+  -- the child's own fault
+  pub enters_fault : (e : XmlReadError) → OffersFault plan ts v q d (innermost m b s no_nodes) e → EntersAt holds plan ts v n q d (innermost m b s no_nodes) (Err e)
+  enters_fault e h =
+      refuses_on e (q + 1) (suc q) (xread (element m b s no_nodes) v h.row.kind q d) _
+      (λ f is. row_read (find_child v m.local_name plan.children) h.row plan.rule (xread (element m b s no_nodes)) n.local_name v d q ts h.found h.first_one ∙ ap (λ r. r >>= λ t. Ok (stored h.row.place h.row.field t ts)) is)
+      (one_less q) h.refuses
+    where
+      one_less : (k : ℕ) → k + 1 ≡ suc k
+      one_less k = omega arith
+
+  refused_here : (found : kinds.the_data) (r : Result (Inside C) XmlReadError) → child_read (find_child v m.local_name plan.children) plan.rule (xread (element m b s no_nodes)) n.local_name v d q ts ≡ Err (unexpected q n.local_name kinds.StartElement)
+      → found ≡ kinds.StartElement → Refused r (unexpected q n.local_name found) → EntersAt holds plan ts v n q d (innermost m b s no_nodes) r
+  refused_here found (Ok x) is k h = absurd h
+  refused_here found (Err e) is k h = refuses_known (Inside C) e (unexpected q n.local_name found) (suc q) _ h (is ∙ ap (λ x. Err (unexpected q n.local_name x)) (sym k)) refl
+
+  pub enters_second : (found : kinds.the_data) (r : Result (Inside C) XmlReadError) → OffersSecond plan ts v (innermost m b s no_nodes) → found ≡ kinds.StartElement → Refused r (unexpected q n.local_name found) → EntersAt holds plan ts v n q d (innermost m b s no_nodes) r
+  enters_second found r h k x = refused_here found r (second_read (find_child v m.local_name plan.children) h.row plan.rule (xread (element m b s no_nodes)) n.local_name v d q ts h.found h.second_one) k x
+
+  pub enters_unknown : (found : kinds.the_data) (r : Result (Inside C) XmlReadError) (rule : Rule) → find_child v m.local_name plan.children ≡ None → plan.rule ≡ as_rule rule → skips rule ≡ false → found ≡ kinds.StartElement → Refused r (unexpected q n.local_name found)
+      → EntersAt holds plan ts v n q d (innermost m b s no_nodes) r
+  enters_unknown found r rule none is not k x =
+      refused_here found r (unknown_read (find_child v m.local_name plan.children) plan.rule (xread (element m b s no_nodes)) n.local_name v d q ts none ∙ (ap (λ z. unknown z n.local_name q ts) is ∙ unknown_not rule n.local_name q ts not)) k x
+
+  pub enters_skipped : (rule : Rule) → find_child v m.local_name plan.children ≡ None → plan.rule ≡ as_rule rule → skips rule ≡ true → IsSkipped plan 0 v (innermost m b s no_nodes)
+  enters_skipped rule none is does = record { not_found = none; passed = λ el q ts. ap (λ z. unknown z el q ts) is ∙ unknown_by rule el q ts does; depth_is = refl }

@@ -1,0 +1,9 @@
+pub mod Places
+pub mod Faults
+pub mod Contents
+pub mod Frames
+pub mod FrameSteps
+pub mod Filled
+pub mod Listing
+pub mod Heard
+pub mod Feeding

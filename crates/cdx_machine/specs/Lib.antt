@@ -1,0 +1,9 @@
+pub mod Begun
+pub mod Machines
+pub mod Contents
+pub mod Plain
+pub mod Frames
+pub mod Records
+pub mod Heard
+pub mod Feeding
+pub mod Holds

@@ -1,0 +1,69 @@
+-- Records and lists as frames.
+use Rattle.std.specs.Prelude.{◌≡◌, refl, ℕ, suc, ◌+◌, List, [], ◌∷◌, Bool, true, false, ◌&&◌, if◌then◌else◌, Option, Some, None, Result, Ok, Err}
+use Rattle.std.proofs.Common.{sym, ap, ◌∙◌}
+use Rattle.std.specs.Str.{bytes_eq}
+use Rattle.cdx_events.specs.declared.name.OwnedName.{OwnedName}
+use Rattle.cdx_events.specs.declared.name.OwnedAttribute.{OwnedAttribute}
+use Rattle.cdx_events.specs.declared.name.Namespace.{Namespace}
+use Rattle.cdx_events.specs.Nodes.{Nodes, element}
+use Rattle.cdx_models.specs.declared.bom.SpecVersion.{SpecVersion}
+use Rattle.cdx_models.specs.declared.bom.SpecVersion.TheVariants.{V1_3, V1_4, V1_5}
+use Rattle.cdx_models.specs.Versions.{knows}
+use Rattle.cdx_models.specs.declared.errors.XmlReadError.{XmlReadError}
+use Rattle.cdx_models.specs.Trees.{Name, Tree, Trees, absent, fields, field, one}
+use Rattle.cdx_schema.specs.Depth.{Depth}
+use Rattle.cdx_schema.specs.Kinds.{Lists, a_list, a_record}
+use Rattle.cdx_schema.specs.Locality.{fault_place}
+use Rattle.cdx_schema.specs.Nodes.{places_of}
+use Rattle.cdx_schema.specs.Results.{◌>>=◌}
+use Rattle.cdx_schema.specs.Table.{rows, list}
+use Rattle.cdx_schema.specs.XmlReading.{Child, all, no_content, content_from, find_child, record_plan, list_plan, plan_of_list, list_of, attributes_read, in_force, ended, xread, nodes_read}
+use Rattle.cdx_schema.proofs.FaultPlaces.{ok_err, bind_err, attributes_place, ended_place}
+use Rattle.cdx_leaf.specs.Each.{each, plan_step}
+use Rattle.cdx_schema.specs.Plain.{is_plain}
+use Rattle.cdx_leaf.specs.Trees.{collected}
+use Rattle.cdx_leaf.proofs.ChildSteps.{both, each_is}
+use Rattle.cdx_leaf.proofs.Whole.{record_is}
+use Rattle.cdx_machine.specs.declared.lists.Item.{Item}
+use Rattle.cdx_machine.specs.Begun.{Begun}
+use Rattle.cdx_machine.specs.Contents.{First}
+use Rattle.cdx_machine.specs.Frames.{Last, IsFrame}
+use Rattle.cdx_machine.specs.Machines.{Holding}
+use Rattle.cdx_machine.specs.Plain.{attributes_first}
+
+-- the last step of a record: what is missing, or the record
+abbrev pub record_end : Name → Last
+record_end name el v q ts = ended (rows name) ts v el q >>= λ us. Ok (fields name us)
+
+pub record_frame : (name : Name) → content_from 0 (rows name) ≡ no_content → is_plain name ≡ true → IsFrame (a_record name) (record_plan name) (attributes_first name) (record_end name)
+record_frame name alone plain = record {
+  reads = λ n a s xs v p d.
+      record_is name alone plain v n a s d p xs
+      ∙ ap (λ r. r >>= λ ts. record_end name n.local_name v (suc (p + places_of xs)) ts) (sym (both (attributes_read (rows name) (in_force name a) v n.local_name p) (λ ts. nodes_read xs (record_plan name) n.local_name v d (suc p) ts) (λ ts. each (plan_step (record_plan name) v d n.local_name) xs (suc p) ts)
+      (λ ts. each_is xs (record_plan name) n.local_name v d (suc p) ts)));
+  first_place = λ el a v p f h. attributes_place (rows name) (in_force name a) v el p f h;
+  last_place = λ el v q ts f h. bind_err (ended (rows name) ts v el q) (λ us. Ok (fields name us)) f h (λ e. ended_place (rows name) ts v el q f e) (λ us i j. ok_err j);
+}
+
+-- ---- lists
+
+abbrev pub list_first : First
+list_first el a v p = Ok (one absent)
+
+abbrev pub list_last : Last
+list_last el v q ts = Ok (list_of (field 0 ts))
+
+pub list_frame : (l : Lists) → IsFrame (a_list l) (plan_of_list l) list_first list_last
+unfolding xread
+list_frame l = record { reads = λ n a s xs v p d. refl; first_place = λ el a v p f h. ok_err h; last_place = λ el v q ts f h. ok_err h }
+
+-- the child that an item is
+abbrev pub list_child : Lists → Child
+list_child l = record { name = (list l).name; since = V1_3; kind = (list l).kind; field = 0; place = all }
+
+abbrev pub items_slots : {X : Type 0} → (X → Tree) → List X → Trees
+items_slots f xs = one (collected f xs)
+
+-- The machine of an item keeps its events.
+abbrev pub item_holds : {L M V X : Type 0} → Lists → Holding M → Item L M V X → Child → SpecVersion → ℕ → Depth → Begun → Type 0
+item_holds l holds m row v p d o = (row ≡ list_child l) × holds m.machine v p d o

@@ -1,0 +1,139 @@
+//! Lists.
+
+use crate::fields::fill_list;
+use crate::frame::{ChildOf, Frame, FrameMachine};
+use crate::machine::Machine;
+use crate::offered::Offered;
+use cdx_events::{List, OwnedAttribute, OwnedName, XmlEvent};
+use cdx_leaf::Rule;
+use cdx_models::{HasTree, SpecVersion, XmlReadError};
+use std::alloc::Global;
+
+/// A list of the schema, whose items are elements of one name.
+pub trait ListOf {
+    ghost use Rattle.std.specs.Prelude.{◌≡◌};
+    ghost use Rattle.cdx_models.specs.Trees.{list_tree};
+    ghost use Rattle.cdx_schema.specs.Kinds.{Lists};
+    ghost use Rattle.cdx_schema.specs.Table.{list};
+    ghost use Rattle.cdx_schema.specs.XmlReading.{list_plan, plan_of_list};
+    ghost use Rattle.cdx_leaf.specs.Rules.{as_rule};
+
+    /// The machine of an item.
+    type Item: Machine;
+
+    /// The list.
+    type Value: HasTree + Drop;
+
+    /// The list in the schema.
+    ghost list_name: { Lists };
+
+    /// The name of an item's element.
+    fn inner() -> &'static str
+        ensures { result.now ≡ (list list_name).name };
+
+    /// What becomes of what is no item.
+    fn rule() -> Rule
+        ensures { (list list_name).rule ≡ as_rule result };
+
+    /// The list of these items.
+    fn from_items(items: List<<Self::Item as Machine>::Value>) -> Self::Value
+        ensures { Self.Value.tree result ≡ list_tree Self.Item.Value.tree items };
+
+    // Its items have one name.
+    ghost one_name: { plan_of_list list_name ≡ list_plan list_name };
+
+    // Their machine reads the kind of the list's items.
+    ghost item_kind: { Self.Item.kind ≡ (list list_name).kind };
+}
+
+/// A list while its items are read.
+#[derive(Drop)]
+pub struct Items<L: ListOf> {
+    items: List<<L::Item as Machine>::Value>,
+}
+
+/// An open item of a list.
+#[derive(Drop)]
+pub struct Item<L: ListOf> {
+    machine: L::Item,
+}
+
+/// The machine of a list.
+pub type ListMachine<L> = FrameMachine<Items<L>, Item<L>>;
+
+impl<L: ListOf> Frame for Items<L> {
+    ghost use Rattle.cdx_schema.specs.Kinds.{a_list};
+    ghost use Rattle.cdx_schema.specs.XmlReading.{plan_of_list};
+    ghost use Rattle.cdx_machine.specs.Records.{list_first, list_last, list_frame, items_slots};
+
+    type Value = L::Value;
+
+    ghost kind = { a_list L.list_name };
+
+    ghost plan = { plan_of_list L.list_name };
+
+    ghost first = { list_first };
+
+    ghost last = { list_last };
+
+    ghost slots = { λ r. items_slots L.Item.Value.tree r.items };
+
+    ghost frame = { list_frame L.list_name };
+
+    fn rule(&self) -> Rule {
+        L::rule()
+    }
+
+    fn begin(
+        alloc: Global,
+        _place: usize,
+        _v: SpecVersion,
+        _element: &OwnedName,
+        _attributes: &List<OwnedAttribute>,
+    ) -> Result<Items<L>, XmlReadError> {
+        Ok(Items {
+            items: List::new(alloc),
+        })
+    }
+
+    fn finish(
+        self,
+        _alloc: Global,
+        _place: usize,
+        _v: SpecVersion,
+        _element: &OwnedName,
+    ) -> Result<L::Value, XmlReadError> {
+        Ok(L::from_items(self.items))
+    }
+}
+
+impl<L: ListOf> ChildOf<Items<L>> for Item<L> {
+    ghost use Rattle.cdx_machine.specs.Records.{item_holds};
+
+    ghost holds = { item_holds L.list_name L.Item.holds };
+
+    fn start(
+        _part: &Items<L>,
+        alloc: Global,
+        place: usize,
+        v: SpecVersion,
+        element: &OwnedName,
+        attributes: &List<OwnedAttribute>,
+    ) -> Result<Offered<Item<L>>, XmlReadError> {
+        if !element.local_name.is(L::inner()) {
+            return Ok(Offered::Unknown);
+        }
+        let machine = L::Item::start(alloc, place, v, element, attributes)?;
+        Ok(Offered::Opened(Item { machine }))
+    }
+
+    fn step(
+        &mut self,
+        part: &mut Items<L>,
+        _alloc: Global,
+        place: usize,
+        event: &XmlEvent,
+    ) -> Result<bool, XmlReadError> {
+        fill_list(&mut self.machine, place, event, &mut part.items)
+    }
+}

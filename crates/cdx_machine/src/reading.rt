@@ -1,0 +1,33 @@
+//! Elements that are read by a machine.
+
+ghost use Rattle.cdx_leaf.specs.Reading.{IsIn, ReadsAs};
+ghost use Rattle.cdx_machine.specs.Feeding.{IsNoBill};
+
+use crate::machine::Machine;
+use cdx_events::{EventReader, List, OwnedAttribute, OwnedName};
+use cdx_models::{SpecVersion, XmlReadError};
+use std::alloc::Global;
+
+/// What the element denotes, whose start the reader has just taken: its events are fed to a machine one by one.
+pub fn read_by_machine<M: Machine>(
+    alloc: Global,
+    reader: &mut EventReader<'_>,
+    v: SpecVersion,
+    element: &OwnedName,
+    attributes: &List<OwnedAttribute>,
+) -> Result<M::Value, XmlReadError>
+    requires inside { IsIn reader.old element.now }
+    requires kind { IsNoBill M.kind }
+    ensures { ReadsAs M.Value.tree reader.old reader.new element.now attributes.now v M.kind (λ d. d) result }
+{
+    let mut machine = M::start(alloc, reader.place() - 1, v, element, attributes)?;
+    'events: loop {
+        let place = reader.place();
+        let Some(event) = reader.next() else {
+            unreachable!()
+        };
+        if let Some(value) = machine.step(place, event)? {
+            return Ok(value);
+        }
+    }
+}
