@@ -39,7 +39,8 @@ pub trait Content: Drop {
         element: &OwnedName,
         attributes: &List<OwnedAttribute>,
     ) -> Result<Self, XmlReadError>
-        ensures { Gives start (place + 1) (first element.now.local_name attributes.now v place) result };
+        ensures { Gives start (place + 1) (first element.now.local_name attributes.now v place)
+            result };
 
     /// The value by the text, where there is one, or its fault, at `place`, that of the element's end.
     fn finish(
@@ -49,7 +50,8 @@ pub trait Content: Drop {
         element: &OwnedName,
         text: Option<Text>,
     ) -> Result<Self::Value, XmlReadError>
-        ensures { Gives Self.Value.tree (place + 1) (last element.now.local_name place (start self) text) result };
+        ensures { Gives Self.Value.tree (place + 1)
+            (last element.now.local_name place (start self) text) result };
 
     // The kind is read like this.
     ghost content: { IsContent kind first last start };

@@ -20,7 +20,8 @@ pub fn fill_one<M: Machine>(
     field: &mut Option<M::Value>,
 ) -> Result<bool, XmlReadError>
     requires { CanStep M.holds machine.old place event.now }
-    ensures { FillsBy M.holds M.kind (λ t. t) (present M.Value.tree field.old) (present M.Value.tree field.new) machine.old machine.new place event.now result }
+    ensures { FillsBy M.holds M.kind (λ t. t) (present M.Value.tree field.old)
+        (present M.Value.tree field.new) machine.old machine.new place event.now result }
 {
     match machine.step(place, event)? {
         None => Ok(false),
@@ -55,7 +56,9 @@ pub fn fill_more<M: Machine>(
     field: &mut Option<List<M::Value>>,
 ) -> Result<bool, XmlReadError>
     requires { CanStep M.holds machine.old place event.now }
-    ensures { FillsBy M.holds M.kind (appended (present (list_tree M.Value.tree) field.old)) (present (list_tree M.Value.tree) field.old) (present (list_tree M.Value.tree) field.new) machine.old machine.new place event.now result }
+    ensures { FillsBy M.holds M.kind (appended (present (list_tree M.Value.tree) field.old))
+        (present (list_tree M.Value.tree) field.old) (present (list_tree M.Value.tree) field.new)
+        machine.old machine.new place event.now result }
 {
     match machine.step(place, event)? {
         None => Ok(false),
@@ -74,7 +77,9 @@ pub fn fill_list<M: Machine>(
     field: &mut List<M::Value>,
 ) -> Result<bool, XmlReadError>
     requires { CanStep M.holds machine.old place event.now }
-    ensures { FillsBy M.holds M.kind (appended (collected M.Value.tree field.old)) (collected M.Value.tree field.old) (collected M.Value.tree field.new) machine.old machine.new place event.now result }
+    ensures { FillsBy M.holds M.kind (appended (collected M.Value.tree field.old))
+        (collected M.Value.tree field.old) (collected M.Value.tree field.new) machine.old
+        machine.new place event.now result }
 {
     match machine.step(place, event)? {
         None => Ok(false),

@@ -53,7 +53,8 @@ pub trait Frame: Drop {
         element: &OwnedName,
         attributes: &List<OwnedAttribute>,
     ) -> Result<Self, XmlReadError>
-        ensures { Gives slots (place + 1) (first element.now.local_name attributes.now v place) result };
+        ensures { Gives slots (place + 1) (first element.now.local_name attributes.now v place)
+            result };
 
     /// The value, or the fault of the first required child that is missing, at `place`, that of the element's end.
     fn finish(
@@ -63,7 +64,8 @@ pub trait Frame: Drop {
         v: SpecVersion,
         element: &OwnedName,
     ) -> Result<Self::Value, XmlReadError>
-        ensures { Gives Self.Value.tree (place + 1) (last element.now.local_name v place (slots self)) result };
+        ensures { Gives Self.Value.tree (place + 1)
+            (last element.now.local_name v place (slots self)) result };
 
     // The kind is read like this.
     ghost frame: { IsFrame kind plan first last };
