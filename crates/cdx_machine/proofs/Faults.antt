@@ -1,9 +1,8 @@
 -- Refusals, and where their faults stand.
-use Rattle.std.proofs.Common.{◌≡◌, ℕ, suc, ◌+◌, ◌≤◌, Result, Ok, Err, refl, sym, ap, ◌∙◌, subst, arith}
+use Rattle.std.proofs.Common.{◌≡◌, ℕ, suc, ◌≤◌, Result, Err, sym, ap, ◌∙◌, subst}
 use Rattle.cdx_models.specs.declared.errors.XmlReadError.{XmlReadError}
 use Rattle.cdx_models.specs.declared.errors.XmlReadError.TheVariants.{Memory}
 use Rattle.cdx_schema.specs.Locality.{fault_place}
-use Rattle.cdx_schema.specs.Results.{◌>>=◌}
 use Rattle.cdx_leaf.specs.Fault.{Fails, Refused}
 use Rattle.cdx_machine.specs.Machines.{Refuses, IsQuiet}
 

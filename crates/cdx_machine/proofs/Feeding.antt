@@ -1,5 +1,5 @@
 -- A machine that is fed the events of an element.
-use Rattle.std.proofs.Common.{◌≡◌, ℕ, suc, ◌+◌, ◌<◌, ◌≤◌, List, [], ◌∷◌, ◌++◌, length, Option, Some, None, Result, Ok, Err, refl, sym, ap, ◌∙◌, subst, arith, append_assoc}
+use Rattle.std.proofs.Common.{◌≡◌, ℕ, suc, ◌+◌, ◌≤◌, List, [], ◌∷◌, ◌++◌, length, Some, None, Ok, Err, refl, sym, ap, ◌∙◌, subst, arith, append_assoc}
 use Rattle.std.proofs.lemmas.List.{append-nil}
 use Rattle.cdx_events.specs.declared.name.OwnedName.{OwnedName}
 use Rattle.cdx_events.specs.declared.name.OwnedAttribute.{OwnedAttribute}
@@ -7,7 +7,7 @@ use Rattle.cdx_events.specs.declared.name.Namespace.{Namespace}
 use Rattle.cdx_events.specs.declared.event.XmlEvent.{XmlEvent}
 use Rattle.cdx_events.specs.declared.event.XmlEvent.TheVariants.{StartDocument, EndDocument, StartElement, EndElement, Characters, CData}
 use Rattle.cdx_events.specs.Cursor.{Cursor}
-use Rattle.cdx_events.specs.Nodes.{Node, element, Nodes, no_nodes, node, events_of, events_of_all, document}
+use Rattle.cdx_events.specs.Nodes.{Node, element, Nodes, no_nodes, events_of, events_of_all}
 use Rattle.cdx_events.proofs.Checks.{checks, checks_root, past_all, onto_all}
 use Rattle.cdx_events.proofs.RootLaws.{one_root}
 use Rattle.cdx_models.specs.declared.bom.SpecVersion.{SpecVersion}
@@ -26,10 +26,10 @@ use Rattle.cdx_leaf.specs.Reading.{Stands, Reads, after}
 use Rattle.cdx_leaf.proofs.Skip.{length_events}
 use Rattle.cdx_leaf.proofs.Steps.{cursor_is}
 use Rattle.cdx_machine.specs.Begun.{Begun, innermost, around, start_name, so_far, count, lone, ended_now, Next, still, whole, next, Takes}
-use Rattle.cdx_machine.specs.Machines.{Holding, Refuses, Steps, StepsAs, CanStep, StartsAs, Opens}
+use Rattle.cdx_machine.specs.Machines.{Holding, Refuses, Steps, StepsAs, StartsAs}
 use Rattle.cdx_machine.specs.Feeding.{IsNoBill}
 use Rattle.cdx_machine.proofs.Places.{counted, Counted}
-use Rattle.cdx_machine.proofs.Frames.{IsNamed, Keeps, keeps_name}
+use Rattle.cdx_machine.proofs.Frames.{Keeps, keeps_name}
 use Rattle.cdx_machine.proofs.Heard.{count_is, EventsAre, events_next, open_names, ended_events, begins_takes}
 
 -- ---- an element's events are no front of another's

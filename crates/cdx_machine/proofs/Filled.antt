@@ -1,22 +1,17 @@
 -- What an open child makes of the field that it is read into.
-use Rattle.std.proofs.Common.{◌≡◌, ℕ, suc, ◌+◌, List, [], ◌∷◌, ◌++◌, Bool, true, false, Option, Some, None, Result, Ok, Err, refl, sym, ap, ◌∙◌, subst}
-use Rattle.std.specs.Prelude.{unwrap_or, if◌then◌else◌, ◌&&◌}
-use Rattle.std.specs.Str.{bytes_eq}
+use Rattle.std.proofs.Common.{◌≡◌, ℕ, List, Bool, true, false, Option, Some, Result, Ok, Err, sym, ap, ◌∙◌, subst}
 use Rattle.cdx_events.specs.declared.name.OwnedName.{OwnedName}
 use Rattle.cdx_events.specs.declared.name.OwnedAttribute.{OwnedAttribute}
-use Rattle.cdx_events.specs.declared.name.Namespace.{Namespace}
 use Rattle.cdx_events.specs.declared.event.XmlEvent.{XmlEvent}
-use Rattle.cdx_events.specs.Nodes.{Node, no_nodes, element}
+use Rattle.cdx_events.specs.Nodes.{Node, no_nodes}
 use Rattle.cdx_models.specs.declared.bom.SpecVersion.{SpecVersion}
 use Rattle.cdx_models.specs.declared.errors.XmlReadError.{XmlReadError}
 use Rattle.cdx_models.specs.Trees.{Tree, Trees, field, with_field}
 use Rattle.cdx_schema.specs.Depth.{Depth}
-use Rattle.cdx_schema.specs.Kinds.{Kind}
-use Rattle.cdx_schema.specs.XmlReading.{Plan, Place, last, once, all, Child, appended, find_child, is_second, stored, xread}
-use Rattle.cdx_machine.specs.declared.offered.Offered.{Offered}
-use Rattle.cdx_machine.specs.declared.offered.Offered.TheVariants.{Opened, Unknown}
-use Rattle.cdx_machine.specs.Begun.{Begun, innermost, Next, still, whole, count, ended_now, next, Takes}
-use Rattle.cdx_machine.specs.Frames.{IsOpen, OffersChild, OffersFault, Offers, StartsChild}
+use Rattle.cdx_schema.specs.XmlReading.{Plan, last, once, all, Child, appended, find_child, is_second, stored, xread}
+use Rattle.cdx_machine.specs.declared.offered.Offered.TheVariants.{Opened}
+use Rattle.cdx_machine.specs.Begun.{Begun, innermost, Next, still, whole, next}
+use Rattle.cdx_machine.specs.Frames.{StartsChild}
 use Rattle.cdx_machine.specs.Machines.{Holding, ChildHolding, StartsAs, Steps, Fills, FillsBy, StepsRow, StepsChild}
 
 -- a value that goes into the field

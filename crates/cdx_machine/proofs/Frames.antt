@@ -1,5 +1,5 @@
 -- Elements that are read child by child, event by event.
-use Rattle.std.proofs.Common.{◌≡◌, ℕ, zero, suc, ◌+◌, ◌≤◌, List, [], Bool, true, false, Option, Some, None, Result, Ok, Err, refl, sym, ap, ◌∙◌, subst, arith}
+use Rattle.std.proofs.Common.{◌≡◌, ℕ, zero, suc, ◌+◌, ◌≤◌, List, Bool, true, false, Option, Some, None, Result, Ok, Err, refl, sym, ap, ◌∙◌, arith}
 use Rattle.std.specs.Prelude.{if◌then◌else◌}
 use Rattle.cdx_events.specs.declared.name.OwnedName.{OwnedName}
 use Rattle.cdx_events.specs.declared.name.OwnedAttribute.{OwnedAttribute}
@@ -7,35 +7,25 @@ use Rattle.cdx_events.specs.declared.name.Namespace.{Namespace}
 use Rattle.cdx_events.specs.declared.event.XmlEvent.{XmlEvent}
 use Rattle.cdx_events.specs.declared.event.XmlEvent.TheVariants.{StartDocument, EndDocument, StartElement, EndElement, Characters, CData}
 use Rattle.cdx_events.specs.declared.event.EventKind.TheVariants as kinds
-use Rattle.cdx_events.specs.Event.{kind_of}
-use Rattle.cdx_events.specs.Nodes.{Node, characters, cdata, element, Nodes, no_nodes, node}
+use Rattle.cdx_events.specs.Nodes.{Node, element, Nodes, no_nodes}
 use Rattle.cdx_models.specs.declared.bom.SpecVersion.{SpecVersion}
 use Rattle.cdx_models.specs.declared.errors.XmlReadError.{XmlReadError}
-use Rattle.cdx_models.specs.Trees.{Tree, Trees, field}
+use Rattle.cdx_models.specs.Trees.{Trees, field}
 use Rattle.cdx_schema.specs.Depth.{Depth}
 use Rattle.cdx_schema.specs.Faults.{unexpected}
 use Rattle.cdx_schema.specs.Kinds.{Kind}
 use Rattle.cdx_schema.specs.Kinds as sorts
-use Rattle.cdx_schema.specs.Locality.{fault_place}
-use Rattle.cdx_schema.specs.Nodes.{places, places_of, ◌⊕◌}
+use Rattle.cdx_schema.specs.Nodes.{◌⊕◌}
 use Rattle.cdx_schema.specs.Results.{◌>>=◌}
-use Rattle.cdx_schema.specs.XmlReading.{Reading, Plan, Child, find_child, is_second, stored, unknown, child_read, node_read, nodes_read, xread}
-use Rattle.cdx_schema.proofs.Groups.{one_node_more, under_ok, after}
+use Rattle.cdx_schema.specs.XmlReading.{Reading, Plan, Child, find_child, is_second, stored, unknown, child_read, xread}
 use Rattle.cdx_leaf.specs.declared.rule.Rule.{Rule}
-use Rattle.cdx_leaf.specs.Attribute.{Gives}
-use Rattle.cdx_leaf.specs.Fault.{Fails, Refused}
-use Rattle.cdx_leaf.specs.Reading.{kind_of_node}
-use Rattle.cdx_leaf.specs.Rules.{skips, passes, as_rule}
-use Rattle.cdx_leaf.proofs.ChildSteps.{stray_fails, text_passes, cdata_passes}
+use Rattle.cdx_leaf.specs.Fault.{Refused}
+use Rattle.cdx_leaf.specs.Rules.{skips, as_rule}
 use Rattle.cdx_machine.specs.declared.offered.Inside.{Inside}
-use Rattle.cdx_machine.specs.declared.offered.Inside.TheVariants.{Nothing, Read, Skipped}
 use Rattle.cdx_machine.specs.Begun.{Begun, innermost, around, Next, still, whole, count, levels, start_name, ended_now, into, next_inside, next, TakesInside, Takes, lone}
-use Rattle.cdx_machine.specs.Contents.{First}
-use Rattle.cdx_machine.specs.Machines.{Refuses, IsQuiet, Steps, StepsRow, StepsChild, ChildHolding}
-use Rattle.cdx_machine.specs.Frames.{Last, read_so_far, IsFrame, IsOpen, IsSkipped, Stays, holds_inside, frame_holds, OffersChild, OffersFault, OffersSecond, EntersAt, Enters, Skips, SkipsOne}
-use Rattle.cdx_machine.proofs.Places.{places_more, count_below}
-use Rattle.cdx_machine.proofs.Faults.{refuses_along, refuses_on, refuses_known, quiet_at}
-use Rattle.cdx_machine.proofs.Contents.{ended_with}
+use Rattle.cdx_machine.specs.Machines.{ChildHolding}
+use Rattle.cdx_machine.specs.Frames.{IsSkipped, OffersFault, OffersSecond, EntersAt, Skips, SkipsOne}
+use Rattle.cdx_machine.proofs.Faults.{refuses_on, refuses_known}
 
 -- ---- names
 

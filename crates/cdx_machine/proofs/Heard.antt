@@ -1,5 +1,5 @@
 -- Events that begin an element, and the soonest fault in them.
-use Rattle.std.proofs.Common.{◌≡◌, ℕ, suc, ◌+◌, ◌<◌, ◌≤◌, nat_lt, nltb→le, List, [], ◌∷◌, ◌++◌, length, Bool, true, false, Option, Some, None, Result, Ok, Err, refl, sym, ap, ◌∙◌, subst, arith, append_assoc, length-append}
+use Rattle.std.proofs.Common.{◌≡◌, ℕ, suc, ◌+◌, ◌≤◌, nat_lt, List, [], ◌∷◌, ◌++◌, length, true, false, Option, Some, None, Result, Ok, Err, refl, sym, ap, ◌∙◌, subst, arith, append_assoc, length-append}
 use Rattle.std.specs.Prelude.{if◌then◌else◌}
 use Rattle.std.proofs.lemmas.List.{append-nil}
 use Rattle.cdx_events.specs.declared.name.OwnedName.{OwnedName}
@@ -17,14 +17,12 @@ use Rattle.cdx_schema.specs.Depth.{Depth}
 use Rattle.cdx_schema.specs.Kinds.{Kind}
 use Rattle.cdx_schema.specs.Locality.{fault_place}
 use Rattle.cdx_schema.specs.Nodes.{places, places_of, ◌⊕◌}
-use Rattle.cdx_schema.specs.Soon.{ends, BeginsElement, IsElement, IsEnded, fault_below, IsSoon}
+use Rattle.cdx_schema.specs.Soon.{ends, BeginsElement, IsElement, fault_below, IsSoon}
 use Rattle.cdx_schema.specs.XmlReading.{xread}
 use Rattle.cdx_leaf.proofs.Skip.{length_events, length_all}
 use Rattle.cdx_machine.specs.Begun.{Begun, innermost, around, start_name, so_far, count, lone, ended_now, Next, still, whole, into, next_inside, next, TakesInside, Takes}
 use Rattle.cdx_machine.specs.Machines.{Holding, Refuses, IsQuiet, Steps, StepsAs, CanStep, StartsAs, Opens}
-use Rattle.cdx_events.specs.Nodes.{document}
-use Rattle.cdx_events.proofs.RootLaws.{one_root}
-use Rattle.cdx_machine.specs.Heard.{Hears, IsRead, RefusesSoon, AnswersBy, Answers, OpensBy, OpensAs}
+use Rattle.cdx_machine.specs.Heard.{Hears, IsRead, RefusesSoon, Answers, OpensAs}
 use Rattle.cdx_machine.proofs.Places.{counted, Counted}
 use Rattle.cdx_machine.proofs.Frames.{IsNamed, ended_named, Keeps, keeps_name}
 

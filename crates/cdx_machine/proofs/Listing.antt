@@ -1,5 +1,5 @@
 -- The items of a list.
-use Rattle.std.proofs.Common.{◌≡◌, ℕ, List, [], ◌∷◌, Bool, true, false, Option, Some, None, Result, Ok, Err, refl, sym, ap, ◌∙◌, subst}
+use Rattle.std.proofs.Common.{◌≡◌, ℕ, List, [], ◌∷◌, Bool, true, false, Some, None, Result, Ok, Err, refl, ap, ◌∙◌, subst}
 use Rattle.std.specs.Prelude.{if◌then◌else◌, ◌&&◌}
 use Rattle.std.specs.Str.{bytes_eq}
 use Rattle.cdx_events.specs.declared.name.OwnedName.{OwnedName}
@@ -12,10 +12,9 @@ use Rattle.cdx_models.specs.Versions.{knows}
 use Rattle.cdx_models.specs.Trees.{Tree, Trees, list_tree}
 use Rattle.cdx_schema.specs.Kinds.{Lists, Kind}
 use Rattle.cdx_schema.specs.Table.{list}
-use Rattle.cdx_schema.specs.XmlReading.{Child, appended, find_child, list_plan, plan_of_list, list_of}
+use Rattle.cdx_schema.specs.XmlReading.{appended, find_child, list_plan, plan_of_list, list_of}
 use Rattle.cdx_leaf.specs.Trees.{collected}
-use Rattle.cdx_machine.specs.declared.offered.Offered.{Offered}
-use Rattle.cdx_machine.specs.declared.offered.Offered.TheVariants.{Opened, Unknown}
+use Rattle.cdx_machine.specs.declared.offered.Offered.TheVariants.{Opened}
 use Rattle.cdx_machine.specs.declared.lists.Item.{Item}
 use Rattle.cdx_machine.specs.Frames.{StartsChild}
 use Rattle.cdx_machine.specs.Machines.{Holding, ChildHolding, StartsAs, FillsBy, StepsChild}

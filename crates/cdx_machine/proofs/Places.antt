@@ -1,13 +1,13 @@
 -- How many events nodes and begun elements have.
-use Rattle.std.proofs.Common.{◌≡◌, ℕ, zero, suc, ◌+◌, ◌<◌, ◌≤◌, List, refl, sym, ap, ◌∙◌, subst, arith}
+use Rattle.std.proofs.Common.{◌≡◌, ℕ, suc, ◌+◌, ◌<◌, List, refl, subst, arith}
 use Rattle.cdx_events.specs.declared.name.OwnedName.{OwnedName}
 use Rattle.cdx_events.specs.declared.name.OwnedAttribute.{OwnedAttribute}
 use Rattle.cdx_events.specs.declared.name.Namespace.{Namespace}
 use Rattle.cdx_events.specs.declared.event.XmlEvent.{XmlEvent}
 use Rattle.cdx_events.specs.declared.event.XmlEvent.TheVariants.{StartDocument, EndDocument, StartElement, EndElement, Characters, CData}
-use Rattle.cdx_events.specs.Nodes.{Node, characters, cdata, element, Nodes, no_nodes, node}
+use Rattle.cdx_events.specs.Nodes.{Node, characters, cdata, Nodes, no_nodes, node}
 use Rattle.cdx_schema.specs.Nodes.{places, places_of, ◌⊕◌}
-use Rattle.cdx_machine.specs.Begun.{Begun, innermost, around, Next, still, whole, into, next_inside, next, TakesInside, Takes, count, levels, start_name, ended_now, lone}
+use Rattle.cdx_machine.specs.Begun.{Begun, innermost, around, Next, still, whole, into, next_inside, next, TakesInside, Takes, count, ended_now, lone}
 
 pub places_more : (xs : Nodes) (k : Node) → places_of (xs ⊕ lone k) ≡ places_of xs + places k
 places_more no_nodes k = omega arith

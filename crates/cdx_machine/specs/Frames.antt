@@ -1,5 +1,5 @@
 -- Elements that are read child by child, by a plan.
-use Rattle.std.specs.Prelude.{◌≡◌, ℕ, zero, suc, ◌+◌, List, [], Bool, true, false, Option, Some, None, Result, Ok, Err}
+use Rattle.std.specs.Prelude.{◌≡◌, ℕ, zero, suc, ◌+◌, List, Bool, true, false, Option, Some, None, Result, Ok, Err}
 use Rattle.cdx_events.specs.declared.name.OwnedName.{OwnedName}
 use Rattle.cdx_events.specs.declared.name.OwnedAttribute.{OwnedAttribute}
 use Rattle.cdx_events.specs.declared.name.Namespace.{Namespace}
@@ -12,18 +12,16 @@ use Rattle.cdx_models.specs.declared.bom.SpecVersion.{SpecVersion}
 use Rattle.cdx_models.specs.declared.errors.XmlReadError.{XmlReadError}
 use Rattle.cdx_models.specs.Trees.{Tree, Trees, field}
 use Rattle.cdx_schema.specs.Depth.{Depth}
-use Rattle.cdx_schema.specs.Faults.{unexpected}
 use Rattle.cdx_schema.specs.Kinds.{Kind}
 use Rattle.cdx_schema.specs.Locality.{fault_place}
 use Rattle.cdx_schema.specs.Nodes.{places_of}
 use Rattle.cdx_schema.specs.Results.{◌>>=◌}
 use Rattle.cdx_schema.specs.XmlReading.{Plan, Child, find_child, is_second, unknown, child_read, xread, nodes_read}
-use Rattle.cdx_leaf.specs.Fault.{Refused}
 use Rattle.cdx_machine.specs.declared.offered.Offered.{Offered}
 use Rattle.cdx_machine.specs.declared.offered.Offered.TheVariants as offers
 use Rattle.cdx_machine.specs.declared.offered.Inside.{Inside}
 use Rattle.cdx_machine.specs.declared.offered.Inside.TheVariants as places_inside
-use Rattle.cdx_machine.specs.Begun.{Begun, innermost, around, start_name, levels, count, ended_now, Next, still, whole, next}
+use Rattle.cdx_machine.specs.Begun.{Begun, innermost, around, start_name, levels, count, ended_now, Next, still, whole}
 use Rattle.cdx_machine.specs.Contents.{First}
 use Rattle.cdx_machine.specs.Machines.{Refuses, IsQuiet, ChildHolding}
 

@@ -31,11 +31,11 @@ abbrev pub text_record_holds : {X S : Type 0} → Name → (S → Trees) → Hol
 text_record_holds name start m v p d o = content_holds (attributes_first name) (λ r. start r.start) m.name m.content m.text v p o
 
 -- a record that is read child by child
-abbrev pub record_holds : {X P C : Type 0} → Name → (P → Trees) → ChildHolding C → Holding (FrameMachine (BegunRecord X P) C X)
+abbrev pub record_holds : {X P C : Type 0} → Name → (P → Trees) → ChildHolding C → Holding (FrameMachine C (BegunRecord X P) X)
 record_holds name slots child m v p d o = frame_holds child (attributes_first name) (record_plan name) (λ r. slots r.part) m.name m.v m.part m.inside v p d o
 
 -- a list, of whose items this machine keeps the events
-abbrev pub list_holds : {L M V X : Type 0} → Lists → (X → Tree) → Holding M → Holding (FrameMachine (Items L M V X) (Item L M V X) V)
+abbrev pub list_holds : {L M V X : Type 0} → Lists → (X → Tree) → Holding M → Holding (FrameMachine (Item L M V X) (Items L M V X) V)
 list_holds l view holds m v p d o = frame_holds (item_holds l holds) list_first (plan_of_list l) (λ r. items_slots view r.items) m.name m.v m.part m.inside v p d o
 
 -- ---- an open child

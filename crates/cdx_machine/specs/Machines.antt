@@ -8,12 +8,12 @@ use Rattle.cdx_events.specs.Nodes.{Node, no_nodes}
 use Rattle.cdx_models.specs.declared.bom.SpecVersion.{SpecVersion}
 use Rattle.cdx_models.specs.declared.errors.XmlReadError.{XmlReadError}
 use Rattle.cdx_models.specs.declared.errors.XmlReadError.TheVariants.{Memory}
-use Rattle.cdx_models.specs.Trees.{Tree, Trees, field, with_field}
+use Rattle.cdx_models.specs.Trees.{Tree, Trees}
 use Rattle.cdx_schema.specs.Depth.{Depth}
 use Rattle.cdx_schema.specs.Kinds.{Kind}
 use Rattle.cdx_schema.specs.Locality.{fault_place}
 use Rattle.cdx_schema.specs.Nodes.{places}
-use Rattle.cdx_schema.specs.XmlReading.{Child, appended, is_second, stored, xread}
+use Rattle.cdx_schema.specs.XmlReading.{Child, stored, xread}
 use Rattle.cdx_machine.specs.Begun.{Begun, innermost, Next, still, whole, count, ended_now, next, Takes}
 
 -- A refusal is what is denoted, and its fault stands at the last event, right before this place. Want of memory is the exception.

@@ -17,7 +17,7 @@ use Rattle.cdx_events.specs.declared.name.Namespace.{Namespace}
 use Rattle.cdx_events.specs.Nodes.{element}
 use Rattle.cdx_schema.specs.Depth.{Depth}
 use Rattle.cdx_schema.specs.Nodes.{places_of}
-use Rattle.cdx_schema.specs.XmlTexts.{boolean_of, boolean_tree, of_text}
+use Rattle.cdx_schema.specs.XmlTexts.{of_text}
 use Rattle.cdx_schema.specs.XmlReading.{simple_text, exact_text, parsed, attributes_read, in_force, ended, xread}
 use Rattle.cdx_leaf.proofs.Contents.{HasContent, content_is}
 use Rattle.cdx_schema.specs.Plain.{is_plain}

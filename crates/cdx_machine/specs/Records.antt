@@ -1,23 +1,15 @@
 -- Records and lists as frames.
-use Rattle.std.specs.Prelude.{◌≡◌, refl, ℕ, suc, ◌+◌, List, [], ◌∷◌, Bool, true, false, ◌&&◌, if◌then◌else◌, Option, Some, None, Result, Ok, Err}
+use Rattle.std.specs.Prelude.{◌≡◌, refl, ℕ, suc, ◌+◌, List, true, Ok}
 use Rattle.std.proofs.Common.{sym, ap, ◌∙◌}
-use Rattle.std.specs.Str.{bytes_eq}
-use Rattle.cdx_events.specs.declared.name.OwnedName.{OwnedName}
-use Rattle.cdx_events.specs.declared.name.OwnedAttribute.{OwnedAttribute}
-use Rattle.cdx_events.specs.declared.name.Namespace.{Namespace}
-use Rattle.cdx_events.specs.Nodes.{Nodes, element}
 use Rattle.cdx_models.specs.declared.bom.SpecVersion.{SpecVersion}
-use Rattle.cdx_models.specs.declared.bom.SpecVersion.TheVariants.{V1_3, V1_4, V1_5}
-use Rattle.cdx_models.specs.Versions.{knows}
-use Rattle.cdx_models.specs.declared.errors.XmlReadError.{XmlReadError}
+use Rattle.cdx_models.specs.declared.bom.SpecVersion.TheVariants.{V1_3}
 use Rattle.cdx_models.specs.Trees.{Name, Tree, Trees, absent, fields, field, one}
 use Rattle.cdx_schema.specs.Depth.{Depth}
 use Rattle.cdx_schema.specs.Kinds.{Lists, a_list, a_record}
-use Rattle.cdx_schema.specs.Locality.{fault_place}
 use Rattle.cdx_schema.specs.Nodes.{places_of}
 use Rattle.cdx_schema.specs.Results.{◌>>=◌}
 use Rattle.cdx_schema.specs.Table.{rows, list}
-use Rattle.cdx_schema.specs.XmlReading.{Child, all, no_content, content_from, find_child, record_plan, list_plan, plan_of_list, list_of, attributes_read, in_force, ended, xread, nodes_read}
+use Rattle.cdx_schema.specs.XmlReading.{Child, all, no_content, content_from, record_plan, plan_of_list, list_of, attributes_read, in_force, ended, xread, nodes_read}
 use Rattle.cdx_schema.proofs.FaultPlaces.{ok_err, bind_err, attributes_place, ended_place}
 use Rattle.cdx_leaf.specs.Each.{each, plan_step}
 use Rattle.cdx_schema.specs.Plain.{is_plain}

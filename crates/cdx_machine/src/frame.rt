@@ -72,7 +72,7 @@ pub trait Frame: Drop {
 }
 
 /// The machine of an open child of what is read child by child.
-pub trait ChildOf<F: Frame>: Drop {
+pub trait ChildOf: Drop {
     ghost use Rattle.std.specs.Prelude.{ℕ};
     ghost use Rattle.cdx_models.specs.declared.bom.SpecVersion.{SpecVersion};
     ghost use Rattle.cdx_schema.specs.Depth.{Depth};
@@ -81,32 +81,35 @@ pub trait ChildOf<F: Frame>: Drop {
     ghost use Rattle.cdx_machine.specs.Machines.{CanStepChild, StepsChild};
     ghost use Rattle.cdx_machine.specs.Frames.{StartsChild};
 
+    /// What it is a child of.
+    type Of: Frame;
+
     /// What it keeps of the events of the child, which a child of the plan reads.
     ghost holds: { Self → Child → SpecVersion → ℕ → Depth → Begun → Type 0 };
 
     /// Takes a child's start, at `place`: starts the machine that reads it, where `v` knows a child of its name.
     fn start(
-        part: &F,
+        part: &Self::Of,
         alloc: Global,
         place: usize,
         v: SpecVersion,
         element: &OwnedName,
         attributes: &List<OwnedAttribute>,
     ) -> Result<Offered<Self>, XmlReadError>
-        ensures { StartsChild holds F.plan (F.slots part.now) v place element.now attributes.now
+        ensures { StartsChild holds Self.Of.plan (Self.Of.slots part.now) v place element.now attributes.now
             result };
 
     /// Takes an event of the child, at `place`. With the child's end its value goes into its field, and the answer is
     /// true.
     fn step(
         &mut self,
-        part: &mut F,
+        part: &mut Self::Of,
         alloc: Global,
         place: usize,
         event: &XmlEvent,
     ) -> Result<bool, XmlReadError>
         requires { CanStepChild holds self.old place event.now }
-        ensures { StepsChild holds (F.slots part.old) (F.slots part.new) self.old self.new place
+        ensures { StepsChild holds (Self.Of.slots part.old) (Self.Of.slots part.new) self.old self.new place
             event.now result };
 }
 
@@ -152,17 +155,17 @@ fn skip_one(depth: &mut usize, place: usize, event: &XmlEvent) -> bool
 }
 
 // Takes the start of a child of the element, at this place.
-fn enter<F: Frame, C: ChildOf<F>>(
+fn enter<C: ChildOf>(
     alloc: Global,
     v: SpecVersion,
     element: &OwnedName,
-    part: &F,
+    part: &C::Of,
     place: usize,
     event: &XmlEvent,
     name: &OwnedName,
     attributes: &List<OwnedAttribute>,
 ) -> Result<Inside<C>, XmlReadError>
-    ensures { Enters C.holds F.plan (F.slots part.now) v element.now place event.now name.now
+    ensures { Enters C.holds C.Of.plan (C.Of.slots part.now) v element.now place event.now name.now
         attributes.now result }
 {
     match C::start(part, alloc, place, v, name, attributes)? {
@@ -179,22 +182,22 @@ fn enter<F: Frame, C: ChildOf<F>>(
 
 /// The machine of an element that is read child by child.
 #[derive(Drop)]
-pub struct FrameMachine<F: Frame, C: ChildOf<F>> {
+pub struct FrameMachine<C: ChildOf> {
     alloc: Global,
     v: SpecVersion,
     name: OwnedName,
-    part: Option<F>,
+    part: Option<C::Of>,
     inside: Inside<C>,
 }
 
-impl<F: Frame, C: ChildOf<F>> Machine for FrameMachine<F, C> {
+impl<C: ChildOf> Machine for FrameMachine<C> {
     ghost use Rattle.cdx_machine.specs.Frames.{frame_holds};
 
-    type Value = F::Value;
+    type Value = <C::Of as Frame>::Value;
 
-    ghost kind = { F.kind };
+    ghost kind = { C.Of.kind };
 
-    ghost holds = { λ m v p d o. frame_holds C.holds F.first F.plan F.slots m.name m.v m.part m.inside
+    ghost holds = { λ m v p d o. frame_holds C.holds C.Of.first C.Of.plan C.Of.slots m.name m.v m.part m.inside
         v p d o };
 
     fn start(
@@ -203,8 +206,8 @@ impl<F: Frame, C: ChildOf<F>> Machine for FrameMachine<F, C> {
         v: SpecVersion,
         element: &OwnedName,
         attributes: &List<OwnedAttribute>,
-    ) -> Result<FrameMachine<F, C>, XmlReadError> {
-        let part = F::begin(alloc, place, v, element, attributes)?;
+    ) -> Result<FrameMachine<C>, XmlReadError> {
+        let part = <C::Of as Frame>::begin(alloc, place, v, element, attributes)?;
         Ok(FrameMachine {
             alloc,
             v,
@@ -214,7 +217,11 @@ impl<F: Frame, C: ChildOf<F>> Machine for FrameMachine<F, C> {
         })
     }
 
-    fn step(&mut self, place: usize, event: &XmlEvent) -> Result<Option<F::Value>, XmlReadError> {
+    fn step(
+        &mut self,
+        place: usize,
+        event: &XmlEvent,
+    ) -> Result<Option<<C::Of as Frame>::Value>, XmlReadError> {
         let Some(part) = &mut self.part else {
             unreachable!()
         };

@@ -21,5 +21,5 @@ pub use machine::Machine;
 pub use offered::{Inside, Offered};
 pub use reading::read_by_machine;
 pub use record_text::{BegunText, TextRecordMachine};
-pub use records::{BegunRecord, RecordMachine};
+pub use records::BegunRecord;
 pub use texts::{FlagMachine, PlainFlag, PlainText, TextMachine};

@@ -59,7 +59,7 @@ pub struct Item<L: ListOf> {
 }
 
 /// The machine of a list.
-pub type ListMachine<L> = FrameMachine<Items<L>, Item<L>>;
+pub type ListMachine<L> = FrameMachine<Item<L>>;
 
 impl<L: ListOf> Frame for Items<L> {
     ghost use Rattle.cdx_schema.specs.Kinds.{a_list};
@@ -107,8 +107,10 @@ impl<L: ListOf> Frame for Items<L> {
     }
 }
 
-impl<L: ListOf> ChildOf<Items<L>> for Item<L> {
+impl<L: ListOf> ChildOf for Item<L> {
     ghost use Rattle.cdx_machine.specs.Records.{item_holds};
+
+    type Of = Items<L>;
 
     ghost holds = { item_holds L.list_name L.Item.holds };
 

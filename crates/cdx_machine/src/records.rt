@@ -1,6 +1,6 @@
 //! Records that are read child by child.
 
-use crate::frame::{Frame, FrameMachine};
+use crate::frame::Frame;
 use cdx_events::{List, OwnedAttribute, OwnedName};
 use cdx_leaf::{Children, Rule, XmlRecord};
 use cdx_models::{SpecVersion, XmlReadError};
@@ -12,9 +12,6 @@ pub struct BegunRecord<X: XmlRecord> {
     /// What was read so far.
     pub part: X::Part,
 }
-
-/// The machine of such a record, of whose children this is the machine.
-pub type RecordMachine<X, C> = FrameMachine<BegunRecord<X>, C>;
 
 impl<X: XmlRecord> Frame for BegunRecord<X> {
     ghost use Rattle.cdx_schema.specs.Kinds.{a_record};

@@ -1,4 +1,4 @@
-use Rattle.std.proofs.Common.{Ok, Err, Some, None, sym, ◌∙◌, subst}
+use Rattle.std.proofs.Common.{Ok, Err, None, sym, ◌∙◌, subst}
 use Rattle.std.proofs.lemmas.Result.{err_from_is_err_and}
 use Rattle.cdx_schema.specs.Depth.{top}
 use Rattle.cdx_leaf.specs.Reading.{after}

@@ -1,5 +1,5 @@
 use Rattle.cdx_machine.proofs.Listing.{item_steps}
-use Rattle.cdx_machine.proofs.lists.ItemChildOfItems.step.Goals as goal
+use Rattle.cdx_machine.proofs.lists.ItemChildOf.step.Goals as goal
 
 pub returns : goal.returns
 returns g c =

@@ -1,9 +1,9 @@
-use Rattle.std.proofs.Common.{Ok, Err, sym, ap, ◌∙◌}
+use Rattle.std.proofs.Common.{sym, ap, ◌∙◌}
 use Rattle.std.proofs.lemmas.Result.{err_from_is_err_and}
 use Rattle.std.specs.Str.{bytes_eq}
 use Rattle.cdx_machine.specs.Records.{items_slots}
 use Rattle.cdx_machine.proofs.Listing.{item_starts, item_fails}
-use Rattle.cdx_machine.proofs.lists.ItemChildOfItems.start.Goals as goal
+use Rattle.cdx_machine.proofs.lists.ItemChildOf.start.Goals as goal
 
 pub returns-in_err-machine : goal.returns-in_err-machine
 returns-in_err-machine g c = λ d s.
