@@ -13,7 +13,6 @@ use Rattle.cdx_models.specs.declared.errors.XmlReadError.{XmlReadError}
 use Rattle.cdx_models.specs.Trees.{Trees, field}
 use Rattle.cdx_schema.specs.Depth.{Depth}
 use Rattle.cdx_schema.specs.Faults.{unexpected}
-use Rattle.cdx_schema.specs.Kinds.{Kind}
 use Rattle.cdx_schema.specs.Kinds as sorts
 use Rattle.cdx_schema.specs.Nodes.{◌⊕◌}
 use Rattle.cdx_schema.specs.Results.{◌>>=◌}

@@ -1,6 +1,5 @@
 //! Open children whose value goes into a field: in place of what was there, or to the end of a list.
 
-ghost use Rattle.std.specs.Prelude.{◌≡◌, [], ◌∷◌, ◌++◌, OnOk, Some, unwrap_or};
 ghost use Rattle.cdx_models.specs.Trees.{present, list_tree};
 ghost use Rattle.cdx_schema.specs.XmlReading.{appended};
 ghost use Rattle.cdx_leaf.specs.Trees.{collected};
@@ -8,6 +7,7 @@ ghost use Rattle.cdx_machine.specs.Machines.{CanStep, FillsBy};
 
 use crate::machine::Machine;
 use cdx_events::{List, XmlEvent};
+use cdx_leaf::push_into;
 use cdx_models::XmlReadError;
 use std::alloc::{AllocError, Global};
 
@@ -28,21 +28,6 @@ pub fn fill_one<M: Machine>(
         Some(value) => {
             *field = Some(value);
             Ok(true)
-        }
-    }
-}
-
-/// Appends to a list that may not be there yet.
-fn push_into<T: Drop>(alloc: Global, slot: &mut Option<List<T>>, item: T) -> Result<(), AllocError>
-    ensures { OnOk result (slot.new ≡ Some (unwrap_or slot.old [] ++ item ∷ [])) }
-{
-    match slot {
-        Some(list) => list.push(item),
-        None => {
-            let mut list = List::new(alloc);
-            list.push(item)?;
-            *slot = Some(list);
-            Ok(())
         }
     }
 }

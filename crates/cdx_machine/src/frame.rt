@@ -2,7 +2,6 @@
 
 ghost use Rattle.std.specs.Prelude.{◌≡◌, ◌<◌, List};
 ghost use Rattle.cdx_events.specs.declared.event.XmlEvent.{XmlEvent};
-ghost use Rattle.cdx_leaf.specs.Rules.{skips, passes};
 ghost use Rattle.cdx_machine.specs.Frames.{SkipsOne, Enters};
 
 use crate::machine::Machine;
@@ -115,26 +114,6 @@ pub trait ChildOf: Drop {
             event.now result };
 }
 
-fn skips(rule: Rule) -> bool
-    ensures { result ≡ skips rule }
-{
-    match rule {
-        Rule::Lax => true,
-        Rule::Strict => false,
-        Rule::Passing => true,
-    }
-}
-
-fn passes(rule: Rule) -> bool
-    ensures { result ≡ passes rule }
-{
-    match rule {
-        Rule::Lax => false,
-        Rule::Strict => false,
-        Rule::Passing => true,
-    }
-}
-
 // Takes an event of a child that is skipped, in which so many elements are open. Says whether it is the child's end.
 fn skip_one(depth: &mut usize, place: usize, event: &XmlEvent) -> bool
     requires { depth.old < place }
@@ -173,7 +152,7 @@ fn enter<C: ChildOf>(
     match C::start(part, alloc, place, v, name, attributes)? {
         Offered::Opened(child) => Ok(Inside::Read(child)),
         Offered::Unknown => {
-            if !skips(part.rule()) {
+            if !part.rule().skips() {
                 return refuse(alloc, place, element, event);
             }
             Ok(Inside::Skipped(0))
@@ -260,7 +239,7 @@ impl<C: ChildOf> Machine for FrameMachine<C> {
                     Ok(Some(part.finish(self.alloc, place, self.v, &self.name)?))
                 }
                 _ => {
-                    if !passes(part.rule()) {
+                    if !part.rule().passes() {
                         return refuse(self.alloc, place, &self.name, event);
                     }
                     Ok(None)
