@@ -63,8 +63,8 @@ StepsAs holds view kind old new place event result =
 
 -- ---- a child that is read into a field
 
--- What a field becomes by the tree of a child.
-abbrev pub Fills : (Begun → Type 0) → (Node → Result Tree XmlReadError) → ℕ → (Tree → Tree) → Tree → Tree → Next → Result Bool XmlReadError → Type 0
+-- What fields become by the tree of a child.
+abbrev pub Fills : {A : Type 0} → (Begun → Type 0) → (Node → Result Tree XmlReadError) → ℕ → (Tree → A) → A → A → Next → Result Bool XmlReadError → Type 0
 Fills held read p by before now (still o) (Ok false) = held o × IsQuiet (p + count o) (read (ended_now o)) × (now ≡ before)
 Fills held read p by before now (still o) (Ok true) = ⊥
 Fills held read p by before now (still o) (Err e) = Refuses e (p + count o) (read (ended_now o))
@@ -92,12 +92,7 @@ pub record CanStepChild {M : Type 0} (holds : ChildHolding M) (m : M) (place : �
 
 -- What the fields become by a child that is read by this child of the plan.
 abbrev pub StepsRow : (Begun → Type 0) → Child → (Node → Result Tree XmlReadError) → ℕ → Trees → Trees → Next → Result Bool XmlReadError → Type 0
-StepsRow held row read p before now (still o) (Ok false) = held o × IsQuiet (p + count o) (read (ended_now o)) × (now ≡ before)
-StepsRow held row read p before now (still o) (Ok true) = ⊥
-StepsRow held row read p before now (still o) (Err e) = Refuses e (p + count o) (read (ended_now o))
-StepsRow held row read p before now (whole k) (Ok false) = ⊥
-StepsRow held row read p before now (whole k) (Ok true) = (t : Tree) × (read k ≡ Ok t) × (now ≡ stored row.place row.field t before)
-StepsRow held row read p before now (whole k) (Err e) = Refuses e (p + places k) (read k)
+StepsRow held row read p before now = Fills held read p (λ t. stored row.place row.field t before) before now
 
 abbrev pub StepsChild : {M : Type 0} → ChildHolding M → Trees → Trees → M → M → ℕ → XmlEvent → Result Bool XmlReadError → Type 0
 StepsChild holds before now old new place event result =

@@ -95,9 +95,8 @@ pub trait ChildOf: Drop {
         element: &OwnedName,
         attributes: &List<OwnedAttribute>,
     ) -> Result<Offered<Self>, XmlReadError>
-        ensures { StartsChild holds Self.Of.plan (Self.Of.slots part.now)
-            v place element.now attributes.now
-            result };
+        ensures { StartsChild holds Self.Of.plan (Self.Of.slots part.now) v place element.now
+            attributes.now result };
 
     /// Takes an event of the child, at `place`. With the child's end its value goes into its field, and the answer is
     /// true.
@@ -109,9 +108,8 @@ pub trait ChildOf: Drop {
         event: &XmlEvent,
     ) -> Result<bool, XmlReadError>
         requires { CanStepChild holds self.old place event.now }
-        ensures { StepsChild holds (Self.Of.slots part.old) (Self.Of.slots part.new)
-            self.old self.new place
-            event.now result };
+        ensures { StepsChild holds (Self.Of.slots part.old) (Self.Of.slots part.new) self.old
+            self.new place event.now result };
 }
 
 // Takes an event of a child that is skipped, in which so many elements are open. Says whether it is the child's end.
