@@ -11,8 +11,6 @@ use Rattle.cdx_machine.specs.declared.lists.Item.{Item}
 use Rattle.cdx_machine.specs.declared.lists.Items.{Items}
 use Rattle.cdx_machine.specs.declared.record_text.BegunText.{BegunText}
 use Rattle.cdx_machine.specs.declared.records.BegunRecord.{BegunRecord}
-use Rattle.cdx_machine.specs.declared.texts.PlainFlag.{PlainFlag}
-use Rattle.cdx_machine.specs.declared.texts.PlainText.{PlainText}
 use Rattle.cdx_machine.specs.Begun.{Begun}
 use Rattle.cdx_machine.specs.Contents.{content_holds}
 use Rattle.cdx_machine.specs.Frames.{frame_holds}
@@ -20,11 +18,9 @@ use Rattle.cdx_machine.specs.Machines.{Holding, ChildHolding}
 use Rattle.cdx_machine.specs.Plain.{nothing_first, no_fields, attributes_first}
 use Rattle.cdx_machine.specs.Records.{list_first, items_slots, item_holds}
 
-abbrev pub text_holds : Holding (ContentMachine PlainText)
-text_holds m v p d o = content_holds nothing_first (λ s. no_fields) m.name m.content m.text v p o
-
-abbrev pub flag_holds : Holding (ContentMachine PlainFlag)
-flag_holds m v p d o = content_holds nothing_first (λ s. no_fields) m.name m.content m.text v p o
+-- a text or a boolean alone
+abbrev pub plain_holds : {A : Type 0} → Holding (ContentMachine A)
+plain_holds m v p d o = content_holds nothing_first (λ s. no_fields) m.name m.content m.text v p o
 
 -- a record of attributes, which begin these fields, and a text
 abbrev pub text_record_holds : {X S : Type 0} → Name → (S → Trees) → Holding (ContentMachine (BegunText X S))
