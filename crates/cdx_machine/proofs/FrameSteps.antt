@@ -25,8 +25,8 @@ use Rattle.cdx_leaf.specs.Fault.{Fails, Refused}
 use Rattle.cdx_leaf.specs.Reading.{kind_of_node}
 use Rattle.cdx_leaf.specs.Rules.{passes, as_rule}
 use Rattle.cdx_leaf.proofs.ChildSteps.{stray_fails, text_passes, cdata_passes}
-use Rattle.cdx_machine.specs.declared.offered.Inside.{Inside}
-use Rattle.cdx_machine.specs.declared.offered.Inside.TheVariants.{Nothing, Read, Skipped}
+use Rattle.cdx_machine.specs.declared.frame.Inside.{Inside}
+use Rattle.cdx_machine.specs.declared.frame.Inside.TheVariants.{Nothing, Read, Skipped}
 use Rattle.cdx_machine.specs.Begun.{Begun, innermost, around, Next, still, whole, count, levels, start_name, ended_now, into, next, Takes, lone}
 use Rattle.cdx_machine.specs.Contents.{First}
 use Rattle.cdx_machine.specs.Machines.{Refuses, IsQuiet, Steps, StepsRow, StepsChild, ChildHolding}

@@ -20,10 +20,11 @@ use Rattle.cdx_schema.specs.XmlReading.{Reading, Plan, Child, find_child, is_sec
 use Rattle.cdx_leaf.specs.declared.rule.Rule.{Rule}
 use Rattle.cdx_leaf.specs.Fault.{Refused}
 use Rattle.cdx_leaf.specs.Rules.{skips, as_rule}
-use Rattle.cdx_machine.specs.declared.offered.Inside.{Inside}
+use Rattle.cdx_machine.specs.declared.frame.Inside.{Inside}
 use Rattle.cdx_machine.specs.Begun.{Begun, innermost, around, Next, still, whole, count, levels, start_name, ended_now, into, next_inside, next, TakesInside, Takes, lone}
-use Rattle.cdx_machine.specs.Machines.{ChildHolding}
-use Rattle.cdx_machine.specs.Frames.{IsSkipped, OffersFault, OffersSecond, EntersAt, Skips, SkipsOne}
+use Rattle.cdx_machine.specs.Machines.{Refuses, ChildHolding}
+use Rattle.cdx_machine.specs.Frames.{IsSkipped, EntersAt, Skips, SkipsOne}
+use Rattle.cdx_machine.specs.Several.{FindsAt, FindsSecond}
 use Rattle.cdx_machine.proofs.Faults.{refuses_on, refuses_known}
 
 -- ---- names
@@ -129,11 +130,11 @@ module _ {C : Type 0} (holds : ChildHolding C) (plan : Plan) (ts : Trees) (v : S
   read_here = child_read (find_child v m.local_name plan.children) plan.rule (xread (element m b s no_nodes)) n.local_name v d q ts
 
   -- the child's own fault
-  pub enters_fault : (e : XmlReadError) → OffersFault plan ts v q d (innermost m b s no_nodes) e → EntersAt holds plan ts v n q d (innermost m b s no_nodes) (Err e)
-  enters_fault e h =
+  pub enters_fault : (e : XmlReadError) (i : ℕ) (h : FindsAt plan.children ts v m.local_name i) → Refuses e (q + 1) (xread (element m b s no_nodes) v h.row.kind q d) → EntersAt holds plan ts v n q d (innermost m b s no_nodes) (Err e)
+  enters_fault e i h refuses =
       refuses_on e (q + 1) (suc q) (xread (element m b s no_nodes) v h.row.kind q d) _
       (λ f is. row_read (find_child v m.local_name plan.children) h.row plan.rule (xread (element m b s no_nodes)) n.local_name v d q ts h.found h.first_one ∙ ap (λ r. r >>= λ t. Ok (stored h.row.place h.row.field t ts)) is)
-      (one_less q) h.refuses
+      (one_less q) refuses
     where
       one_less : (k : ℕ) → k + 1 ≡ suc k
       one_less k = omega arith
@@ -143,7 +144,7 @@ module _ {C : Type 0} (holds : ChildHolding C) (plan : Plan) (ts : Trees) (v : S
   refused_here found (Ok x) is k h = absurd h
   refused_here found (Err e) is k h = refuses_known (Inside C) e (unexpected q n.local_name found) (suc q) _ h (is ∙ ap (λ x. Err (unexpected q n.local_name x)) (sym k)) refl
 
-  pub enters_second : (found : kinds.the_data) (r : Result (Inside C) XmlReadError) → OffersSecond plan ts v (innermost m b s no_nodes) → found ≡ kinds.StartElement → Refused r (unexpected q n.local_name found) → EntersAt holds plan ts v n q d (innermost m b s no_nodes) r
+  pub enters_second : (found : kinds.the_data) (r : Result (Inside C) XmlReadError) → FindsSecond plan.children ts v m.local_name → found ≡ kinds.StartElement → Refused r (unexpected q n.local_name found) → EntersAt holds plan ts v n q d (innermost m b s no_nodes) r
   enters_second found r h k x = refused_here found r (second_read (find_child v m.local_name plan.children) h.row plan.rule (xread (element m b s no_nodes)) n.local_name v d q ts h.found h.second_one) k x
 
   pub enters_unknown : (found : kinds.the_data) (r : Result (Inside C) XmlReadError) (rule : Rule) → find_child v m.local_name plan.children ≡ None → plan.rule ≡ as_rule rule → skips rule ≡ false → found ≡ kinds.StartElement → Refused r (unexpected q n.local_name found)

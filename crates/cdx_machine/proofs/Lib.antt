@@ -3,7 +3,8 @@ pub mod Faults
 pub mod Contents
 pub mod Frames
 pub mod FrameSteps
-pub mod Filled
-pub mod Listing
+pub mod Children
 pub mod Heard
 pub mod Feeding
+pub mod Several
+pub mod Listing

@@ -17,10 +17,8 @@ use Rattle.cdx_schema.specs.Locality.{fault_place}
 use Rattle.cdx_schema.specs.Nodes.{places_of}
 use Rattle.cdx_schema.specs.Results.{◌>>=◌}
 use Rattle.cdx_schema.specs.XmlReading.{Plan, Child, find_child, is_second, unknown, child_read, xread, nodes_read}
-use Rattle.cdx_machine.specs.declared.offered.Offered.{Offered}
-use Rattle.cdx_machine.specs.declared.offered.Offered.TheVariants as offers
-use Rattle.cdx_machine.specs.declared.offered.Inside.{Inside}
-use Rattle.cdx_machine.specs.declared.offered.Inside.TheVariants as places_inside
+use Rattle.cdx_machine.specs.declared.frame.Inside.{Inside}
+use Rattle.cdx_machine.specs.declared.frame.Inside.TheVariants as places_inside
 use Rattle.cdx_machine.specs.Begun.{Begun, innermost, around, start_name, levels, count, ended_now, Next, still, whole}
 use Rattle.cdx_machine.specs.Contents.{First}
 use Rattle.cdx_machine.specs.Machines.{Refuses, IsQuiet, ChildHolding}
@@ -75,29 +73,10 @@ frame_holds holds first plan slots name known (Some r) inside v p d o = holds_in
 
 -- ---- a child's start
 
-pub record OffersChild {C : Type 0} (holds : ChildHolding C) (plan : Plan) (ts : Trees) (v : SpecVersion) (q : ℕ) (d : Depth) (o : Begun) (c : C) : Type 0 where
+-- The child is open, and has no fault as yet.
+pub record OpensChild {C : Type 0} (holds : ChildHolding C) (plan : Plan) (ts : Trees) (v : SpecVersion) (q : ℕ) (d : Depth) (o : Begun) (c : C) : Type 0 where
   pub is_open : IsOpen holds plan ts c v q d o
   pub quiet : IsQuiet (q + count o) (xread (ended_now o) v is_open.row.kind q d)
-
-pub record OffersFault (plan : Plan) (ts : Trees) (v : SpecVersion) (q : ℕ) (d : Depth) (o : Begun) (e : XmlReadError) : Type 0 where
-  pub row : Child
-  pub found : find_child v (start_name o).local_name plan.children ≡ Some row
-  pub first_one : is_second row.place (field row.field ts) ≡ false
-  pub refuses : Refuses e (q + count o) (xread (ended_now o) v row.kind q d)
-
-pub record OffersSecond (plan : Plan) (ts : Trees) (v : SpecVersion) (o : Begun) : Type 0 where
-  pub row : Child
-  pub found : find_child v (start_name o).local_name plan.children ≡ Some row
-  pub second_one : is_second row.place (field row.field ts) ≡ true
-
-abbrev pub Offers : {C : Type 0} → ChildHolding C → Plan → Trees → SpecVersion → ℕ → Depth → Begun → Result (Offered C) XmlReadError → Type 0
-Offers holds plan ts v q d o (Ok (offers.Opened c)) = OffersChild holds plan ts v q d o c
-Offers holds plan ts v q d o (Ok offers.Unknown) = find_child v (start_name o).local_name plan.children ≡ None
-Offers holds plan ts v q d o (Ok offers.Second) = OffersSecond plan ts v o
-Offers holds plan ts v q d o (Err e) = OffersFault plan ts v q d o e
-
-abbrev pub StartsChild : {C : Type 0} → ChildHolding C → Plan → Trees → SpecVersion → ℕ → OwnedName → List OwnedAttribute → Result (Offered C) XmlReadError → Type 0
-StartsChild holds plan ts v q n a result = (d : Depth) (s : Namespace) → Offers holds plan ts v q d (innermost n a s no_nodes) result
 
 -- ---- a child that is skipped
 
@@ -119,7 +98,7 @@ SkipsOne old new (CData t) b = (b ≡ false) × (new ≡ old)
 -- The child is read, or skipped, or refused: by its own fault, or since it may not stand there.
 abbrev pub EntersAt : {C : Type 0} → ChildHolding C → Plan → Trees → SpecVersion → OwnedName → ℕ → Depth → Begun → Result (Inside C) XmlReadError → Type 0
 EntersAt holds plan ts v n q d o (Ok places_inside.Nothing) = ⊥
-EntersAt holds plan ts v n q d o (Ok (places_inside.Read c)) = OffersChild holds plan ts v q d o c
+EntersAt holds plan ts v n q d o (Ok (places_inside.Read c)) = OpensChild holds plan ts v q d o c
 EntersAt holds plan ts v n q d o (Ok (places_inside.Skipped depth)) = IsSkipped plan depth v o
 EntersAt holds plan ts v n q d o (Err e) = Refuses e (suc q) (child_read (find_child v (start_name o).local_name plan.children) plan.rule (xread (ended_now o)) n.local_name v d q ts)
 

@@ -6,4 +6,4 @@ pub mod Frames
 pub mod Records
 pub mod Heard
 pub mod Feeding
-pub mod Holds
+pub mod Several

@@ -1,26 +1,25 @@
 -- Records and lists as frames.
-use Rattle.std.specs.Prelude.{◌≡◌, refl, ℕ, suc, ◌+◌, List, true, Ok}
+use Rattle.std.specs.Prelude.{◌≡◌, refl, ℕ, suc, ◌+◌, List, [], ◌∷◌, true, Ok}
 use Rattle.std.proofs.Common.{sym, ap, ◌∙◌}
 use Rattle.cdx_models.specs.declared.bom.SpecVersion.{SpecVersion}
 use Rattle.cdx_models.specs.declared.bom.SpecVersion.TheVariants.{V1_3}
 use Rattle.cdx_models.specs.Trees.{Name, Tree, Trees, absent, fields, field, one}
 use Rattle.cdx_schema.specs.Depth.{Depth}
-use Rattle.cdx_schema.specs.Kinds.{Lists, a_list, a_record}
+use Rattle.cdx_schema.specs.Kinds.{Kind, Lists, a_list, a_record}
 use Rattle.cdx_schema.specs.Nodes.{places_of}
 use Rattle.cdx_schema.specs.Results.{◌>>=◌}
 use Rattle.cdx_schema.specs.Table.{rows, list}
-use Rattle.cdx_schema.specs.XmlReading.{Child, all, no_content, content_from, record_plan, plan_of_list, list_of, attributes_read, in_force, ended, xread, nodes_read}
+use Rattle.cdx_schema.specs.XmlReading.{Child, all, no_content, content_from, record_plan, list_plan, plan_of_list, list_of, attributes_read, in_force, ended, xread, nodes_read}
 use Rattle.cdx_schema.proofs.FaultPlaces.{ok_err, bind_err, attributes_place, ended_place}
 use Rattle.cdx_leaf.specs.Each.{each, plan_step}
 use Rattle.cdx_schema.specs.Plain.{is_plain}
 use Rattle.cdx_leaf.specs.Trees.{collected}
 use Rattle.cdx_leaf.proofs.ChildSteps.{both, each_is}
 use Rattle.cdx_leaf.proofs.Whole.{record_is}
-use Rattle.cdx_machine.specs.declared.lists.Item.{Item}
 use Rattle.cdx_machine.specs.Begun.{Begun}
 use Rattle.cdx_machine.specs.Contents.{First}
 use Rattle.cdx_machine.specs.Frames.{Last, IsFrame}
-use Rattle.cdx_machine.specs.Machines.{Holding}
+use Rattle.cdx_machine.specs.Several.{kinds_of}
 use Rattle.cdx_machine.specs.Plain.{attributes_first}
 
 -- the last step of a record: what is missing, or the record
@@ -49,13 +48,9 @@ pub list_frame : (l : Lists) → IsFrame (a_list l) (plan_of_list l) list_first 
 unfolding xread
 list_frame l = record { reads = λ n a s xs v p d. refl; first_place = λ el a v p f h. ok_err h; last_place = λ el v q ts f h. ok_err h }
 
--- the child that an item is
-abbrev pub list_child : Lists → Child
-list_child l = record { name = (list l).name; since = V1_3; kind = (list l).kind; field = 0; place = all }
+-- Its items are its only children.
+pub item_kinds : (l : Lists) (k : Kind) → plan_of_list l ≡ list_plan l → k ≡ (list l).kind → k ∷ [] ≡ kinds_of (plan_of_list l).children
+item_kinds l k named is = ap (λ k. k ∷ []) is ∙ ap (λ p. kinds_of p.children) (sym named)
 
 abbrev pub items_slots : {X : Type 0} → (X → Tree) → List X → Trees
 items_slots f xs = one (collected f xs)
-
--- The machine of an item keeps its events.
-abbrev pub item_holds : {L M V X : Type 0} → Lists → Holding M → Item L M V X → Child → SpecVersion → ℕ → Depth → Begun → Type 0
-item_holds l holds m row v p d o = (row ≡ list_child l) × holds m.machine v p d o

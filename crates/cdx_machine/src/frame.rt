@@ -3,17 +3,41 @@
 ghost use Rattle.std.specs.Prelude.{◌≡◌, ◌<◌, List};
 ghost use Rattle.cdx_events.specs.declared.event.XmlEvent.{XmlEvent};
 ghost use Rattle.cdx_machine.specs.Frames.{SkipsOne, Enters};
+ghost use Rattle.cdx_machine.specs.Machines.{CanStepChild, StepsChild};
+ghost use Rattle.cdx_machine.specs.Several.{reads_child};
 
 use crate::machine::Machine;
-use crate::offered::{Inside, Offered};
+use crate::or::Machines;
 use cdx_events::{List, OwnedAttribute, OwnedName, XmlEvent};
 use cdx_leaf::{Rule, refuse};
 use cdx_models::{HasTree, SpecVersion, XmlReadError};
-use std::alloc::Global;
+use std::alloc::{AllocError, Global};
+
+/// What a child's name stands for.
+#[derive(Drop)]
+pub enum Found {
+    /// The child of this position in the plan.
+    At(usize),
+    /// No child that the version knows.
+    Unknown,
+    /// A second one where one may stand.
+    Second,
+}
+
+/// What stands open in an element.
+#[derive(Drop)]
+pub enum Inside<C> {
+    /// No child.
+    Nothing,
+    /// A child that this machine reads.
+    Read(C),
+    /// A child that is skipped, with so many elements open in it.
+    Skipped(usize),
+}
 
 /// What is read child by child, while it is read: the fields so far.
 pub trait Frame: Drop {
-    ghost use Rattle.std.specs.Prelude.{◌≡◌, ◌+◌};
+    ghost use Rattle.std.specs.Prelude.{◌≡◌, ◌+◌, OnOk};
     ghost use Rattle.cdx_models.specs.Trees.{Trees};
     ghost use Rattle.cdx_schema.specs.Kinds.{Kind};
     ghost use Rattle.cdx_schema.specs.XmlReading.{Plan};
@@ -21,9 +45,13 @@ pub trait Frame: Drop {
     ghost use Rattle.cdx_leaf.specs.Rules.{as_rule};
     ghost use Rattle.cdx_machine.specs.Contents.{First};
     ghost use Rattle.cdx_machine.specs.Frames.{Last, IsFrame};
+    ghost use Rattle.cdx_machine.specs.Several.{kinds_of, Finds, Puts};
 
     /// What the element is read as.
     type Value: HasTree + Drop;
+
+    /// The machines of its children, in the plan's order.
+    type Child: Machines;
 
     /// The kind.
     ghost kind: { Kind };
@@ -55,6 +83,19 @@ pub trait Frame: Drop {
         ensures { Gives slots (place + 1) (first element.now.local_name attributes.now v place)
             result };
 
+    /// The child that `v` knows by the name.
+    fn find(&self, v: SpecVersion, name: &OwnedName) -> Found
+        ensures { Finds plan.children (slots self.now) v name.now.local_name result };
+
+    /// Puts what a child was read as into its field.
+    fn put(
+        &mut self,
+        alloc: Global,
+        value: <Self::Child as Machines>::Value,
+    ) -> Result<(), AllocError>
+        ensures { OnOk result (Puts plan.children (Self.Child.source value)
+            (Self.Child.tree value) (slots self.old) (slots self.new)) };
+
     /// The value, or the fault of the first required child that is missing, at `place`, that of the element's end.
     fn finish(
         self,
@@ -66,50 +107,11 @@ pub trait Frame: Drop {
         ensures { Gives Self.Value.tree (place + 1)
             (last element.now.local_name v place (slots self)) result };
 
+    // The machines read the kinds of the children.
+    ghost kinds: { Self.Child.kinds ≡ kinds_of plan.children };
+
     // The kind is read like this.
     ghost frame: { IsFrame kind plan first last };
-}
-
-/// The machine of an open child of what is read child by child.
-pub trait ChildOf: Drop {
-    ghost use Rattle.std.specs.Prelude.{ℕ};
-    ghost use Rattle.cdx_models.specs.declared.bom.SpecVersion.{SpecVersion};
-    ghost use Rattle.cdx_schema.specs.Depth.{Depth};
-    ghost use Rattle.cdx_schema.specs.XmlReading.{Child};
-    ghost use Rattle.cdx_machine.specs.Begun.{Begun};
-    ghost use Rattle.cdx_machine.specs.Machines.{CanStepChild, StepsChild};
-    ghost use Rattle.cdx_machine.specs.Frames.{StartsChild};
-
-    /// What it is a child of.
-    type Of: Frame;
-
-    /// What it keeps of the events of the child, which a child of the plan reads.
-    ghost holds: { Self → Child → SpecVersion → ℕ → Depth → Begun → Type 0 };
-
-    /// Takes a child's start, at `place`: starts the machine that reads it, where `v` knows a child of its name.
-    fn start(
-        part: &Self::Of,
-        alloc: Global,
-        place: usize,
-        v: SpecVersion,
-        element: &OwnedName,
-        attributes: &List<OwnedAttribute>,
-    ) -> Result<Offered<Self>, XmlReadError>
-        ensures { StartsChild holds Self.Of.plan (Self.Of.slots part.now) v place element.now
-            attributes.now result };
-
-    /// Takes an event of the child, at `place`. With the child's end its value goes into its field, and the answer is
-    /// true.
-    fn step(
-        &mut self,
-        part: &mut Self::Of,
-        alloc: Global,
-        place: usize,
-        event: &XmlEvent,
-    ) -> Result<bool, XmlReadError>
-        requires { CanStepChild holds self.old place event.now }
-        ensures { StepsChild holds (Self.Of.slots part.old) (Self.Of.slots part.new) self.old
-            self.new place event.now result };
 }
 
 // Takes an event of a child that is skipped, in which so many elements are open. Says whether it is the child's end.
@@ -134,50 +136,75 @@ fn skip_one(depth: &mut usize, place: usize, event: &XmlEvent) -> bool
 }
 
 // Takes the start of a child of the element, at this place.
-fn enter<C: ChildOf>(
+fn enter<F: Frame>(
     alloc: Global,
     v: SpecVersion,
     element: &OwnedName,
-    part: &C::Of,
+    part: &F,
     place: usize,
     event: &XmlEvent,
     name: &OwnedName,
     attributes: &List<OwnedAttribute>,
-) -> Result<Inside<C>, XmlReadError>
-    ensures { Enters C.holds C.Of.plan (C.Of.slots part.now) v element.now place event.now name.now
-        attributes.now result }
+) -> Result<Inside<F::Child>, XmlReadError>
+    ensures { Enters (reads_child F.plan F.Child.position_of F.Child.holds) F.plan
+        (F.slots part.now) v element.now place event.now name.now attributes.now result }
 {
-    match C::start(part, alloc, place, v, name, attributes)? {
-        Offered::Opened(child) => Ok(Inside::Read(child)),
-        Offered::Unknown => {
+    match part.find(v, name) {
+        Found::At(position) => Ok(Inside::Read(F::Child::start(
+            position, alloc, place, v, name, attributes,
+        )?)),
+        Found::Unknown => {
             if !part.rule().skips() {
                 return refuse(alloc, place, element, event);
             }
             Ok(Inside::Skipped(0))
         }
-        Offered::Second => refuse(alloc, place, element, event),
+        Found::Second => refuse(alloc, place, element, event),
+    }
+}
+
+// Takes an event of an open child, at this place. With its end the value goes into its field, and the answer is true.
+fn feed<F: Frame>(
+    part: &mut F,
+    child: &mut F::Child,
+    alloc: Global,
+    place: usize,
+    event: &XmlEvent,
+) -> Result<bool, XmlReadError>
+    requires { CanStepChild (reads_child F.plan F.Child.position_of F.Child.holds) child.old place
+        event.now }
+    ensures { StepsChild (reads_child F.plan F.Child.position_of F.Child.holds) (F.slots part.old)
+        (F.slots part.new) child.old child.new place event.now result }
+{
+    match child.step(place, event)? {
+        None => Ok(false),
+        Some(value) => {
+            part.put(alloc, value)?;
+            Ok(true)
+        }
     }
 }
 
 /// The machine of an element that is read child by child.
 #[derive(Drop)]
-pub struct FrameMachine<C: ChildOf> {
+pub struct FrameMachine<F: Frame> {
     alloc: Global,
     v: SpecVersion,
     name: OwnedName,
-    part: Option<C::Of>,
-    inside: Inside<C>,
+    part: Option<F>,
+    inside: Inside<F::Child>,
 }
 
-impl<C: ChildOf> Machine for FrameMachine<C> {
+impl<F: Frame> Machine for FrameMachine<F> {
     ghost use Rattle.cdx_machine.specs.Frames.{frame_holds};
+    ghost use Rattle.cdx_machine.specs.Several.{reads_child};
 
-    type Value = <C::Of as Frame>::Value;
+    type Value = F::Value;
 
-    ghost kind = { C.Of.kind };
+    ghost kind = { F.kind };
 
-    ghost holds = { λ m v p d o. frame_holds C.holds C.Of.first C.Of.plan C.Of.slots m.name m.v m.part m.inside
-        v p d o };
+    ghost holds = { λ m v p d o. frame_holds (reads_child F.plan F.Child.position_of F.Child.holds)
+        F.first F.plan F.slots m.name m.v m.part m.inside v p d o };
 
     fn start(
         alloc: Global,
@@ -185,8 +212,8 @@ impl<C: ChildOf> Machine for FrameMachine<C> {
         v: SpecVersion,
         element: &OwnedName,
         attributes: &List<OwnedAttribute>,
-    ) -> Result<FrameMachine<C>, XmlReadError> {
-        let part = <C::Of as Frame>::begin(alloc, place, v, element, attributes)?;
+    ) -> Result<FrameMachine<F>, XmlReadError> {
+        let part = F::begin(alloc, place, v, element, attributes)?;
         Ok(FrameMachine {
             alloc,
             v,
@@ -196,17 +223,13 @@ impl<C: ChildOf> Machine for FrameMachine<C> {
         })
     }
 
-    fn step(
-        &mut self,
-        place: usize,
-        event: &XmlEvent,
-    ) -> Result<Option<<C::Of as Frame>::Value>, XmlReadError> {
+    fn step(&mut self, place: usize, event: &XmlEvent) -> Result<Option<F::Value>, XmlReadError> {
         let Some(part) = &mut self.part else {
             unreachable!()
         };
         match &mut self.inside {
             Inside::Read(child) => {
-                if child.step(part, self.alloc, place, event)? {
+                if feed(part, child, self.alloc, place, event)? {
                     self.inside = Inside::Nothing;
                     return Ok(None);
                 }

@@ -3,23 +3,21 @@
 #![tactic(auto)]
 
 mod content;
-mod fields;
 mod frame;
 mod lists;
 mod machine;
-mod offered;
+mod or;
 mod reading;
 mod record_text;
 mod records;
 mod texts;
 
 pub use content::{Content, ContentMachine};
-pub use fields::{fill_list, fill_more, fill_one};
-pub use frame::{ChildOf, Frame, FrameMachine};
-pub use lists::{Item, Items, ListMachine, ListOf};
+pub use frame::{Found, Frame, FrameMachine, Inside};
+pub use lists::{Items, ListMachine, ListOf};
 pub use machine::Machine;
-pub use offered::{Inside, Offered};
+pub use or::{Machines, NoMachine, Only, Or};
 pub use reading::read_by_machine;
 pub use record_text::{BegunText, TextRecordMachine};
-pub use records::BegunRecord;
+pub use records::{BegunRecord, PushRecord, RecordMachine};
 pub use texts::{FlagMachine, PlainFlag, PlainText, TextMachine};

@@ -1,13 +1,12 @@
 //! Lists.
 
-use crate::fields::fill_list;
-use crate::frame::{ChildOf, Frame, FrameMachine};
+use crate::frame::{Found, Frame, FrameMachine};
 use crate::machine::Machine;
-use crate::offered::Offered;
-use cdx_events::{List, OwnedAttribute, OwnedName, XmlEvent};
+use crate::or::Only;
+use cdx_events::{List, OwnedAttribute, OwnedName};
 use cdx_leaf::Rule;
 use cdx_models::{HasTree, SpecVersion, XmlReadError};
-use std::alloc::Global;
+use std::alloc::{AllocError, Global};
 
 /// A list of the schema, whose items are elements of one name.
 pub trait ListOf {
@@ -52,21 +51,18 @@ pub struct Items<L: ListOf> {
     items: List<<L::Item as Machine>::Value>,
 }
 
-/// An open item of a list.
-#[derive(Drop)]
-pub struct Item<L: ListOf> {
-    machine: L::Item,
-}
-
 /// The machine of a list.
-pub type ListMachine<L> = FrameMachine<Item<L>>;
+pub type ListMachine<L> = FrameMachine<Items<L>>;
 
 impl<L: ListOf> Frame for Items<L> {
     ghost use Rattle.cdx_schema.specs.Kinds.{a_list};
     ghost use Rattle.cdx_schema.specs.XmlReading.{plan_of_list};
     ghost use Rattle.cdx_machine.specs.Records.{list_first, list_last, list_frame, items_slots};
+    ghost use Rattle.cdx_machine.specs.Records.{item_kinds};
 
     type Value = L::Value;
+
+    type Child = Only<L::Item>;
 
     ghost kind = { a_list L.list_name };
 
@@ -77,6 +73,8 @@ impl<L: ListOf> Frame for Items<L> {
     ghost last = { list_last };
 
     ghost slots = { λ r. items_slots L.Item.Value.tree r.items };
+
+    ghost kinds = { item_kinds L.list_name L.Item.kind L.one_name L.item_kind };
 
     ghost frame = { list_frame L.list_name };
 
@@ -96,6 +94,21 @@ impl<L: ListOf> Frame for Items<L> {
         })
     }
 
+    fn find(&self, _v: SpecVersion, name: &OwnedName) -> Found {
+        if name.local_name.is(L::inner()) {
+            return Found::At(0);
+        }
+        Found::Unknown
+    }
+
+    fn put(
+        &mut self,
+        _alloc: Global,
+        value: <L::Item as Machine>::Value,
+    ) -> Result<(), AllocError> {
+        self.items.push(value)
+    }
+
     fn finish(
         self,
         _alloc: Global,
@@ -104,38 +117,5 @@ impl<L: ListOf> Frame for Items<L> {
         _element: &OwnedName,
     ) -> Result<L::Value, XmlReadError> {
         Ok(L::from_items(self.items))
-    }
-}
-
-impl<L: ListOf> ChildOf for Item<L> {
-    ghost use Rattle.cdx_machine.specs.Records.{item_holds};
-
-    type Of = Items<L>;
-
-    ghost holds = { item_holds L.list_name L.Item.holds };
-
-    fn start(
-        _part: &Items<L>,
-        alloc: Global,
-        place: usize,
-        v: SpecVersion,
-        element: &OwnedName,
-        attributes: &List<OwnedAttribute>,
-    ) -> Result<Offered<Item<L>>, XmlReadError> {
-        if !element.local_name.is(L::inner()) {
-            return Ok(Offered::Unknown);
-        }
-        let machine = L::Item::start(alloc, place, v, element, attributes)?;
-        Ok(Offered::Opened(Item { machine }))
-    }
-
-    fn step(
-        &mut self,
-        part: &mut Items<L>,
-        _alloc: Global,
-        place: usize,
-        event: &XmlEvent,
-    ) -> Result<bool, XmlReadError> {
-        fill_list(&mut self.machine, place, event, &mut part.items)
     }
 }

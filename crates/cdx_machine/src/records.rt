@@ -1,37 +1,75 @@
 //! Records that are read child by child.
 
-use crate::frame::Frame;
+use crate::frame::{Found, Frame, FrameMachine};
+use crate::or::Machines;
 use cdx_events::{List, OwnedAttribute, OwnedName};
 use cdx_leaf::{Children, Rule, XmlRecord};
 use cdx_models::{SpecVersion, XmlReadError};
-use std::alloc::Global;
+use std::alloc::{AllocError, Global};
+
+/// The children of a record: the machines that read them, their names, and the fields that they go into.
+pub trait PushRecord {
+    ghost use Rattle.std.specs.Prelude.{◌≡◌, OnOk};
+    ghost use Rattle.cdx_schema.specs.XmlReading.{record_plan};
+    ghost use Rattle.cdx_machine.specs.Several.{kinds_of, Finds, Puts};
+
+    /// The record.
+    type Record: XmlRecord;
+
+    /// The machines of its children, in the order of its rows.
+    type Child: Machines;
+
+    /// The child that `v` knows by the name.
+    fn find(part: &<Self::Record as XmlRecord>::Part, v: SpecVersion, name: &OwnedName) -> Found
+        ensures { Finds (record_plan Self.Record.name).children (Self.Record.Part.slots part.now) v
+            name.now.local_name result };
+
+    /// Puts what a child was read as into its field.
+    fn put(
+        part: &mut <Self::Record as XmlRecord>::Part,
+        alloc: Global,
+        value: <Self::Child as Machines>::Value,
+    ) -> Result<(), AllocError>
+        ensures { OnOk result (Puts (record_plan Self.Record.name).children
+            (Self.Child.source value) (Self.Child.tree value) (Self.Record.Part.slots part.old)
+            (Self.Record.Part.slots part.new)) };
+
+    // The machines read the kinds of its children.
+    ghost kinds: { Self.Child.kinds ≡ kinds_of (record_plan Self.Record.name).children };
+}
 
 /// A record while its children are read.
 #[derive(Drop)]
-pub struct BegunRecord<X: XmlRecord> {
-    /// What was read so far.
-    pub part: X::Part,
+pub struct BegunRecord<K: PushRecord> {
+    part: <K::Record as XmlRecord>::Part,
 }
 
-impl<X: XmlRecord> Frame for BegunRecord<X> {
+/// The machine of a record.
+pub type RecordMachine<K> = FrameMachine<BegunRecord<K>>;
+
+impl<K: PushRecord> Frame for BegunRecord<K> {
     ghost use Rattle.cdx_schema.specs.Kinds.{a_record};
     ghost use Rattle.cdx_schema.specs.XmlReading.{record_plan};
     ghost use Rattle.cdx_machine.specs.Plain.{attributes_first};
     ghost use Rattle.cdx_machine.specs.Records.{record_end, record_frame};
 
-    type Value = X;
+    type Value = K::Record;
 
-    ghost kind = { a_record X.name };
+    type Child = K::Child;
 
-    ghost plan = { record_plan X.name };
+    ghost kind = { a_record K.Record.name };
 
-    ghost first = { attributes_first X.name };
+    ghost plan = { record_plan K.Record.name };
 
-    ghost last = { record_end X.name };
+    ghost first = { attributes_first K.Record.name };
 
-    ghost slots = { λ r. X.Part.slots r.part };
+    ghost last = { record_end K.Record.name };
 
-    ghost frame = { record_frame X.name X.no_content X.plain };
+    ghost slots = { λ r. K.Record.Part.slots r.part };
+
+    ghost kinds = { K.kinds };
+
+    ghost frame = { record_frame K.Record.name K.Record.no_content K.Record.plain };
 
     fn rule(&self) -> Rule {
         self.part.rule()
@@ -43,10 +81,22 @@ impl<X: XmlRecord> Frame for BegunRecord<X> {
         v: SpecVersion,
         element: &OwnedName,
         attributes: &List<OwnedAttribute>,
-    ) -> Result<BegunRecord<X>, XmlReadError> {
+    ) -> Result<BegunRecord<K>, XmlReadError> {
         Ok(BegunRecord {
-            part: X::begin(alloc, place, v, element, attributes)?,
+            part: <K::Record as XmlRecord>::begin(alloc, place, v, element, attributes)?,
         })
+    }
+
+    fn find(&self, v: SpecVersion, name: &OwnedName) -> Found {
+        K::find(&self.part, v, name)
+    }
+
+    fn put(
+        &mut self,
+        alloc: Global,
+        value: <K::Child as Machines>::Value,
+    ) -> Result<(), AllocError> {
+        K::put(&mut self.part, alloc, value)
     }
 
     fn finish(
@@ -55,7 +105,7 @@ impl<X: XmlRecord> Frame for BegunRecord<X> {
         place: usize,
         v: SpecVersion,
         element: &OwnedName,
-    ) -> Result<X, XmlReadError> {
-        X::finish(alloc, place, v, element, self.part)
+    ) -> Result<K::Record, XmlReadError> {
+        <K::Record as XmlRecord>::finish(alloc, place, v, element, self.part)
     }
 }

@@ -1,42 +1,55 @@
-use Rattle.std.proofs.Common.{Ok, sym, ◌∙◌, subst}
+use Rattle.std.proofs.Common.{Ok, refl, sym, ◌∙◌, subst}
 use Rattle.std.proofs.lemmas.Result.{err_from_is_err_and}
-use Rattle.cdx_events.specs.Nodes.{no_nodes}
-use Rattle.cdx_machine.specs.Begun.{innermost}
-use Rattle.cdx_machine.specs.Frames.{Offers}
+use Rattle.cdx_machine.specs.Several.{reads_child, Finds}
+use Rattle.cdx_machine.proofs.Children.{runs_kind, child_starts, there_is}
 use Rattle.cdx_machine.proofs.Frames.{enters_fault, enters_second, enters_unknown, enters_skipped}
 use Rattle.cdx_machine.proofs.frame.enter.Goals as goal
 
-pub returns-in_err-child : goal.returns-in_err-child
-returns-in_err-child g c = λ is d s.
+pub start-requires : goal.start-requires
+start-requires g c =
+    let f = g.F.Frame in
+    let h = subst (λ x. Finds f.plan.children (f.slots c.args.part.now) c.args.v c.args.name.now.local_name x) c.in-At.is c.find.ensures in
+    let m = g.F.Child.Machines in
+    there_is f.plan m.kinds g.met.F.Frame.kinds m.position_of m.holds m.tree c.in-At.position h.row h.is_at
+
+pub returns-in_err-start-in-At : goal.returns-in_err-start-in-At
+returns-in_err-start-in-At g c = λ is d s.
     let q = err_from_is_err_and c.from_residual.result c.from_residual.ensures.1 in
-    rw (q.1, q.2) (enters_fault g.C.ChildOf.holds g.C.Of.Frame.plan (g.C.Of.Frame.slots c.args.part.now) c.args.v c.args.element.now c.args.place d c.args.name.now c.args.attributes.now s c.in_err-child.field-0.0 (c.in_err-child.ensures d s))
+    let f = g.F.Frame in
+    let m = g.F.Child.Machines in
+    let h = subst (λ x. Finds f.plan.children (f.slots c.args.part.now) c.args.v c.args.name.now.local_name x) c.in-At.is c.find.ensures in
+    rw (q.1, q.2) (enters_fault (reads_child f.plan m.position_of m.holds) f.plan (f.slots c.args.part.now) c.args.v c.args.element.now c.args.place d c.args.name.now c.args.attributes.now s c.in_err-start-in-At.field-0.0 c.in-At.position h (c.in_err-start-in-At.ensures.starts h.row.kind (runs_kind f.plan m.kinds g.met.F.Frame.kinds m.position_of m.holds m.tree c.in-At.position h.row h.is_at) d s))
+
+pub returns-in_ok-start-in-At : goal.returns-in_ok-start-in-At
+returns-in_ok-start-in-At g c = λ is d s.
+    let f = g.F.Frame in
+    let m = g.F.Child.Machines in
+    let h = subst (λ x. Finds f.plan.children (f.slots c.args.part.now) c.args.v c.args.name.now.local_name x) c.in-At.is c.find.ensures in
+    child_starts f.plan m.kinds g.met.F.Frame.kinds m.position_of m.holds m.tree (f.slots c.args.part.now) c.args.v c.args.place d c.args.name.now c.args.attributes.now s c.in-At.position c.in_ok-start-in-At.field-0 h c.in_ok-start-in-At.ensures.runs c.in_ok-start-in-At.ensures.starts
 
 pub returns-then-not-skips : goal.returns-then-not-skips
 returns-then-not-skips g c = λ is d s.
-    let f = g.C.Of.Frame in
+    let f = g.F.Frame in
+    let m = g.F.Child.Machines in
     let ts = f.slots c.args.part.now in
-    enters_unknown g.C.ChildOf.holds f.plan ts c.args.v c.args.element.now c.args.place d c.args.name.now c.args.attributes.now s _ c.refuse.result c.rule.result
-    (subst (λ x. Offers g.C.ChildOf.holds f.plan ts c.args.v c.args.place d (innermost c.args.name.now c.args.attributes.now s no_nodes) (Ok x)) c.in-Unknown.is (c.in_ok-child.ensures d s))
+    enters_unknown (reads_child f.plan m.position_of m.holds) f.plan ts c.args.v c.args.element.now c.args.place d c.args.name.now c.args.attributes.now s _ c.refuse.result c.rule.result
+    (subst (λ x. Finds f.plan.children ts c.args.v c.args.name.now.local_name x) c.in-Unknown.is c.find.ensures)
     c.rule.ensures (sym c.skips.ensures ∙ c.if-not-skips.true) is c.refuse.ensures
-
-pub returns-in-Opened : goal.returns-in-Opened
-returns-in-Opened g c = λ is d s.
-    let f = g.C.Of.Frame in
-    let ts = f.slots c.args.part.now in
-    subst (λ x. Offers g.C.ChildOf.holds f.plan ts c.args.v c.args.place d (innermost c.args.name.now c.args.attributes.now s no_nodes) (Ok x)) c.in-Opened.is (c.in_ok-child.ensures d s)
 
 pub returns-else-not-skips : goal.returns-else-not-skips
 returns-else-not-skips g c = λ is d s.
-    let f = g.C.Of.Frame in
+    let f = g.F.Frame in
+    let m = g.F.Child.Machines in
     let ts = f.slots c.args.part.now in
-    enters_skipped g.C.ChildOf.holds f.plan ts c.args.v c.args.element.now c.args.place d c.args.name.now c.args.attributes.now s c.rule.result
-    (subst (λ x. Offers g.C.ChildOf.holds f.plan ts c.args.v c.args.place d (innermost c.args.name.now c.args.attributes.now s no_nodes) (Ok x)) c.in-Unknown.is (c.in_ok-child.ensures d s))
+    enters_skipped (reads_child f.plan m.position_of m.holds) f.plan ts c.args.v c.args.element.now c.args.place d c.args.name.now c.args.attributes.now s c.rule.result
+    (subst (λ x. Finds f.plan.children ts c.args.v c.args.name.now.local_name x) c.in-Unknown.is c.find.ensures)
     c.rule.ensures (sym c.skips.ensures ∙ c.if-not-skips.false)
 
 pub returns-in-Second : goal.returns-in-Second
 returns-in-Second g c = λ is d s.
-    let f = g.C.Of.Frame in
+    let f = g.F.Frame in
+    let m = g.F.Child.Machines in
     let ts = f.slots c.args.part.now in
-    enters_second g.C.ChildOf.holds f.plan ts c.args.v c.args.element.now c.args.place d c.args.name.now c.args.attributes.now s _ c.refuse-in-Second.result
-    (subst (λ x. Offers g.C.ChildOf.holds f.plan ts c.args.v c.args.place d (innermost c.args.name.now c.args.attributes.now s no_nodes) (Ok x)) c.in-Second.is (c.in_ok-child.ensures d s))
+    enters_second (reads_child f.plan m.position_of m.holds) f.plan ts c.args.v c.args.element.now c.args.place d c.args.name.now c.args.attributes.now s _ c.refuse-in-Second.result
+    (subst (λ x. Finds f.plan.children ts c.args.v c.args.name.now.local_name x) c.in-Second.is c.find.ensures)
     is c.refuse-in-Second.ensures

@@ -1,0 +1,72 @@
+-- Several machines in a row.
+use Rattle.std.proofs.Common.{◌≡◌, ℕ, zero, suc, ◌+◌, ◌-◌, List, [], ◌∷◌, Bool, true, false, Option, Some, None, Result, Ok, Err, refl, sym, ap, ◌∙◌, subst, arith}
+use Rattle.cdx_events.specs.declared.name.OwnedName.{OwnedName}
+use Rattle.cdx_events.specs.declared.name.OwnedAttribute.{OwnedAttribute}
+use Rattle.cdx_events.specs.declared.event.XmlEvent.{XmlEvent}
+use Rattle.cdx_models.specs.declared.bom.SpecVersion.{SpecVersion}
+use Rattle.cdx_models.specs.declared.errors.XmlReadError.{XmlReadError}
+use Rattle.cdx_models.specs.Trees.{Tree, Trees}
+use Rattle.cdx_events.specs.Nodes.{Node}
+use Rattle.cdx_schema.specs.Depth.{Depth}
+use Rattle.cdx_schema.specs.Kinds.{Kind}
+use Rattle.cdx_schema.specs.XmlReading.{xread}
+use Rattle.cdx_machine.specs.declared.or.Or.{Or}
+use Rattle.cdx_machine.specs.declared.or.Or.TheVariants.{This, Other}
+use Rattle.cdx_machine.specs.Begun.{Begun, Next, still, whole, count, next, Takes}
+use Rattle.cdx_machine.specs.Machines.{Holding, StartsAs, Steps, StepsAs}
+use Rattle.cdx_machine.specs.Several.{at_position, IsThere, or_position, or_holds, or_tree}
+
+pub some_same : {A : Type 0} {x y : A} → Some x ≡ Some y → x ≡ y
+some_same {A = A} {x = x} h = ap (λ (o : Option A). the o) h
+  where
+    the : Option A → A
+    the None = x
+    the (Some z) = z
+
+-- The first of a row stands at 0.
+pub first_is : {A : Type 0} (x y : A) (xs : List A) (i : ℕ) → i ≡ 0 → at_position (x ∷ xs) i ≡ Some y → x ≡ y
+first_is x y xs zero at is = some_same is
+first_is x y xs (suc i) at is = absurd (omega (arith, at))
+
+-- The others stand one place further on.
+pub other_is : {A : Type 0} (x y : A) (xs : List A) (i : ℕ) → (i ≡ 0 → ⊥) → at_position (x ∷ xs) i ≡ Some y → at_position xs (i - 1) ≡ Some y
+other_is x y xs zero not is = absurd (not refl)
+other_is {A = A} x y xs (suc i) not is = ap (λ j. at_position xs j) (one_less i) ∙ is
+  where
+    one_less : (k : ℕ) → suc k - 1 ≡ k
+    one_less k = omega arith
+
+-- a row of one
+pub only_is : {A : Type 0} (x y : A) (i : ℕ) → at_position (x ∷ []) i ≡ Some y → x ≡ y
+only_is x y zero is = some_same is
+only_is x y (suc i) is = absurd (let wrong : None ≡ Some y = is in cc)
+
+abbrev pub mapped : {X Y : Type 0} → (X → Y) → Result (Option X) XmlReadError → Result (Option Y) XmlReadError
+mapped f (Ok None) = Ok None
+mapped f (Ok (Some x)) = Ok (Some (f x))
+mapped f (Err e) = Err e
+
+-- A step of a machine is one of the row, by what its value becomes.
+rewrapped : {X Y T : Type 0} (held held' : Begun → Type 0) (view : X → T) (view' : Y → T) (f : X → Y) → ((o : Begun) → held o → held' o) → ((x : X) → view' (f x) ≡ view x) → (read : Node → Result T XmlReadError) (p : ℕ) (n : Next) (r : Result (Option X) XmlReadError)
+    → Steps held view read p n r → Steps held' view' read p n (mapped f r)
+rewrapped held held' view view' f up same read p (still o) (Ok None) h = (up o h.0, h.1)
+rewrapped held held' view view' f up same read p (still o) (Ok (Some x)) h = h
+rewrapped held held' view view' f up same read p (still o) (Err e) h = h
+rewrapped held held' view view' f up same read p (whole k) (Ok None) h = h
+rewrapped held held' view view' f up same read p (whole k) (Ok (Some x)) h = h ∙ ap (λ t. Ok t) (sym (same x))
+rewrapped held held' view view' f up same read p (whole k) (Err e) h = h
+
+module _ {M R X Y : Type 0} (k : Kind) (kinds : List Kind) (first : Holding M) (others : Holding R) (position : R → ℕ) (view : X → Tree) (views : Y → Tree) (place : ℕ) (event : XmlEvent) where
+  -- the first machine's step
+  pub first_steps : (m m' : M) (r : Result (Option X) XmlReadError) (l : Kind) (old : Or M R) → old ≡ This m → at_position (k ∷ kinds) (or_position position old) ≡ Some l → StepsAs first view k m m' place event r
+      → StepsAs (or_holds first others) (or_tree view views) l old (This m') place event (mapped (λ x. This x) r)
+  first_steps m m' r l old is at h v p d o held pl t =
+      rewrapped (λ o. first m' v p d o) (λ o. or_holds first others (This m') v p d o) view (or_tree view views) (λ x. This x) (λ o h. h) (λ x. refl) (λ n. xread n v l p d) p (next o event) r
+      (subst (λ (l : Kind). Steps (λ o. first m' v p d o) view (λ n. xread n v l p d) p (next o event) r) (some_same (ap (λ x. at_position (k ∷ kinds) (or_position position x)) (sym is) ∙ at)) (h v p d o (subst (λ (x : Or M R). or_holds first others x v p d o) is held) pl t))
+
+  -- a step of the others
+  pub other_steps : (m m' : R) (r : Result (Option Y) XmlReadError) (l : Kind) (old : Or M R) → old ≡ Other m → at_position (k ∷ kinds) (or_position position old) ≡ Some l → ((l : Kind) → at_position kinds (position m) ≡ Some l → StepsAs others views l m m' place event r)
+      → StepsAs (or_holds first others) (or_tree view views) l old (Other m') place event (mapped (λ x. Other x) r)
+  other_steps m m' r l old is at h v p d o held pl t =
+      rewrapped (λ o. others m' v p d o) (λ o. or_holds first others (Other m') v p d o) views (or_tree view views) (λ x. Other x) (λ o h. h) (λ x. refl) (λ n. xread n v l p d) p (next o event) r
+      (h l (ap (λ x. at_position (k ∷ kinds) (or_position position x)) (sym is) ∙ at) v p d o (subst (λ (x : Or M R). or_holds first others x v p d o) is held) pl t)

@@ -1,0 +1,190 @@
+//! Several machines in a row, of which one runs.
+
+use crate::machine::Machine;
+use cdx_events::{List, OwnedAttribute, OwnedName, XmlEvent};
+use cdx_models::{HasTree, SpecVersion, XmlReadError};
+use std::alloc::Global;
+
+/// Several machines in a row, of which one runs.
+pub trait Machines: Drop {
+    ghost use Rattle.std.specs.Prelude.{◌≡◌, ℕ, List, Some, IfOk, IfSome};
+    ghost use Rattle.cdx_models.specs.declared.bom.SpecVersion.{SpecVersion};
+    ghost use Rattle.cdx_models.specs.Trees.{Tree};
+    ghost use Rattle.cdx_schema.specs.Kinds.{Kind};
+    ghost use Rattle.cdx_schema.specs.Depth.{Depth};
+    ghost use Rattle.cdx_machine.specs.Begun.{Begun};
+    ghost use Rattle.cdx_machine.specs.Machines.{StartsAs, CanStep, StepsAs};
+    ghost use Rattle.cdx_machine.specs.Several.{at_position, IsThere};
+
+    /// What the element is read as, by whichever machine runs.
+    type Value: Drop;
+
+    /// The kinds that they read, in a row.
+    ghost kinds: { List Kind };
+
+    /// The position of the one that runs; the first has position 0.
+    ghost position_of: { Self → ℕ };
+
+    /// What it keeps of the events so far: in a version, with the element's start at a place, at a depth.
+    ghost holds: { Self → SpecVersion → ℕ → Depth → Begun → Type 0 };
+
+    /// The position of the one that gave a value.
+    ghost source: { Self.Value → ℕ };
+
+    /// The tree of the value.
+    ghost tree: { Self.Value → Tree };
+
+    /// Takes the element's start, at `place`, by the machine at the position. A refusal is the fault of the start alone.
+    fn start(
+        position: usize,
+        alloc: Global,
+        place: usize,
+        v: SpecVersion,
+        element: &OwnedName,
+        attributes: &List<OwnedAttribute>,
+    ) -> Result<Self, XmlReadError>
+        requires { IsThere kinds position }
+        ensures runs { IfOk result (λ m. position_of m ≡ position) }
+        ensures starts { (k : Kind) → at_position kinds position ≡ Some k
+            → StartsAs holds k v place element.now attributes.now result };
+
+    /// Takes the next event, at `place`, as a machine does.
+    fn step(&mut self, place: usize, event: &XmlEvent) -> Result<Option<Self::Value>, XmlReadError>
+        requires { CanStep holds self.old place event.now }
+        ensures runs { position_of self.new ≡ position_of self.old }
+        ensures source { IfOk result (λ o. IfSome o (λ x. source x ≡ position_of self.old)) }
+        ensures steps { (k : Kind) → at_position kinds (position_of self.old) ≡ Some k
+            → StepsAs holds tree k self.old self.new place event.now result };
+}
+
+/// One machine, or one of those that follow it; and what one of them read.
+#[derive(Drop)]
+pub enum Or<M, R> {
+    /// The first of the row.
+    This(M),
+    /// One of the others.
+    Other(R),
+}
+
+/// The last machine of a row.
+#[derive(Drop)]
+pub struct Only<M> {
+    machine: M,
+}
+
+impl<M: Machine, R: Machines> Machines for Or<M, R> {
+    ghost use Rattle.std.specs.Prelude.{◌∷◌};
+    ghost use Rattle.cdx_machine.specs.Several.{or_position, or_holds, or_tree};
+
+    type Value = Or<M::Value, R::Value>;
+
+    ghost kinds = { M.kind ∷ R.kinds };
+
+    ghost position_of = { or_position R.position_of };
+
+    ghost holds = { or_holds M.holds R.holds };
+
+    ghost source = { or_position R.source };
+
+    ghost tree = { or_tree M.Value.tree R.tree };
+
+    fn start(
+        position: usize,
+        alloc: Global,
+        place: usize,
+        v: SpecVersion,
+        element: &OwnedName,
+        attributes: &List<OwnedAttribute>,
+    ) -> Result<Or<M, R>, XmlReadError> {
+        if position == 0 {
+            return Ok(Or::This(M::start(alloc, place, v, element, attributes)?));
+        }
+        Ok(Or::Other(R::start(position - 1, alloc, place, v, element, attributes)?))
+    }
+
+    fn step(
+        &mut self,
+        place: usize,
+        event: &XmlEvent,
+    ) -> Result<Option<Or<M::Value, R::Value>>, XmlReadError> {
+        match self {
+            Or::This(machine) => match machine.step(place, event)? {
+                Some(value) => Ok(Some(Or::This(value))),
+                None => Ok(None),
+            },
+            Or::Other(machines) => match machines.step(place, event)? {
+                Some(value) => Ok(Some(Or::Other(value))),
+                None => Ok(None),
+            },
+        }
+    }
+}
+
+impl<M: Machine> Machines for Only<M> {
+    ghost use Rattle.std.specs.Prelude.{[], ◌∷◌};
+
+    type Value = M::Value;
+
+    ghost kinds = { M.kind ∷ [] };
+
+    ghost position_of = { λ m. 0 };
+
+    ghost holds = { λ m. M.holds m.machine };
+
+    ghost source = { λ x. 0 };
+
+    ghost tree = { M.Value.tree };
+
+    fn start(
+        _position: usize,
+        alloc: Global,
+        place: usize,
+        v: SpecVersion,
+        element: &OwnedName,
+        attributes: &List<OwnedAttribute>,
+    ) -> Result<Only<M>, XmlReadError> {
+        Ok(Only {
+            machine: M::start(alloc, place, v, element, attributes)?,
+        })
+    }
+
+    fn step(&mut self, place: usize, event: &XmlEvent) -> Result<Option<M::Value>, XmlReadError> {
+        self.machine.step(place, event)
+    }
+}
+
+/// No machine: where an element has no children.
+#[derive(Drop)]
+pub struct NoMachine;
+
+impl Machines for NoMachine {
+    ghost use Rattle.std.specs.Prelude.{[]};
+    ghost use Rattle.cdx_models.specs.Trees.{absent};
+
+    type Value = NoMachine;
+
+    ghost kinds = { [] };
+
+    ghost position_of = { λ m. 0 };
+
+    ghost holds = { λ m v p d o. ⊥ };
+
+    ghost source = { λ x. 0 };
+
+    ghost tree = { λ x. absent };
+
+    fn start(
+        _position: usize,
+        _alloc: Global,
+        _place: usize,
+        _v: SpecVersion,
+        _element: &OwnedName,
+        _attributes: &List<OwnedAttribute>,
+    ) -> Result<NoMachine, XmlReadError> {
+        unreachable!()
+    }
+
+    fn step(&mut self, _place: usize, _event: &XmlEvent) -> Result<Option<NoMachine>, XmlReadError> {
+        unreachable!()
+    }
+}
