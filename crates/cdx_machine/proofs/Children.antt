@@ -1,12 +1,15 @@
 -- The children of a plan, read by several machines in a row.
-use Rattle.std.proofs.Common.{◌≡◌, ℕ, zero, suc, ◌+◌, List, [], ◌∷◌, Bool, true, false, Option, Some, None, Result, Ok, Err, refl, sym, ap, ◌∙◌, subst}
+use Rattle.std.proofs.Common.{◌≡◌, ℕ, zero, suc, ◌+◌, List, [], ◌∷◌, ◌++◌, Bool, true, false, Option, Some, None, Result, Ok, Err, refl, sym, ap, ◌∙◌, subst, arith}
+use Rattle.std.specs.Prelude.{IfSome, if◌then◌else◌, ◌&&◌, unwrap_or}
+use Rattle.std.specs.Str.{bytes_eq}
+use Rattle.cdx_models.specs.Versions.{knows}
 use Rattle.cdx_events.specs.declared.event.XmlEvent.{XmlEvent}
 use Rattle.cdx_models.specs.declared.bom.SpecVersion.{SpecVersion}
 use Rattle.cdx_models.specs.declared.errors.XmlReadError.{XmlReadError}
-use Rattle.cdx_models.specs.Trees.{Tree, Trees}
+use Rattle.cdx_models.specs.Trees.{Tree, Trees, field, present, list_tree}
 use Rattle.cdx_schema.specs.Depth.{Depth}
 use Rattle.cdx_schema.specs.Kinds.{Kind}
-use Rattle.cdx_schema.specs.XmlReading.{Plan, Child, stored, xread}
+use Rattle.cdx_schema.specs.XmlReading.{Plan, Child, appended, find_child, is_second, stored, xread}
 use Rattle.cdx_events.specs.declared.name.OwnedName.{OwnedName}
 use Rattle.cdx_events.specs.declared.name.OwnedAttribute.{OwnedAttribute}
 use Rattle.cdx_events.specs.declared.name.Namespace.{Namespace}
@@ -14,7 +17,10 @@ use Rattle.cdx_events.specs.Nodes.{Node, Nodes, element, no_nodes}
 use Rattle.cdx_machine.specs.Begun.{Begun, innermost, Next, still, whole, count, next, Takes}
 use Rattle.cdx_machine.specs.Machines.{Holding, ChildHolding, CanStep, CanStepChild, IsQuiet, StartsAs, Steps, StepsAs, StepsRow, StepsChild}
 use Rattle.cdx_machine.specs.Frames.{OpensChild}
-use Rattle.cdx_machine.specs.Several.{at_position, IsThere, kinds_of, reads_child, FindsAt, Puts}
+use Rattle.cdx_machine.proofs.Names.{FindsAt}
+use Rattle.cdx_machine.specs.Several.{at_position, IsThere, kinds_of, reads_child, found_from, Puts}
+use Rattle.cdx_machine.specs.declared.frame.Found.{Found}
+use Rattle.cdx_machine.specs.declared.frame.Found.TheVariants.{At, Unknown, Second}
 
 -- the kind of the child of a position
 pub kind_is : (cs : List Child) (i : ℕ) (row : Child) → at_position cs i ≡ Some row → at_position (kinds_of cs) i ≡ Some row.kind
@@ -60,6 +66,9 @@ module _ {M X : Type 0} (plan : Plan) (kinds : List Kind) (kinds_are : kinds ≡
         by (whole k) s = absurd s
     child_waits (Some x) is kept h row v p d b held at t = absurd (let wrong : Some x ≡ None = is in cc)
 
+    puts_row : (i : ℕ) (t : Tree) (row : Child) → at_position plan.children i ≡ Some row → Puts plan.children i t ts us → us ≡ stored row.place row.field t ts
+    puts_row i t row h puts = subst (λ (o : Option Child). IfSome o (λ (row : Child). us ≡ stored row.place row.field t ts)) h puts
+
     -- it has ended
     pub child_put : (o : Option X) (x : X) (source : X → ℕ) → o ≡ Some x → source x ≡ position m → Puts plan.children (source x) (tree x) ts us → ((k : Kind) → at_position kinds (position m) ≡ Some k → StepsAs holds tree k m m' place event (Ok o)) → StepsChild (reads_child plan position holds) ts us m m' place event (Ok true)
     child_put None x source is from puts h row v p d b held at t = absurd (let wrong : None ≡ Some x = is in cc)
@@ -67,7 +76,7 @@ module _ {M X : Type 0} (plan : Plan) (kinds : List Kind) (kinds_are : kinds ≡
       where
         by : (z : Next) → Steps (λ o. holds m' v p d o) tree (λ k. xread k v row.kind p d) p z (Ok (Some x)) → StepsRow (λ o. Held m' row v p d o) row (λ k. xread k v row.kind p d) p ts us z (Ok true)
         by (still o) s = absurd s
-        by (whole k) s = (tree x, s, puts row (ap (λ i. at_position plan.children i) from ∙ held.0))
+        by (whole k) s = (tree x, s, puts_row (source x) (tree x) row (ap (λ i. at_position plan.children i) from ∙ held.0) puts)
 
     -- it is refused
     pub child_refused : (e : XmlReadError) → ((k : Kind) → at_position kinds (position m) ≡ Some k → StepsAs holds tree k m m' place event (Err e)) → StepsChild (reads_child plan position holds) ts us m m' place event (Err e)

@@ -24,7 +24,7 @@ use Rattle.cdx_machine.specs.declared.frame.Inside.{Inside}
 use Rattle.cdx_machine.specs.Begun.{Begun, innermost, around, Next, still, whole, count, levels, start_name, ended_now, into, next_inside, next, TakesInside, Takes, lone}
 use Rattle.cdx_machine.specs.Machines.{Refuses, ChildHolding}
 use Rattle.cdx_machine.specs.Frames.{IsSkipped, EntersAt, Skips, SkipsOne}
-use Rattle.cdx_machine.specs.Several.{FindsAt, FindsSecond}
+use Rattle.cdx_machine.proofs.Names.{FindsAt, FindsSecond}
 use Rattle.cdx_machine.proofs.Faults.{refuses_on, refuses_known}
 
 -- ---- names

@@ -1,6 +1,7 @@
 pub mod Places
 pub mod Faults
 pub mod Contents
+pub mod Names
 pub mod Frames
 pub mod FrameSteps
 pub mod Children
@@ -8,3 +9,4 @@ pub mod Heard
 pub mod Feeding
 pub mod Several
 pub mod Listing
+pub mod Named

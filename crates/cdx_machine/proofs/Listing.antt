@@ -1,6 +1,6 @@
 -- The items of a list.
 use Rattle.std.proofs.Common.{◌≡◌, ℕ, zero, suc, List, [], ◌∷◌, ◌++◌, Bool, true, false, Option, Some, None, Result, Ok, Err, refl, sym, ap, ◌∙◌, subst}
-use Rattle.std.specs.Prelude.{if◌then◌else◌, ◌&&◌, OnOk}
+use Rattle.std.specs.Prelude.{if◌then◌else◌, ◌&&◌, OnOk, IfSome}
 use Rattle.std.specs.Str.{bytes_eq}
 use Rattle.cdx_models.specs.declared.bom.SpecVersion.{SpecVersion}
 use Rattle.cdx_models.specs.declared.bom.SpecVersion.TheVariants.{V1_3, V1_4, V1_5}
@@ -12,9 +12,9 @@ use Rattle.cdx_schema.specs.XmlReading.{Plan, Child, all, appended, find_child, 
 use Rattle.std.specs.declared.alloc.AllocError.{AllocError}
 use Rattle.cdx_leaf.specs.Trees.{collected}
 use Rattle.cdx_leaf.proofs.ChildSteps.{collected_more}
-use Rattle.cdx_machine.proofs.Several.{some_same}
 use Rattle.cdx_machine.specs.Records.{items_slots}
-use Rattle.cdx_machine.specs.Several.{at_position, FindsAt, Puts}
+use Rattle.cdx_machine.specs.Several.{at_position, found_from, Puts}
+use Rattle.cdx_machine.specs.declared.frame.Found.TheVariants.{At, Unknown}
 
 known_all : (v : SpecVersion) → knows V1_3 v ≡ true
 known_all V1_3 = refl
@@ -22,23 +22,16 @@ known_all V1_4 = refl
 known_all V1_5 = refl
 
 module _ (l : Lists) (one_name : plan_of_list l ≡ list_plan l) where
-  abbrev the_item : Child
-  the_item = record { name = (list l).name; since = V1_3; kind = (list l).kind; field = 0; place = all }
+  pub item_found : (ts : Trees) (v : SpecVersion) (s : List ℕ) → bytes_eq s (list l).name ≡ true → At 0 ≡ found_from 0 (plan_of_list l).children ts v s
+  item_found ts v s h =
+      sym (ap (λ p. found_from 0 p.children ts v s) one_name ∙ (ap (λ b. if b && knows V1_3 v then At 0 else Unknown) h ∙ ap (λ b. if b then At 0 else Unknown) (known_all v)))
 
-  pub item_found : (ts : Trees) (v : SpecVersion) (s : List ℕ) → bytes_eq s (list l).name ≡ true → FindsAt (plan_of_list l).children ts v s 0
-  item_found ts v s h = record {
-    row = the_item;
-    is_at = ap (λ p. at_position p.children 0) one_name;
-    found = ap (λ p. find_child v s p.children) one_name ∙ (ap (λ b. if b && knows V1_3 v then Some the_item else None) h ∙ ap (λ b. if b then Some the_item else None) (known_all v));
-    first_one = refl;
-  }
-
-  pub item_unknown : (v : SpecVersion) (s : List ℕ) → bytes_eq s (list l).name ≡ false → find_child v s (plan_of_list l).children ≡ None
-  item_unknown v s h = ap (λ p. find_child v s p.children) one_name ∙ ap (λ b. if b && knows V1_3 v then Some the_item else None) h
+  pub item_unknown : (ts : Trees) (v : SpecVersion) (s : List ℕ) → bytes_eq s (list l).name ≡ false → Unknown ≡ found_from 0 (plan_of_list l).children ts v s
+  item_unknown ts v s h = sym (ap (λ p. found_from 0 p.children ts v s) one_name ∙ ap (λ b. if b && knows V1_3 v then At 0 else Unknown) h)
 
   pub item_put : {X : Type 0} (f : X → Tree) (xs ys : List X) (x : X) (r : Result (Unit {0}) AllocError) → OnOk r (ys ≡ xs ++ x ∷ []) → OnOk r (Puts (plan_of_list l).children 0 (f x) (items_slots f xs) (items_slots f ys))
   item_put f xs ys x (Err e) h = h
-  item_put f xs ys x (Ok u) h = λ row is_at. subst (λ (c : Child). items_slots f ys ≡ stored c.place c.field (f x) (items_slots f xs)) (some_same (sym (ap (λ p. at_position p.children 0) one_name) ∙ is_at)) (ap (λ (t : Tree). one t) (ap (λ o. collected f o) h ∙ sym (collected_more f xs x)))
+  item_put f xs ys x (Ok u) h = subst (λ (p : Plan). IfSome (at_position p.children 0) (λ (row : Child). items_slots f ys ≡ stored row.place row.field (f x) (items_slots f xs))) (sym one_name) (ap (λ (t : Tree). one t) (ap (λ o. collected f o) h ∙ sym (collected_more f xs x)))
 
 pub list_ends : {X : Type 0} (f : X → Tree) (xs : List X) → list_of (collected f xs) ≡ list_tree f xs
 list_ends f [] = refl

@@ -16,7 +16,7 @@ use Rattle.cdx_machine.specs.Begun.{Begun, Next, still, whole, count, next, Take
 use Rattle.cdx_machine.specs.Machines.{Holding, StartsAs, Steps, StepsAs}
 use Rattle.cdx_machine.specs.Several.{at_position, IsThere, or_position, or_holds, or_tree}
 
-pub some_same : {A : Type 0} {x y : A} → Some x ≡ Some y → x ≡ y
+some_same : {A : Type 0} {x y : A} → Some x ≡ Some y → x ≡ y
 some_same {A = A} {x = x} h = ap (λ (o : Option A). the o) h
   where
     the : Option A → A

@@ -7,3 +7,4 @@ pub mod Records
 pub mod Heard
 pub mod Feeding
 pub mod Several
+pub mod Named

@@ -18,7 +18,7 @@ use Rattle.cdx_events.specs.Nodes.{element}
 use Rattle.cdx_schema.specs.Depth.{Depth}
 use Rattle.cdx_schema.specs.Nodes.{places_of}
 use Rattle.cdx_schema.specs.XmlTexts.{of_text}
-use Rattle.cdx_schema.specs.XmlReading.{simple_text, exact_text, parsed, attributes_read, in_force, ended, xread}
+use Rattle.cdx_schema.specs.XmlReading.{one_text_alone, content_from, content_read, simple_text, exact_text, parsed, attributes_read, in_force, ended, xread}
 use Rattle.cdx_leaf.proofs.Contents.{HasContent, content_is}
 use Rattle.cdx_schema.specs.Plain.{is_plain}
 use Rattle.cdx_schema.proofs.FaultPlaces.{ok_err, err_same, attributes_place}
@@ -114,6 +114,10 @@ record_content name i start has plain whole = record {
   last_place = λ el q c o f h. ok_err h;
 }
 
+-- the text that stands right in the element of a record, where there has to be one
+pub one_content : (name : Name) (i : ℕ) → content_from 0 (rows name) ≡ one_text_alone i → HasContent name i (λ nodes el q. exact_text nodes el q)
+one_content name i is e ts v d = ap (λ c. content_read c e name ts v d) is
+
 exact_is : {T : Type 0} (xs : Nodes) (el : List ℕ) (q : ℕ) (k : ℕ) (g : List ℕ → T) (last : Option (List ℕ) → Result T XmlReadError) → k ≡ q + places_of xs → last None ≡ Err (unexpected k el kinds.EndElement) → ((t : List ℕ) → last (Some t) ≡ Ok (g t))
     → (exact_text xs el q >>= λ t. Ok (g t)) ≡ (text_or_none xs el q >>= last)
 exact_is no_nodes el q k g last e h j = ap (λ z. Err (unexpected z el kinds.EndElement)) (at_end q) ∙ (ap (λ z. Err (unexpected z el kinds.EndElement)) (sym e) ∙ sym h)
@@ -126,10 +130,10 @@ exact_is (node x xs) el q k g last e h j = by (simple_text (node x xs) el q)
     by (Ok s) = sym (j s)
     by (Err f) = refl
 
-pub exact_content : {C : Type 0} (name : Name) (i : ℕ) (start : C → Trees) → HasContent name i (λ nodes el q. exact_text nodes el q) → is_plain name ≡ true
+pub exact_record_content : {C : Type 0} (name : Name) (i : ℕ) (start : C → Trees) → HasContent name i (λ nodes el q. exact_text nodes el q) → is_plain name ≡ true
     → ((c : C) (t : List ℕ) (v : SpecVersion) (el : List ℕ) (q : ℕ) → ended (rows name) (with_field i (text t) (start c)) v el q ≡ Ok (with_field i (text t) (start c)))
     → IsContent (a_record name) (attributes_first name) (exact_last name i) start
-exact_content name i start has plain whole = record {
+exact_record_content name i start has plain whole = record {
   begun = λ c n a s xs v p d h. record_begun name i start (λ nodes el q. exact_text nodes el q) has plain whole c n a s xs v p d h ∙ exact_is xs n.local_name (suc p) (suc (p + places_of xs)) (λ t. fields name (with_field i (text t) (start c))) (exact_last name i n.local_name (suc (p + places_of xs)) (start c)) (at_end p (places_of xs)) refl (λ t. refl);
   refused = record_refused name i start (λ nodes el q. exact_text nodes el q) has plain whole;
   first_place = λ el a v p f h. attributes_place (rows name) (in_force name a) v el p f h;

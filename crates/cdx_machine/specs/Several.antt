@@ -1,9 +1,11 @@
 -- Several machines in a row, and the children of a plan that they read.
-use Rattle.std.specs.Prelude.{◌≡◌, ℕ, zero, suc, List, [], ◌∷◌, true, false, Option, Some, None}
+use Rattle.std.specs.Prelude.{◌≡◌, ℕ, zero, suc, List, [], ◌∷◌, if◌then◌else◌, ◌&&◌, Option, Some, None, IfSome}
+use Rattle.std.specs.Str.{bytes_eq}
 use Rattle.cdx_models.specs.declared.bom.SpecVersion.{SpecVersion}
+use Rattle.cdx_models.specs.Versions.{knows}
 use Rattle.cdx_models.specs.Trees.{Tree, Trees, field}
 use Rattle.cdx_schema.specs.Kinds.{Kind}
-use Rattle.cdx_schema.specs.XmlReading.{Plan, Child, find_child, is_second, stored}
+use Rattle.cdx_schema.specs.XmlReading.{Plan, Child, is_second, stored}
 use Rattle.cdx_machine.specs.declared.frame.Found.{Found}
 use Rattle.cdx_machine.specs.declared.frame.Found.TheVariants.{At, Unknown, Second}
 use Rattle.cdx_machine.specs.declared.or.Or.{Or}
@@ -43,25 +45,11 @@ kinds_of (c ∷ cs) = c.kind ∷ kinds_of cs
 abbrev pub reads_child : {M : Type 0} → Plan → (M → ℕ) → Holding M → ChildHolding M
 reads_child plan position holds m row v p d o = (at_position plan.children (position m) ≡ Some row) × holds m v p d o
 
--- The child of this position has the name, and may stand there.
-pub record FindsAt (cs : List Child) (ts : Trees) (v : SpecVersion) (name : List ℕ) (i : ℕ) : Type 0 where
-  pub row : Child
-  pub is_at : at_position cs i ≡ Some row
-  pub found : find_child v name cs ≡ Some row
-  pub first_one : is_second row.place (field row.field ts) ≡ false
-
--- It is a second one where one may stand.
-pub record FindsSecond (cs : List Child) (ts : Trees) (v : SpecVersion) (name : List ℕ) : Type 0 where
-  pub row : Child
-  pub found : find_child v name cs ≡ Some row
-  pub second_one : is_second row.place (field row.field ts) ≡ true
-
--- What a name stands for among children, of which these fields were read.
-abbrev pub Finds : List Child → Trees → SpecVersion → List ℕ → Found → Type 0
-Finds cs ts v name (At i) = FindsAt cs ts v name i
-Finds cs ts v name Unknown = find_child v name cs ≡ None
-Finds cs ts v name Second = FindsSecond cs ts v name
+-- What a name stands for among children, the first of which has this position, where these fields were read.
+abbrev pub found_from : ℕ → List Child → Trees → SpecVersion → List ℕ → Found
+found_from i [] ts v name = Unknown
+found_from i (c ∷ cs) ts v name = if bytes_eq name c.name && knows c.since v then (if is_second c.place (field c.field ts) then Second else At i) else found_from (suc i) cs ts v name
 
 -- The fields with the tree of the child of this position.
 abbrev pub Puts : List Child → ℕ → Tree → Trees → Trees → Type 0
-Puts cs i t before now = (row : Child) → at_position cs i ≡ Some row → now ≡ stored row.place row.field t before
+Puts cs i t before now = IfSome (at_position cs i) (λ row. now ≡ stored row.place row.field t before)

@@ -101,6 +101,8 @@ impl<C: Content> Machine for ContentMachine<C> {
 
     type Value = C::Value;
 
+    ghost tree = { C.Value.tree };
+
     ghost kind = { C.kind };
 
     ghost holds = { λ m v p d o. content_holds C.first C.start m.name m.content m.text v p o };

@@ -10,7 +10,7 @@ use crate::machine::Machine;
 use crate::or::Machines;
 use cdx_events::{List, OwnedAttribute, OwnedName, XmlEvent};
 use cdx_leaf::{Rule, refuse};
-use cdx_models::{HasTree, SpecVersion, XmlReadError};
+use cdx_models::{SpecVersion, XmlReadError};
 use std::alloc::{AllocError, Global};
 
 /// What a child's name stands for.
@@ -38,20 +38,23 @@ pub enum Inside<C> {
 /// What is read child by child, while it is read: the fields so far.
 pub trait Frame: Drop {
     ghost use Rattle.std.specs.Prelude.{◌≡◌, ◌+◌, OnOk};
-    ghost use Rattle.cdx_models.specs.Trees.{Trees};
+    ghost use Rattle.cdx_models.specs.Trees.{Tree, Trees};
     ghost use Rattle.cdx_schema.specs.Kinds.{Kind};
     ghost use Rattle.cdx_schema.specs.XmlReading.{Plan};
     ghost use Rattle.cdx_leaf.specs.Attribute.{Gives};
     ghost use Rattle.cdx_leaf.specs.Rules.{as_rule};
     ghost use Rattle.cdx_machine.specs.Contents.{First};
     ghost use Rattle.cdx_machine.specs.Frames.{Last, IsFrame};
-    ghost use Rattle.cdx_machine.specs.Several.{kinds_of, Finds, Puts};
+    ghost use Rattle.cdx_machine.specs.Several.{kinds_of, found_from, Puts};
 
     /// What the element is read as.
-    type Value: HasTree + Drop;
+    type Value: Drop;
 
     /// The machines of its children, in the plan's order.
     type Child: Machines;
+
+    /// The tree of what it is read as.
+    ghost tree: { Self.Value → Tree };
 
     /// The kind.
     ghost kind: { Kind };
@@ -85,7 +88,7 @@ pub trait Frame: Drop {
 
     /// The child that `v` knows by the name.
     fn find(&self, v: SpecVersion, name: &OwnedName) -> Found
-        ensures { Finds plan.children (slots self.now) v name.now.local_name result };
+        ensures { result ≡ found_from 0 plan.children (slots self.now) v name.now.local_name };
 
     /// Puts what a child was read as into its field.
     fn put(
@@ -104,7 +107,7 @@ pub trait Frame: Drop {
         v: SpecVersion,
         element: &OwnedName,
     ) -> Result<Self::Value, XmlReadError>
-        ensures { Gives Self.Value.tree (place + 1)
+        ensures { Gives tree (place + 1)
             (last element.now.local_name v place (slots self)) result };
 
     // The machines read the kinds of the children.
@@ -200,6 +203,8 @@ impl<F: Frame> Machine for FrameMachine<F> {
     ghost use Rattle.cdx_machine.specs.Several.{reads_child};
 
     type Value = F::Value;
+
+    ghost tree = { F.tree };
 
     ghost kind = { F.kind };
 

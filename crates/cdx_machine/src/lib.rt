@@ -2,6 +2,7 @@
 //! and a text, of records and lists that are read child by child. The kinds themselves stand above.
 #![tactic(auto)]
 
+mod by_name;
 mod content;
 mod frame;
 mod lists;
@@ -12,12 +13,13 @@ mod record_text;
 mod records;
 mod texts;
 
+pub use by_name::{ByName, NamedMachine};
 pub use content::{Content, ContentMachine};
 pub use frame::{Found, Frame, FrameMachine, Inside};
 pub use lists::{Items, ListMachine, ListOf};
 pub use machine::Machine;
 pub use or::{Machines, NoMachine, Only, Or};
 pub use reading::read_by_machine;
-pub use record_text::{BegunText, TextRecordMachine};
+pub use record_text::{BegunExact, BegunText, ExactRecord, ExactRecordMachine, TextRecordMachine};
 pub use records::{BegunRecord, PushRecord, RecordMachine};
 pub use texts::{FlagMachine, PlainFlag, PlainText, TextMachine};

@@ -36,7 +36,7 @@ pub trait ListOf {
 
     /// The list of these items.
     fn from_items(items: List<<Self::Item as Machine>::Value>) -> Self::Value
-        ensures { Self.Value.tree result ≡ list_tree Self.Item.Value.tree items };
+        ensures { Self.Value.tree result ≡ list_tree Self.Item.tree items };
 
     // Its items have one name.
     ghost one_name: { plan_of_list list_name ≡ list_plan list_name };
@@ -64,6 +64,8 @@ impl<L: ListOf> Frame for Items<L> {
 
     type Child = Only<L::Item>;
 
+    ghost tree = { L.Value.tree };
+
     ghost kind = { a_list L.list_name };
 
     ghost plan = { plan_of_list L.list_name };
@@ -72,7 +74,7 @@ impl<L: ListOf> Frame for Items<L> {
 
     ghost last = { list_last };
 
-    ghost slots = { λ r. items_slots L.Item.Value.tree r.items };
+    ghost slots = { λ r. items_slots L.Item.tree r.items };
 
     ghost kinds = { item_kinds L.list_name L.Item.kind L.one_name L.item_kind };
 

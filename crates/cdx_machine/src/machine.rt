@@ -1,20 +1,24 @@
 //! Machines.
 
 use cdx_events::{List, OwnedAttribute, OwnedName, XmlEvent};
-use cdx_models::{HasTree, SpecVersion, XmlReadError};
+use cdx_models::{SpecVersion, XmlReadError};
 use std::alloc::Global;
 
 /// What reads one element of a kind, event by event.
 pub trait Machine: Drop {
     ghost use Rattle.std.specs.Prelude.{ℕ};
     ghost use Rattle.cdx_models.specs.declared.bom.SpecVersion.{SpecVersion};
+    ghost use Rattle.cdx_models.specs.Trees.{Tree};
     ghost use Rattle.cdx_schema.specs.Kinds.{Kind};
     ghost use Rattle.cdx_schema.specs.Depth.{Depth};
     ghost use Rattle.cdx_machine.specs.Begun.{Begun};
     ghost use Rattle.cdx_machine.specs.Machines.{Holding, StartsAs, CanStep, StepsAs};
 
     /// What the element is read as.
-    type Value: HasTree + Drop;
+    type Value: Drop;
+
+    /// The tree of what it is read as.
+    ghost tree: { Self.Value → Tree };
 
     /// The kind.
     ghost kind: { Kind };
@@ -36,5 +40,5 @@ pub trait Machine: Drop {
     /// through which the element has a fault; that is the fault, and it stands at this event.
     fn step(&mut self, place: usize, event: &XmlEvent) -> Result<Option<Self::Value>, XmlReadError>
         requires { CanStep holds self.old place event.now }
-        ensures { StepsAs holds Self.Value.tree kind self.old self.new place event.now result };
+        ensures { StepsAs holds tree kind self.old self.new place event.now result };
 }

@@ -2,7 +2,7 @@
 
 use crate::machine::Machine;
 use cdx_events::{List, OwnedAttribute, OwnedName, XmlEvent};
-use cdx_models::{HasTree, SpecVersion, XmlReadError};
+use cdx_models::{SpecVersion, XmlReadError};
 use std::alloc::Global;
 
 /// Several machines in a row, of which one runs.
@@ -86,7 +86,7 @@ impl<M: Machine, R: Machines> Machines for Or<M, R> {
 
     ghost source = { or_position R.source };
 
-    ghost tree = { or_tree M.Value.tree R.tree };
+    ghost tree = { or_tree M.tree R.tree };
 
     fn start(
         position: usize,
@@ -133,7 +133,7 @@ impl<M: Machine> Machines for Only<M> {
 
     ghost source = { λ x. 0 };
 
-    ghost tree = { M.Value.tree };
+    ghost tree = { M.tree };
 
     fn start(
         _position: usize,
@@ -184,7 +184,11 @@ impl Machines for NoMachine {
         unreachable!()
     }
 
-    fn step(&mut self, _place: usize, _event: &XmlEvent) -> Result<Option<NoMachine>, XmlReadError> {
+    fn step(
+        &mut self,
+        _place: usize,
+        _event: &XmlEvent,
+    ) -> Result<Option<NoMachine>, XmlReadError> {
         unreachable!()
     }
 }

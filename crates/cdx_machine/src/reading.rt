@@ -18,7 +18,7 @@ pub fn read_by_machine<M: Machine>(
 ) -> Result<M::Value, XmlReadError>
     requires inside { IsIn reader.old element.now }
     requires kind { IsNoBill M.kind }
-    ensures { ReadsAs M.Value.tree reader.old reader.new element.now attributes.now v M.kind
+    ensures { ReadsAs M.tree reader.old reader.new element.now attributes.now v M.kind
         (λ d. d) result }
 {
     let mut machine = M::start(alloc, reader.place() - 1, v, element, attributes)?;

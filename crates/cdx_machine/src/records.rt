@@ -11,7 +11,7 @@ use std::alloc::{AllocError, Global};
 pub trait PushRecord {
     ghost use Rattle.std.specs.Prelude.{◌≡◌, OnOk};
     ghost use Rattle.cdx_schema.specs.XmlReading.{record_plan};
-    ghost use Rattle.cdx_machine.specs.Several.{kinds_of, Finds, Puts};
+    ghost use Rattle.cdx_machine.specs.Several.{kinds_of, found_from, Puts};
 
     /// The record.
     type Record: XmlRecord;
@@ -21,8 +21,8 @@ pub trait PushRecord {
 
     /// The child that `v` knows by the name.
     fn find(part: &<Self::Record as XmlRecord>::Part, v: SpecVersion, name: &OwnedName) -> Found
-        ensures { Finds (record_plan Self.Record.name).children (Self.Record.Part.slots part.now) v
-            name.now.local_name result };
+        ensures { result ≡ found_from 0 (record_plan Self.Record.name).children
+            (Self.Record.Part.slots part.now) v name.now.local_name };
 
     /// Puts what a child was read as into its field.
     fn put(
@@ -56,6 +56,8 @@ impl<K: PushRecord> Frame for BegunRecord<K> {
     type Value = K::Record;
 
     type Child = K::Child;
+
+    ghost tree = { K.Record.tree };
 
     ghost kind = { a_record K.Record.name };
 

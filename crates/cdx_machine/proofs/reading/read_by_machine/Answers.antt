@@ -11,7 +11,7 @@ pub returns-in_err-machine : goal.returns-in_err-machine
 returns-in_err-machine g c = λ d s p nodes rest st.
     let q = err_from_is_err_and c.from_residual.result c.from_residual.ensures.1 in
     let e = c.in_err-machine.field-0.0 in
-    rw (q.1, q.2) (feeds_refused g.M.Machine.holds g.M.Value.HasTree.tree g.M.Machine.kind c.args.v c.args.element.now c.args.attributes.now s p nodes rest d c.args.reader.now (after c.args.reader.now nodes rest) e c.requires.kind st
+    rw (q.1, q.2) (feeds_refused g.M.Machine.holds g.M.Machine.tree g.M.Machine.kind c.args.v c.args.element.now c.args.attributes.now s p nodes rest d c.args.reader.now (after c.args.reader.now nodes rest) e c.requires.kind st
     (subst (λ i. StartsAs g.M.Machine.holds g.M.Machine.kind c.args.v i c.args.element.now c.args.attributes.now (Err e)) (start_is c.args.reader.now.place c.place.result p (sym c.place.ensures) st.place) c.in_err-machine.ensures))
 
 pub events-init : goal.events-init
@@ -38,20 +38,20 @@ returns-in_err-value g c = λ d s p nodes rest st.
     let q = err_from_is_err_and c.from_residual-in_err-value.result c.from_residual-in_err-value.ensures.1 in
     let f = c.events.invariant.fed d s p nodes rest st in
     let t = c.in-Some.ensures.takes in
-    rw (q.1, q.2) (feeds_fails g.M.Machine.holds g.M.Value.HasTree.tree g.M.Machine.kind c.args.v c.args.element.now c.args.attributes.now s p nodes rest d c.args.reader.now c.events.reader c.next.new.self c.in-Some.event.now t.0 t.1 c.events.machine c.step.new.self c.place-place.result f st c.place-place.ensures (after c.args.reader.now nodes rest) c.in_err-value.field-0.0 c.requires.kind c.in_err-value.ensures)
+    rw (q.1, q.2) (feeds_fails g.M.Machine.holds g.M.Machine.tree g.M.Machine.kind c.args.v c.args.element.now c.args.attributes.now s p nodes rest d c.args.reader.now c.events.reader c.next.new.self c.in-Some.event.now t.0 t.1 c.events.machine c.step.new.self c.place-place.result f st c.place-place.ensures (after c.args.reader.now nodes rest) c.in_err-value.field-0.0 c.requires.kind c.in_err-value.ensures)
 
 pub returns-in-Some-2 : goal.returns-in-Some-2
 returns-in-Some-2 g c = λ d s p nodes rest st.
     let f = c.events.invariant.fed d s p nodes rest st in
     let t = c.in-Some.ensures.takes in
-    feeds_done g.M.Machine.holds g.M.Value.HasTree.tree g.M.Machine.kind c.args.v c.args.element.now c.args.attributes.now s p nodes rest d c.args.reader.now c.events.reader c.next.new.self c.in-Some.event.now t.0 t.1 c.events.machine c.step.new.self c.place-place.result f st c.place-place.ensures c.in-Some-2.value
-    (subst (λ r. StepsAs g.M.Machine.holds g.M.Value.HasTree.tree g.M.Machine.kind c.events.machine c.step.new.self c.place-place.result c.in-Some.event.now (Ok r)) c.in-Some-2.is c.in_ok-value.ensures)
+    feeds_done g.M.Machine.holds g.M.Machine.tree g.M.Machine.kind c.args.v c.args.element.now c.args.attributes.now s p nodes rest d c.args.reader.now c.events.reader c.next.new.self c.in-Some.event.now t.0 t.1 c.events.machine c.step.new.self c.place-place.result f st c.place-place.ensures c.in-Some-2.value
+    (subst (λ r. StepsAs g.M.Machine.holds g.M.Machine.tree g.M.Machine.kind c.events.machine c.step.new.self c.place-place.result c.in-Some.event.now (Ok r)) c.in-Some-2.is c.in_ok-value.ensures)
 
 pub events-preserved : goal.events-preserved
 events-preserved g c = record {
   fed = λ d s p nodes rest st.
       let f = c.events.invariant.fed d s p nodes rest st in
       let t = c.in-Some.ensures.takes in
-      feeds_on g.M.Machine.holds c.args.v c.args.element.now c.args.attributes.now s p nodes rest d c.events.reader c.next.new.self c.in-Some.event.now t.0 t.1 g.M.Value.HasTree.tree g.M.Machine.kind c.events.machine c.step.new.self c.place-place.result f c.place-place.ensures
-      (subst (λ r. StepsAs g.M.Machine.holds g.M.Value.HasTree.tree g.M.Machine.kind c.events.machine c.step.new.self c.place-place.result c.in-Some.event.now (Ok r)) c.in_default-2.is c.in_ok-value.ensures);
+      feeds_on g.M.Machine.holds c.args.v c.args.element.now c.args.attributes.now s p nodes rest d c.events.reader c.next.new.self c.in-Some.event.now t.0 t.1 g.M.Machine.tree g.M.Machine.kind c.events.machine c.step.new.self c.place-place.result f c.place-place.ensures
+      (subst (λ r. StepsAs g.M.Machine.holds g.M.Machine.tree g.M.Machine.kind c.events.machine c.step.new.self c.place-place.result c.in-Some.event.now (Ok r)) c.in_default-2.is c.in_ok-value.ensures);
 }

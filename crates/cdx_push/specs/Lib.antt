@@ -1,0 +1,2 @@
+pub mod ListNames
+pub mod RecordKinds
