@@ -11,7 +11,7 @@ use Rattle.cdx_schema.specs.Table.{list}
 use Rattle.cdx_schema.specs.XmlReading.{Plan, Child, all, appended, find_child, stored, list_plan, plan_of_list, list_of}
 use Rattle.std.specs.declared.alloc.AllocError.{AllocError}
 use Rattle.cdx_leaf.specs.Trees.{collected}
-use Rattle.cdx_leaf.proofs.ChildSteps.{collected_more}
+use Rattle.cdx_machine.proofs.Names.{push_put}
 use Rattle.cdx_machine.specs.Records.{items_slots}
 use Rattle.cdx_machine.specs.Several.{at_position, found_from, Puts}
 use Rattle.cdx_machine.specs.declared.frame.Found.TheVariants.{At, Unknown}
@@ -30,8 +30,7 @@ module _ (l : Lists) (one_name : plan_of_list l ≡ list_plan l) where
   item_unknown ts v s h = sym (ap (λ p. found_from 0 p.children ts v s) one_name ∙ ap (λ b. if b && knows V1_3 v then At 0 else Unknown) h)
 
   pub item_put : {X : Type 0} (f : X → Tree) (xs ys : List X) (x : X) (r : Result (Unit {0}) AllocError) → OnOk r (ys ≡ xs ++ x ∷ []) → OnOk r (Puts (plan_of_list l).children 0 (f x) (items_slots f xs) (items_slots f ys))
-  item_put f xs ys x (Err e) h = h
-  item_put f xs ys x (Ok u) h = subst (λ (p : Plan). IfSome (at_position p.children 0) (λ (row : Child). items_slots f ys ≡ stored row.place row.field (f x) (items_slots f xs))) (sym one_name) (ap (λ (t : Tree). one t) (ap (λ o. collected f o) h ∙ sym (collected_more f xs x)))
+  item_put f xs ys x r h = subst (λ (p : Plan). OnOk r (IfSome (at_position p.children 0) (λ (row : Child). items_slots f ys ≡ stored row.place row.field (f x) (items_slots f xs)))) (sym one_name) (push_put f (λ t. one t) xs ys x r h)
 
 pub list_ends : {X : Type 0} (f : X → Tree) (xs : List X) → list_of (collected f xs) ≡ list_tree f xs
 list_ends f [] = refl

@@ -1,6 +1,6 @@
 -- Children by their names, and what their values become.
 use Rattle.std.proofs.Common.{◌≡◌, ℕ, zero, suc, ◌+◌, List, [], ◌∷◌, ◌++◌, Bool, true, false, Option, Some, None, Result, Ok, Err, refl, sym, ap, ◌∙◌, subst, arith}
-use Rattle.std.specs.Prelude.{IfSome, if◌then◌else◌, ◌&&◌, unwrap_or}
+use Rattle.std.specs.Prelude.{IfSome, OnOk, if◌then◌else◌, ◌&&◌, unwrap_or}
 use Rattle.std.specs.Str.{bytes_eq}
 use Rattle.cdx_models.specs.Versions.{knows}
 use Rattle.cdx_events.specs.declared.event.XmlEvent.{XmlEvent}
@@ -8,7 +8,9 @@ use Rattle.cdx_models.specs.declared.bom.SpecVersion.{SpecVersion}
 use Rattle.cdx_models.specs.declared.errors.XmlReadError.{XmlReadError}
 use Rattle.cdx_models.specs.Trees.{Tree, Trees, field, present, list_tree}
 use Rattle.cdx_schema.proofs.JsonBack.{same_itself}
-use Rattle.cdx_leaf.proofs.ChildSteps.{pushed}
+use Rattle.std.specs.declared.alloc.AllocError.{AllocError}
+use Rattle.cdx_leaf.specs.Trees.{collected}
+use Rattle.cdx_leaf.proofs.ChildSteps.{pushed, collected_more}
 use Rattle.cdx_schema.specs.Depth.{Depth}
 use Rattle.cdx_schema.specs.Kinds.{Kind}
 use Rattle.cdx_schema.specs.XmlReading.{Plan, Child, appended, find_child, is_second, stored, xread}
@@ -89,3 +91,8 @@ same_name s t is = ap (λ x. bytes_eq x t) is ∙ same_itself t
 -- one item more in a list that may not be there yet
 pub more_put : {X : Type 0} (f : X → Tree) (old new : Option (List X)) (x : X) → new ≡ Some (unwrap_or old [] ++ x ∷ []) → present (list_tree f) new ≡ appended (present (list_tree f) old) (f x)
 more_put f old new x is = ap (λ o. present (list_tree f) o) is ∙ sym (pushed f old x)
+
+-- one item more in a list, which stands somewhere among the fields
+pub push_put : {X : Type 0} (f : X → Tree) (into : Tree → Trees) (xs ys : List X) (x : X) (r : Result (Unit {0}) AllocError) → OnOk r (ys ≡ xs ++ x ∷ []) → OnOk r (into (collected f ys) ≡ into (appended (collected f xs) (f x)))
+push_put f into xs ys x (Err e) h = h
+push_put f into xs ys x (Ok u) h = ap into (ap (λ o. collected f o) h ∙ sym (collected_more f xs x))

@@ -5,6 +5,7 @@
 mod by_name;
 mod content;
 mod frame;
+mod listener;
 mod lists;
 mod machine;
 mod or;
@@ -16,6 +17,7 @@ mod texts;
 pub use by_name::{ByName, NamedMachine};
 pub use content::{Content, ContentMachine};
 pub use frame::{Found, Frame, FrameMachine, Inside};
+pub use listener::{Holds, Listener};
 pub use lists::{Items, ListMachine, ListOf};
 pub use machine::Machine;
 pub use or::{Machines, NoMachine, Only, Or};

@@ -5,13 +5,12 @@ use crate::machine::Machine;
 use crate::or::Only;
 use cdx_events::{List, OwnedAttribute, OwnedName};
 use cdx_leaf::Rule;
-use cdx_models::{HasTree, SpecVersion, XmlReadError};
+use cdx_models::{SpecVersion, XmlReadError};
 use std::alloc::{AllocError, Global};
 
 /// A list of the schema, whose items are elements of one name.
 pub trait ListOf {
     ghost use Rattle.std.specs.Prelude.{◌≡◌};
-    ghost use Rattle.cdx_models.specs.Trees.{list_tree};
     ghost use Rattle.cdx_schema.specs.Kinds.{Lists};
     ghost use Rattle.cdx_schema.specs.Table.{list};
     ghost use Rattle.cdx_schema.specs.XmlReading.{list_plan, plan_of_list};
@@ -19,9 +18,6 @@ pub trait ListOf {
 
     /// The machine of an item.
     type Item: Machine;
-
-    /// The list.
-    type Value: HasTree + Drop;
 
     /// The list in the schema.
     ghost list_name: { Lists };
@@ -33,10 +29,6 @@ pub trait ListOf {
     /// What becomes of what is no item.
     fn rule() -> Rule
         ensures { (list list_name).rule ≡ as_rule result };
-
-    /// The list of these items.
-    fn from_items(items: List<<Self::Item as Machine>::Value>) -> Self::Value
-        ensures { Self.Value.tree result ≡ list_tree Self.Item.tree items };
 
     // Its items have one name.
     ghost one_name: { plan_of_list list_name ≡ list_plan list_name };
@@ -55,16 +47,17 @@ pub struct Items<L: ListOf> {
 pub type ListMachine<L> = FrameMachine<Items<L>>;
 
 impl<L: ListOf> Frame for Items<L> {
+    ghost use Rattle.cdx_models.specs.Trees.{list_tree};
     ghost use Rattle.cdx_schema.specs.Kinds.{a_list};
     ghost use Rattle.cdx_schema.specs.XmlReading.{plan_of_list};
     ghost use Rattle.cdx_machine.specs.Records.{list_first, list_last, list_frame, items_slots};
     ghost use Rattle.cdx_machine.specs.Records.{item_kinds};
 
-    type Value = L::Value;
+    type Value = List<<L::Item as Machine>::Value>;
 
     type Child = Only<L::Item>;
 
-    ghost tree = { L.Value.tree };
+    ghost tree = { list_tree L.Item.tree };
 
     ghost kind = { a_list L.list_name };
 
@@ -117,7 +110,7 @@ impl<L: ListOf> Frame for Items<L> {
         _place: usize,
         _v: SpecVersion,
         _element: &OwnedName,
-    ) -> Result<L::Value, XmlReadError> {
-        Ok(L::from_items(self.items))
+    ) -> Result<List<<L::Item as Machine>::Value>, XmlReadError> {
+        Ok(self.items)
     }
 }

@@ -1,7 +1,8 @@
 //! Elements that are a text, or a boolean.
 
 use crate::content::{Content, ContentMachine};
-use cdx_events::{List, OwnedAttribute, OwnedName, Text};
+use crate::machine::Machine;
+use cdx_events::{List, OwnedAttribute, OwnedName, Text, XmlEvent};
 use cdx_leaf::FromXmlType;
 use cdx_models::{SpecVersion, XmlReadError};
 use std::alloc::Global;
@@ -15,10 +16,74 @@ pub struct PlainText;
 pub struct PlainFlag;
 
 /// The machine of a text.
-pub type TextMachine = ContentMachine<PlainText>;
+#[derive(Drop)]
+pub struct TextMachine {
+    machine: ContentMachine<PlainText>,
+}
+
+impl Machine for TextMachine {
+    ghost use Rattle.cdx_models.specs.Trees.{text};
+    ghost use Rattle.cdx_schema.specs.Kinds.{a_text};
+
+    type Value = Text;
+
+    ghost tree = { text };
+
+    ghost kind = { a_text };
+
+    ghost holds = { λ m. ⟦<ContentMachine<PlainText> as Machine>⟧.holds m.machine };
+
+    fn start(
+        alloc: Global,
+        place: usize,
+        v: SpecVersion,
+        element: &OwnedName,
+        attributes: &List<OwnedAttribute>,
+    ) -> Result<TextMachine, XmlReadError> {
+        Ok(TextMachine {
+            machine: ContentMachine::<PlainText>::start(alloc, place, v, element, attributes)?,
+        })
+    }
+
+    fn step(&mut self, place: usize, event: &XmlEvent) -> Result<Option<Text>, XmlReadError> {
+        self.machine.step(place, event)
+    }
+}
 
 /// The machine of a boolean.
-pub type FlagMachine = ContentMachine<PlainFlag>;
+#[derive(Drop)]
+pub struct FlagMachine {
+    machine: ContentMachine<PlainFlag>,
+}
+
+impl Machine for FlagMachine {
+    ghost use Rattle.cdx_models.specs.Trees.{boolean};
+    ghost use Rattle.cdx_schema.specs.Kinds.{a_boolean};
+
+    type Value = bool;
+
+    ghost tree = { boolean };
+
+    ghost kind = { a_boolean };
+
+    ghost holds = { λ m. ⟦<ContentMachine<PlainFlag> as Machine>⟧.holds m.machine };
+
+    fn start(
+        alloc: Global,
+        place: usize,
+        v: SpecVersion,
+        element: &OwnedName,
+        attributes: &List<OwnedAttribute>,
+    ) -> Result<FlagMachine, XmlReadError> {
+        Ok(FlagMachine {
+            machine: ContentMachine::<PlainFlag>::start(alloc, place, v, element, attributes)?,
+        })
+    }
+
+    fn step(&mut self, place: usize, event: &XmlEvent) -> Result<Option<bool>, XmlReadError> {
+        self.machine.step(place, event)
+    }
+}
 
 impl Content for PlainText {
     ghost use Rattle.cdx_schema.specs.Kinds.{a_text};

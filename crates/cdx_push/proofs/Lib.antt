@@ -1,1 +1,2 @@
 pub mod OnRows
+pub mod Signing

@@ -1,2 +1,8 @@
 pub mod ListNames
 pub mod RecordKinds
+pub mod Exact
+pub mod BomReferences
+pub mod Signatures
+pub mod Choices
+pub mod ServiceData
+pub mod Leaf

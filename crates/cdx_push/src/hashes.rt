@@ -1,33 +1,64 @@
 //! Hashes and properties.
 
-use cdx_events::List;
+use cdx_events::{List, OwnedAttribute, OwnedName, XmlEvent};
 use cdx_leaf::Rule;
-use cdx_machine::{ListMachine, ListOf, TextRecordMachine};
-use cdx_models::{Hash, Hashes, Properties, Property};
+use cdx_machine::{ListMachine, ListOf, Machine, TextRecordMachine};
+use cdx_models::{Hash, Hashes, Properties, Property, SpecVersion, XmlReadError};
+use std::alloc::Global;
 
 /// Hashes as a list.
 pub struct HashList;
 
 /// The machine of hashes.
-pub type HashesMachine = ListMachine<HashList>;
+#[derive(Drop)]
+pub struct HashesMachine {
+    machine: ListMachine<HashList>,
+}
+
+impl Machine for HashesMachine {
+    ghost use Rattle.cdx_models.specs.Records.{hashes_tree};
+    ghost use Rattle.cdx_schema.specs.Kinds.{a_list, hashes};
+
+    type Value = Hashes;
+
+    ghost tree = { hashes_tree };
+
+    ghost kind = { a_list hashes };
+
+    ghost holds = { λ m. ⟦<ListMachine<HashList> as Machine>⟧.holds m.machine };
+
+    fn start(
+        alloc: Global,
+        place: usize,
+        v: SpecVersion,
+        element: &OwnedName,
+        attributes: &List<OwnedAttribute>,
+    ) -> Result<HashesMachine, XmlReadError> {
+        Ok(HashesMachine {
+            machine: ListMachine::<HashList>::start(alloc, place, v, element, attributes)?,
+        })
+    }
+
+    fn step(&mut self, place: usize, event: &XmlEvent) -> Result<Option<Hashes>, XmlReadError> {
+        match self.machine.step(place, event)? {
+            Some(items) => Ok(Some(Hashes(items))),
+            None => Ok(None),
+        }
+    }
+}
 
 #[tactic(auto, unfolding(crate::proofs::OnRows::on_rows), using(crate::proofs::OnRows::by_rows))]
 impl ListOf for HashList {
     ghost use Rattle.cdx_schema.specs.Kinds.{hashes};
-    ghost use Rattle.std.specs.Prelude.{◌≡◌};
-    ghost use Rattle.cdx_models.specs.Trees.{list_tree};
-    ghost use Rattle.cdx_models.specs.Records.{hash_tree, hashes_tree};
-    ghost use Rattle.cdx_push.specs.ListNames.{hashes_named, hash_kind};
+    ghost use Rattle.cdx_push.specs.ListNames.{hashes_named, hashes_item};
 
     type Item = TextRecordMachine<Hash>;
-
-    type Value = Hashes;
 
     ghost list_name = { hashes };
 
     ghost one_name = { hashes_named };
 
-    ghost item_kind = { hash_kind };
+    ghost item_kind = { hashes_item };
 
     fn inner() -> &'static str {
         "hash"
@@ -36,37 +67,61 @@ impl ListOf for HashList {
     fn rule() -> Rule {
         Rule::Strict
     }
-
-    fn from_items(items: List<Hash>) -> Hashes
-        ensures { hashes_tree result ≡ list_tree hash_tree items }
-    {
-        Hashes(items)
-    }
 }
 
 /// Properties as a list.
 pub struct PropertyList;
 
 /// The machine of properties.
-pub type PropertiesMachine = ListMachine<PropertyList>;
+#[derive(Drop)]
+pub struct PropertiesMachine {
+    machine: ListMachine<PropertyList>,
+}
+
+impl Machine for PropertiesMachine {
+    ghost use Rattle.cdx_models.specs.Records.{properties_tree};
+    ghost use Rattle.cdx_schema.specs.Kinds.{a_list, properties};
+
+    type Value = Properties;
+
+    ghost tree = { properties_tree };
+
+    ghost kind = { a_list properties };
+
+    ghost holds = { λ m. ⟦<ListMachine<PropertyList> as Machine>⟧.holds m.machine };
+
+    fn start(
+        alloc: Global,
+        place: usize,
+        v: SpecVersion,
+        element: &OwnedName,
+        attributes: &List<OwnedAttribute>,
+    ) -> Result<PropertiesMachine, XmlReadError> {
+        Ok(PropertiesMachine {
+            machine: ListMachine::<PropertyList>::start(alloc, place, v, element, attributes)?,
+        })
+    }
+
+    fn step(&mut self, place: usize, event: &XmlEvent) -> Result<Option<Properties>, XmlReadError> {
+        match self.machine.step(place, event)? {
+            Some(items) => Ok(Some(Properties(items))),
+            None => Ok(None),
+        }
+    }
+}
 
 #[tactic(auto, unfolding(crate::proofs::OnRows::on_rows), using(crate::proofs::OnRows::by_rows))]
 impl ListOf for PropertyList {
     ghost use Rattle.cdx_schema.specs.Kinds.{properties};
-    ghost use Rattle.std.specs.Prelude.{◌≡◌};
-    ghost use Rattle.cdx_models.specs.Trees.{list_tree};
-    ghost use Rattle.cdx_models.specs.Records.{property_tree, properties_tree};
-    ghost use Rattle.cdx_push.specs.ListNames.{properties_named, property_kind};
+    ghost use Rattle.cdx_push.specs.ListNames.{properties_named, properties_item};
 
     type Item = TextRecordMachine<Property>;
-
-    type Value = Properties;
 
     ghost list_name = { properties };
 
     ghost one_name = { properties_named };
 
-    ghost item_kind = { property_kind };
+    ghost item_kind = { properties_item };
 
     fn inner() -> &'static str {
         "property"
@@ -74,11 +129,5 @@ impl ListOf for PropertyList {
 
     fn rule() -> Rule {
         Rule::Lax
-    }
-
-    fn from_items(items: List<Property>) -> Properties
-        ensures { properties_tree result ≡ list_tree property_tree items }
-    {
-        Properties(items)
     }
 }

@@ -1,16 +1,49 @@
 //! Organizations and their contacts.
 
-use cdx_events::{List, OwnedName, Text};
+use cdx_events::{List, OwnedAttribute, OwnedName, Text, XmlEvent};
 use cdx_leaf::{Rule, push_into};
-use cdx_machine::{Found, ListMachine, ListOf, Only, Or, PushRecord, RecordMachine, TextMachine};
-use cdx_models::{OrganizationalContact, OrganizationalEntity, SpecVersion};
+use cdx_machine::{Found, ListMachine, ListOf, Machine, Only, Or, PushRecord, RecordMachine, TextMachine};
+use cdx_models::{OrganizationalContact, OrganizationalEntity, SpecVersion, XmlReadError};
 use std::alloc::{AllocError, Global};
 
 /// The children of a contact.
 pub struct ContactChildren;
 
 /// The machine of a contact.
-pub type ContactMachine = RecordMachine<ContactChildren>;
+#[derive(Drop)]
+pub struct ContactMachine {
+    machine: RecordMachine<ContactChildren>,
+}
+
+impl Machine for ContactMachine {
+    ghost use Rattle.cdx_models.specs.Trees.{contact};
+    ghost use Rattle.cdx_models.specs.Records.{contact_tree};
+    ghost use Rattle.cdx_schema.specs.Kinds.{a_record};
+
+    type Value = OrganizationalContact;
+
+    ghost tree = { contact_tree };
+
+    ghost kind = { a_record contact };
+
+    ghost holds = { λ m. ⟦<RecordMachine<ContactChildren> as Machine>⟧.holds m.machine };
+
+    fn start(
+        alloc: Global,
+        place: usize,
+        v: SpecVersion,
+        element: &OwnedName,
+        attributes: &List<OwnedAttribute>,
+    ) -> Result<ContactMachine, XmlReadError> {
+        Ok(ContactMachine {
+            machine: RecordMachine::<ContactChildren>::start(alloc, place, v, element, attributes)?,
+        })
+    }
+
+    fn step(&mut self, place: usize, event: &XmlEvent) -> Result<Option<OrganizationalContact>, XmlReadError> {
+        self.machine.step(place, event)
+    }
+}
 
 #[tactic(auto, unfolding(crate::proofs::OnRows::on_rows), using(crate::proofs::OnRows::by_rows))]
 impl PushRecord for ContactChildren {
@@ -49,7 +82,40 @@ impl PushRecord for ContactChildren {
 pub struct EntityChildren;
 
 /// The machine of an entity.
-pub type EntityMachine = RecordMachine<EntityChildren>;
+#[derive(Drop)]
+pub struct EntityMachine {
+    machine: RecordMachine<EntityChildren>,
+}
+
+impl Machine for EntityMachine {
+    ghost use Rattle.cdx_models.specs.Trees.{entity};
+    ghost use Rattle.cdx_models.specs.Records.{entity_tree};
+    ghost use Rattle.cdx_schema.specs.Kinds.{a_record};
+
+    type Value = OrganizationalEntity;
+
+    ghost tree = { entity_tree };
+
+    ghost kind = { a_record entity };
+
+    ghost holds = { λ m. ⟦<RecordMachine<EntityChildren> as Machine>⟧.holds m.machine };
+
+    fn start(
+        alloc: Global,
+        place: usize,
+        v: SpecVersion,
+        element: &OwnedName,
+        attributes: &List<OwnedAttribute>,
+    ) -> Result<EntityMachine, XmlReadError> {
+        Ok(EntityMachine {
+            machine: RecordMachine::<EntityChildren>::start(alloc, place, v, element, attributes)?,
+        })
+    }
+
+    fn step(&mut self, place: usize, event: &XmlEvent) -> Result<Option<OrganizationalEntity>, XmlReadError> {
+        self.machine.step(place, event)
+    }
+}
 
 #[tactic(auto, unfolding(crate::proofs::OnRows::on_rows), using(crate::proofs::OnRows::by_rows))]
 impl PushRecord for EntityChildren {
@@ -88,25 +154,53 @@ impl PushRecord for EntityChildren {
 pub struct AuthorList;
 
 /// The machine of authors.
-pub type AuthorsMachine = ListMachine<AuthorList>;
+#[derive(Drop)]
+pub struct AuthorsMachine {
+    machine: ListMachine<AuthorList>,
+}
+
+impl Machine for AuthorsMachine {
+    ghost use Rattle.cdx_models.specs.Trees.{list_tree};
+    ghost use Rattle.cdx_models.specs.Records.{contact_tree};
+    ghost use Rattle.cdx_schema.specs.Kinds.{a_list, authors};
+
+    type Value = List<OrganizationalContact>;
+
+    ghost tree = { list_tree contact_tree };
+
+    ghost kind = { a_list authors };
+
+    ghost holds = { λ m. ⟦<ListMachine<AuthorList> as Machine>⟧.holds m.machine };
+
+    fn start(
+        alloc: Global,
+        place: usize,
+        v: SpecVersion,
+        element: &OwnedName,
+        attributes: &List<OwnedAttribute>,
+    ) -> Result<AuthorsMachine, XmlReadError> {
+        Ok(AuthorsMachine {
+            machine: ListMachine::<AuthorList>::start(alloc, place, v, element, attributes)?,
+        })
+    }
+
+    fn step(&mut self, place: usize, event: &XmlEvent) -> Result<Option<List<OrganizationalContact>>, XmlReadError> {
+        self.machine.step(place, event)
+    }
+}
 
 #[tactic(auto, unfolding(crate::proofs::OnRows::on_rows), using(crate::proofs::OnRows::by_rows))]
 impl ListOf for AuthorList {
     ghost use Rattle.cdx_schema.specs.Kinds.{authors};
-    ghost use Rattle.std.specs.Prelude.{◌≡◌};
-    ghost use Rattle.cdx_models.specs.Trees.{list_tree};
-    ghost use Rattle.cdx_models.specs.Records.{contact_tree};
-    ghost use Rattle.cdx_push.specs.ListNames.{authors_named, author_kind};
+    ghost use Rattle.cdx_push.specs.ListNames.{authors_named, authors_item};
 
     type Item = ContactMachine;
-
-    type Value = List<OrganizationalContact>;
 
     ghost list_name = { authors };
 
     ghost one_name = { authors_named };
 
-    ghost item_kind = { author_kind };
+    ghost item_kind = { authors_item };
 
     fn inner() -> &'static str {
         "author"
@@ -114,11 +208,5 @@ impl ListOf for AuthorList {
 
     fn rule() -> Rule {
         Rule::Strict
-    }
-
-    fn from_items(items: List<OrganizationalContact>) -> List<OrganizationalContact>
-        ensures { list_tree contact_tree result ≡ list_tree contact_tree items }
-    {
-        items
     }
 }
