@@ -5,4 +5,3 @@ pub mod BomReferences
 pub mod Signatures
 pub mod Choices
 pub mod ServiceData
-pub mod Leaf
