@@ -1,5 +1,5 @@
 -- The items of a list.
-use Rattle.std.proofs.Common.{◌≡◌, ℕ, zero, suc, List, [], ◌∷◌, ◌++◌, Bool, true, false, Option, Some, None, Result, Ok, Err, refl, sym, ap, ◌∙◌, subst}
+use Rattle.std.proofs.Common.{◌≡◌, ℕ, List, [], ◌∷◌, ◌++◌, true, false, Result, refl, sym, ap, ◌∙◌, subst}
 use Rattle.std.specs.Prelude.{if◌then◌else◌, ◌&&◌, OnOk, IfSome}
 use Rattle.std.specs.Str.{bytes_eq}
 use Rattle.cdx_models.specs.declared.bom.SpecVersion.{SpecVersion}
@@ -8,7 +8,7 @@ use Rattle.cdx_models.specs.Versions.{knows}
 use Rattle.cdx_models.specs.Trees.{Tree, Trees, list_tree, one}
 use Rattle.cdx_schema.specs.Kinds.{Lists}
 use Rattle.cdx_schema.specs.Table.{list}
-use Rattle.cdx_schema.specs.XmlReading.{Plan, Child, all, appended, find_child, stored, list_plan, plan_of_list, list_of}
+use Rattle.cdx_schema.specs.XmlReading.{Plan, Child, stored, list_plan, plan_of_list, list_of}
 use Rattle.std.specs.declared.alloc.AllocError.{AllocError}
 use Rattle.cdx_leaf.specs.Trees.{collected}
 use Rattle.cdx_machine.proofs.Names.{push_put}

@@ -1,26 +1,18 @@
 -- Kinds that are read by the name of their element.
-use Rattle.std.proofs.Common.{◌≡◌, ℕ, suc, ◌+◌, List, true, false, Option, Some, None, Result, Ok, Err, refl, sym, ap, ◌∙◌, subst, arith}
-use Rattle.std.specs.Str.{bytes_eq}
+use Rattle.std.proofs.Common.{◌≡◌, ℕ, ◌+◌, List, Option, Some, None, Result, Ok, Err, refl, sym, ap, ◌∙◌, subst}
 use Rattle.cdx_events.specs.declared.name.OwnedName.{OwnedName}
 use Rattle.cdx_events.specs.declared.name.OwnedAttribute.{OwnedAttribute}
 use Rattle.cdx_events.specs.declared.name.Namespace.{Namespace}
-use Rattle.cdx_events.specs.declared.event.XmlEvent.{XmlEvent}
 use Rattle.cdx_events.specs.Nodes.{Node, Nodes, no_nodes, element}
 use Rattle.cdx_models.specs.declared.bom.SpecVersion.{SpecVersion}
 use Rattle.cdx_models.specs.declared.errors.XmlReadError.{XmlReadError}
 use Rattle.cdx_models.specs.Trees.{Tree}
 use Rattle.cdx_schema.specs.Depth.{Depth}
-use Rattle.cdx_schema.specs.Faults.{lacking}
 use Rattle.cdx_schema.specs.Kinds.{Kind}
 use Rattle.cdx_schema.specs.XmlReading.{xread}
-use Rattle.cdx_leaf.specs.Fault.{Refused}
-use Rattle.cdx_machine.specs.declared.or.Or.{Or}
-use Rattle.cdx_machine.specs.declared.or.Or.TheVariants.{This, Other}
 use Rattle.cdx_machine.specs.Begun.{Begun, innermost, Next, still, whole, start_name, ended_now, next, Takes}
-use Rattle.cdx_machine.specs.Machines.{Holding, Refuses, IsQuiet, StartsAs, Steps, StepsAs}
-use Rattle.cdx_machine.specs.Named.{IsByName, named_holds}
-use Rattle.cdx_machine.proofs.Faults.{refuses_known}
-use Rattle.cdx_machine.proofs.Frames.{IsNamed, ended_named, Keeps, keeps_name}
+use Rattle.cdx_machine.specs.Machines.{Holding, Refuses, IsQuiet, StartsAs, Steps}
+use Rattle.cdx_machine.proofs.Frames.{IsNamed, ended_named, Keeps}
 use Rattle.cdx_machine.proofs.Several.{mapped}
 
 -- An element of a name that the two kinds read alike.

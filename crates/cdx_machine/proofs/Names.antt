@@ -1,27 +1,16 @@
 -- Children by their names, and what their values become.
-use Rattle.std.proofs.Common.{◌≡◌, ℕ, zero, suc, ◌+◌, List, [], ◌∷◌, ◌++◌, Bool, true, false, Option, Some, None, Result, Ok, Err, refl, sym, ap, ◌∙◌, subst, arith}
-use Rattle.std.specs.Prelude.{IfSome, OnOk, if◌then◌else◌, ◌&&◌, unwrap_or}
+use Rattle.std.proofs.Common.{◌≡◌, ℕ, suc, ◌+◌, List, [], ◌∷◌, ◌++◌, Bool, true, false, Option, Some, None, Result, Ok, Err, refl, sym, ap, ◌∙◌, subst, arith}
+use Rattle.std.specs.Prelude.{OnOk, if◌then◌else◌, ◌&&◌, unwrap_or}
 use Rattle.std.specs.Str.{bytes_eq}
 use Rattle.cdx_models.specs.Versions.{knows}
-use Rattle.cdx_events.specs.declared.event.XmlEvent.{XmlEvent}
 use Rattle.cdx_models.specs.declared.bom.SpecVersion.{SpecVersion}
-use Rattle.cdx_models.specs.declared.errors.XmlReadError.{XmlReadError}
 use Rattle.cdx_models.specs.Trees.{Tree, Trees, field, present, list_tree}
 use Rattle.cdx_schema.proofs.JsonBack.{same_itself}
 use Rattle.std.specs.declared.alloc.AllocError.{AllocError}
 use Rattle.cdx_leaf.specs.Trees.{collected}
 use Rattle.cdx_leaf.proofs.ChildSteps.{pushed, collected_more}
-use Rattle.cdx_schema.specs.Depth.{Depth}
-use Rattle.cdx_schema.specs.Kinds.{Kind}
-use Rattle.cdx_schema.specs.XmlReading.{Plan, Child, appended, find_child, is_second, stored, xread}
-use Rattle.cdx_events.specs.declared.name.OwnedName.{OwnedName}
-use Rattle.cdx_events.specs.declared.name.OwnedAttribute.{OwnedAttribute}
-use Rattle.cdx_events.specs.declared.name.Namespace.{Namespace}
-use Rattle.cdx_events.specs.Nodes.{Node, Nodes, element, no_nodes}
-use Rattle.cdx_machine.specs.Begun.{Begun, innermost, Next, still, whole, count, next, Takes}
-use Rattle.cdx_machine.specs.Machines.{Holding, ChildHolding, CanStep, CanStepChild, IsQuiet, StartsAs, Steps, StepsAs, StepsRow, StepsChild}
-use Rattle.cdx_machine.specs.Frames.{OpensChild}
-use Rattle.cdx_machine.specs.Several.{at_position, IsThere, kinds_of, reads_child, found_from, Puts}
+use Rattle.cdx_schema.specs.XmlReading.{Child, appended, find_child, is_second}
+use Rattle.cdx_machine.specs.Several.{at_position, found_from}
 use Rattle.cdx_machine.specs.declared.frame.Found.{Found}
 use Rattle.cdx_machine.specs.declared.frame.Found.TheVariants.{At, Unknown, Second}
 

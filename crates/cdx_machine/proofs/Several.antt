@@ -1,20 +1,18 @@
 -- Several machines in a row.
-use Rattle.std.proofs.Common.{◌≡◌, ℕ, zero, suc, ◌+◌, ◌-◌, List, [], ◌∷◌, Bool, true, false, Option, Some, None, Result, Ok, Err, refl, sym, ap, ◌∙◌, subst, arith}
-use Rattle.cdx_events.specs.declared.name.OwnedName.{OwnedName}
-use Rattle.cdx_events.specs.declared.name.OwnedAttribute.{OwnedAttribute}
+use Rattle.std.proofs.Common.{◌≡◌, ℕ, zero, suc, ◌-◌, List, [], ◌∷◌, Option, Some, None, Result, Ok, Err, refl, sym, ap, ◌∙◌, subst, arith}
 use Rattle.cdx_events.specs.declared.event.XmlEvent.{XmlEvent}
 use Rattle.cdx_models.specs.declared.bom.SpecVersion.{SpecVersion}
 use Rattle.cdx_models.specs.declared.errors.XmlReadError.{XmlReadError}
-use Rattle.cdx_models.specs.Trees.{Tree, Trees}
+use Rattle.cdx_models.specs.Trees.{Tree}
 use Rattle.cdx_events.specs.Nodes.{Node}
 use Rattle.cdx_schema.specs.Depth.{Depth}
 use Rattle.cdx_schema.specs.Kinds.{Kind}
 use Rattle.cdx_schema.specs.XmlReading.{xread}
 use Rattle.cdx_machine.specs.declared.or.Or.{Or}
 use Rattle.cdx_machine.specs.declared.or.Or.TheVariants.{This, Other}
-use Rattle.cdx_machine.specs.Begun.{Begun, Next, still, whole, count, next, Takes}
-use Rattle.cdx_machine.specs.Machines.{Holding, CanStep, StartsAs, Steps, StepsAs}
-use Rattle.cdx_machine.specs.Several.{at_position, IsThere, or_position, or_holds, or_tree}
+use Rattle.cdx_machine.specs.Begun.{Begun, Next, still, whole, next}
+use Rattle.cdx_machine.specs.Machines.{Holding, CanStep, Steps, StepsAs}
+use Rattle.cdx_machine.specs.Several.{at_position, or_position, or_holds, or_tree}
 
 some_same : {A : Type 0} {x y : A} → Some x ≡ Some y → x ≡ y
 some_same {A = A} {x = x} h = ap (λ (o : Option A). the o) h

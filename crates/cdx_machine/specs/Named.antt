@@ -12,7 +12,7 @@ use Rattle.cdx_schema.specs.Kinds.{Kind}
 use Rattle.cdx_schema.specs.XmlReading.{xread}
 use Rattle.cdx_machine.specs.declared.or.Or.{Or}
 use Rattle.cdx_machine.specs.declared.or.Or.TheVariants.{This, Other}
-use Rattle.cdx_machine.specs.Begun.{Begun, start_name}
+use Rattle.cdx_machine.specs.Begun.{start_name}
 use Rattle.cdx_machine.specs.Machines.{Holding}
 
 -- The kind is the one by the first name and the other by the second, and an element of any other name lacks something.

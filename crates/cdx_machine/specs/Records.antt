@@ -1,22 +1,18 @@
 -- Records and lists as frames.
-use Rattle.std.specs.Prelude.{◌≡◌, refl, ℕ, suc, ◌+◌, List, [], ◌∷◌, true, Ok}
+use Rattle.std.specs.Prelude.{◌≡◌, refl, suc, ◌+◌, List, [], ◌∷◌, true, Ok}
 use Rattle.std.proofs.Common.{sym, ap, ◌∙◌}
-use Rattle.cdx_models.specs.declared.bom.SpecVersion.{SpecVersion}
-use Rattle.cdx_models.specs.declared.bom.SpecVersion.TheVariants.{V1_3}
 use Rattle.cdx_models.specs.Trees.{Name, Tree, Trees, absent, fields, field, one}
-use Rattle.cdx_schema.specs.Depth.{Depth}
 use Rattle.cdx_schema.specs.Kinds.{Kind, Lists, a_list, a_record}
 use Rattle.cdx_schema.specs.Nodes.{places_of}
 use Rattle.cdx_schema.specs.Results.{◌>>=◌}
 use Rattle.cdx_schema.specs.Table.{rows, list}
-use Rattle.cdx_schema.specs.XmlReading.{Child, all, no_content, content_from, record_plan, list_plan, plan_of_list, list_of, attributes_read, in_force, ended, xread, nodes_read}
+use Rattle.cdx_schema.specs.XmlReading.{no_content, content_from, record_plan, list_plan, plan_of_list, list_of, attributes_read, in_force, ended, xread, nodes_read}
 use Rattle.cdx_schema.proofs.FaultPlaces.{ok_err, bind_err, attributes_place, ended_place}
 use Rattle.cdx_leaf.specs.Each.{each, plan_step}
 use Rattle.cdx_schema.specs.Plain.{is_plain}
 use Rattle.cdx_leaf.specs.Trees.{collected}
 use Rattle.cdx_leaf.proofs.ChildSteps.{both, each_is}
 use Rattle.cdx_leaf.proofs.Whole.{record_is}
-use Rattle.cdx_machine.specs.Begun.{Begun}
 use Rattle.cdx_machine.specs.Contents.{First}
 use Rattle.cdx_machine.specs.Frames.{Last, IsFrame}
 use Rattle.cdx_machine.specs.Several.{kinds_of}

@@ -36,11 +36,17 @@ impl Machine for AttachedTextMachine {
         attributes: &List<OwnedAttribute>,
     ) -> Result<AttachedTextMachine, XmlReadError> {
         Ok(AttachedTextMachine {
-            machine: ExactRecordMachine::<ExactAttachedText>::start(alloc, place, v, element, attributes)?,
+            machine: ExactRecordMachine::<ExactAttachedText>::start(
+                alloc, place, v, element, attributes,
+            )?,
         })
     }
 
-    fn step(&mut self, place: usize, event: &XmlEvent) -> Result<Option<AttachedText>, XmlReadError> {
+    fn step(
+        &mut self,
+        place: usize,
+        event: &XmlEvent,
+    ) -> Result<Option<AttachedText>, XmlReadError> {
         self.machine.step(place, event)
     }
 }

@@ -43,7 +43,11 @@ impl Machine for BomReferenceMachine {
         })
     }
 
-    fn step(&mut self, place: usize, event: &XmlEvent) -> Result<Option<BomReference>, XmlReadError> {
+    fn step(
+        &mut self,
+        place: usize,
+        event: &XmlEvent,
+    ) -> Result<Option<BomReference>, XmlReadError> {
         self.machine.step(place, event)
     }
 }

@@ -3,7 +3,9 @@
 use cdx_code::{Commit, Commits, IdentifiableAction};
 use cdx_events::{List, OwnedAttribute, OwnedName, Text, XmlEvent};
 use cdx_leaf::Rule;
-use cdx_machine::{Found, ListMachine, ListOf, Machine, Only, Or, PushRecord, RecordMachine, TextMachine};
+use cdx_machine::{
+    Found, ListMachine, ListOf, Machine, Only, Or, PushRecord, RecordMachine, TextMachine,
+};
 use cdx_models::{SpecVersion, XmlReadError};
 use std::alloc::{AllocError, Global};
 
@@ -37,11 +39,17 @@ impl Machine for IdentifiableActionMachine {
         attributes: &List<OwnedAttribute>,
     ) -> Result<IdentifiableActionMachine, XmlReadError> {
         Ok(IdentifiableActionMachine {
-            machine: RecordMachine::<IdentifiableActionChildren>::start(alloc, place, v, element, attributes)?,
+            machine: RecordMachine::<IdentifiableActionChildren>::start(
+                alloc, place, v, element, attributes,
+            )?,
         })
     }
 
-    fn step(&mut self, place: usize, event: &XmlEvent) -> Result<Option<IdentifiableAction>, XmlReadError> {
+    fn step(
+        &mut self,
+        place: usize,
+        event: &XmlEvent,
+    ) -> Result<Option<IdentifiableAction>, XmlReadError> {
         self.machine.step(place, event)
     }
 }
@@ -124,7 +132,13 @@ impl PushRecord for CommitChildren {
 
     type Record = Commit;
 
-    type Child = Or<TextMachine, Or<TextMachine, Or<IdentifiableActionMachine, Or<IdentifiableActionMachine, Only<TextMachine>>>>>;
+    type Child = Or<
+        TextMachine,
+        Or<
+            TextMachine,
+            Or<IdentifiableActionMachine, Or<IdentifiableActionMachine, Only<TextMachine>>>,
+        >,
+    >;
 
     ghost kinds = { commit_kinds };
 
@@ -148,7 +162,9 @@ impl PushRecord for CommitChildren {
             Or::This(uid) => part.uid = Some(uid),
             Or::Other(Or::This(url)) => part.url = Some(url),
             Or::Other(Or::Other(Or::This(author))) => part.author = Some(author),
-            Or::Other(Or::Other(Or::Other(Or::This(committer)))) => part.committer = Some(committer),
+            Or::Other(Or::Other(Or::Other(Or::This(committer)))) => part.committer = Some(
+                committer,
+            ),
             Or::Other(Or::Other(Or::Other(Or::Other(message)))) => part.message = Some(message),
         }
         Ok(())

@@ -6,7 +6,10 @@ use cdx_component_parts::{ComponentEvidence, Copyright, CopyrightTexts, Swid};
 use cdx_events::{List, OwnedAttribute, OwnedName, Text, XmlEvent};
 use cdx_leaf::Rule;
 use cdx_license::Licenses;
-use cdx_machine::{Found, ListMachine, ListOf, Machine, Only, Or, PushRecord, RecordMachine, TextMachine, TextRecordMachine};
+use cdx_machine::{
+    Found, ListMachine, ListOf, Machine, Only, Or, PushRecord, RecordMachine, TextMachine,
+    TextRecordMachine,
+};
 use cdx_models::{AttachedText, SpecVersion, XmlReadError};
 use std::alloc::{AllocError, Global};
 
@@ -113,7 +116,11 @@ impl Machine for CopyrightTextsMachine {
         })
     }
 
-    fn step(&mut self, place: usize, event: &XmlEvent) -> Result<Option<CopyrightTexts>, XmlReadError> {
+    fn step(
+        &mut self,
+        place: usize,
+        event: &XmlEvent,
+    ) -> Result<Option<CopyrightTexts>, XmlReadError> {
         match self.machine.step(place, event)? {
             Some(items) => Ok(Some(CopyrightTexts(items))),
             None => Ok(None),
@@ -173,11 +180,17 @@ impl Machine for ComponentEvidenceMachine {
         attributes: &List<OwnedAttribute>,
     ) -> Result<ComponentEvidenceMachine, XmlReadError> {
         Ok(ComponentEvidenceMachine {
-            machine: RecordMachine::<ComponentEvidenceChildren>::start(alloc, place, v, element, attributes)?,
+            machine: RecordMachine::<ComponentEvidenceChildren>::start(
+                alloc, place, v, element, attributes,
+            )?,
         })
     }
 
-    fn step(&mut self, place: usize, event: &XmlEvent) -> Result<Option<ComponentEvidence>, XmlReadError> {
+    fn step(
+        &mut self,
+        place: usize,
+        event: &XmlEvent,
+    ) -> Result<Option<ComponentEvidence>, XmlReadError> {
         self.machine.step(place, event)
     }
 }

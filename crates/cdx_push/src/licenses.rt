@@ -5,7 +5,10 @@ use crate::hashes::PropertiesMachine;
 use cdx_events::{List, OwnedAttribute, OwnedName, Text, XmlEvent};
 use cdx_leaf::Rule;
 use cdx_license::{Expression, License, LicenseChoice, LicenseIdentifier, LicensePart, Licenses};
-use cdx_machine::{ByName, ExactRecord, ExactRecordMachine, Found, Frame, FrameMachine, Machine, NamedMachine, Only, Or, PushRecord, RecordMachine, TextMachine, TextRecordMachine};
+use cdx_machine::{
+    ByName, ExactRecord, ExactRecordMachine, Found, Frame, FrameMachine, Machine, NamedMachine,
+    Only, Or, PushRecord, RecordMachine, TextMachine, TextRecordMachine,
+};
 use cdx_models::{AttachedText, Properties, SpecVersion, XmlReadError};
 use std::alloc::{AllocError, Global};
 
@@ -122,7 +125,11 @@ impl Machine for LicenseIdentifierMachine {
         })
     }
 
-    fn step(&mut self, place: usize, event: &XmlEvent) -> Result<Option<LicenseIdentifier>, XmlReadError> {
+    fn step(
+        &mut self,
+        place: usize,
+        event: &XmlEvent,
+    ) -> Result<Option<LicenseIdentifier>, XmlReadError> {
         self.machine.step(place, event)
     }
 }
@@ -221,7 +228,13 @@ impl PushRecord for LicenseChildren {
 
     type Record = License;
 
-    type Child = Or<LicenseIdentifierMachine, Or<LicenseIdentifierMachine, Or<AttachedTextMachine, Or<TextMachine, Only<PropertiesMachine>>>>>;
+    type Child = Or<
+        LicenseIdentifierMachine,
+        Or<
+            LicenseIdentifierMachine,
+            Or<AttachedTextMachine, Or<TextMachine, Only<PropertiesMachine>>>,
+        >,
+    >;
 
     ghost kinds = { license_kinds };
 
@@ -261,7 +274,9 @@ impl PushRecord for LicenseChildren {
             Or::Other(Or::This(name)) => part.license_identifier = Some(name),
             Or::Other(Or::Other(Or::This(text))) => part.text = Some(text),
             Or::Other(Or::Other(Or::Other(Or::This(url)))) => part.url = Some(url),
-            Or::Other(Or::Other(Or::Other(Or::Other(properties)))) => part.properties = Some(properties),
+            Or::Other(Or::Other(Or::Other(Or::Other(properties)))) => part.properties = Some(
+                properties,
+            ),
         }
         Ok(())
     }
@@ -296,11 +311,17 @@ impl Machine for LicenseChoiceMachine {
         attributes: &List<OwnedAttribute>,
     ) -> Result<LicenseChoiceMachine, XmlReadError> {
         Ok(LicenseChoiceMachine {
-            machine: NamedMachine::<LicenseOrExpression>::start(alloc, place, v, element, attributes)?,
+            machine: NamedMachine::<LicenseOrExpression>::start(
+                alloc, place, v, element, attributes,
+            )?,
         })
     }
 
-    fn step(&mut self, place: usize, event: &XmlEvent) -> Result<Option<LicenseChoice>, XmlReadError> {
+    fn step(
+        &mut self,
+        place: usize,
+        event: &XmlEvent,
+    ) -> Result<Option<LicenseChoice>, XmlReadError> {
         self.machine.step(place, event)
     }
 }

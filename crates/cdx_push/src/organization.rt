@@ -2,7 +2,9 @@
 
 use cdx_events::{List, OwnedAttribute, OwnedName, Text, XmlEvent};
 use cdx_leaf::{Rule, push_into};
-use cdx_machine::{Found, ListMachine, ListOf, Machine, Only, Or, PushRecord, RecordMachine, TextMachine};
+use cdx_machine::{
+    Found, ListMachine, ListOf, Machine, Only, Or, PushRecord, RecordMachine, TextMachine,
+};
 use cdx_models::{OrganizationalContact, OrganizationalEntity, SpecVersion, XmlReadError};
 use std::alloc::{AllocError, Global};
 
@@ -40,7 +42,11 @@ impl Machine for ContactMachine {
         })
     }
 
-    fn step(&mut self, place: usize, event: &XmlEvent) -> Result<Option<OrganizationalContact>, XmlReadError> {
+    fn step(
+        &mut self,
+        place: usize,
+        event: &XmlEvent,
+    ) -> Result<Option<OrganizationalContact>, XmlReadError> {
         self.machine.step(place, event)
     }
 }
@@ -112,7 +118,11 @@ impl Machine for EntityMachine {
         })
     }
 
-    fn step(&mut self, place: usize, event: &XmlEvent) -> Result<Option<OrganizationalEntity>, XmlReadError> {
+    fn step(
+        &mut self,
+        place: usize,
+        event: &XmlEvent,
+    ) -> Result<Option<OrganizationalEntity>, XmlReadError> {
         self.machine.step(place, event)
     }
 }
@@ -184,7 +194,11 @@ impl Machine for AuthorsMachine {
         })
     }
 
-    fn step(&mut self, place: usize, event: &XmlEvent) -> Result<Option<List<OrganizationalContact>>, XmlReadError> {
+    fn step(
+        &mut self,
+        place: usize,
+        event: &XmlEvent,
+    ) -> Result<Option<List<OrganizationalContact>>, XmlReadError> {
         self.machine.step(place, event)
     }
 }

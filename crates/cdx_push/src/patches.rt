@@ -4,7 +4,9 @@ use crate::attached_text::AttachedTextMachine;
 use crate::texts::LinksMachine;
 use cdx_events::{List, OwnedAttribute, OwnedName, Text, XmlEvent};
 use cdx_leaf::Rule;
-use cdx_machine::{Found, ListMachine, ListOf, Machine, Only, Or, PushRecord, RecordMachine, TextMachine};
+use cdx_machine::{
+    Found, ListMachine, ListOf, Machine, Only, Or, PushRecord, RecordMachine, TextMachine,
+};
 use cdx_models::{AttachedText, SpecVersion, XmlReadError};
 use cdx_patch::{Diff, Issue, Patch, Patches, Source};
 use std::alloc::{AllocError, Global};
@@ -136,11 +138,7 @@ impl PushRecord for SourceChildren {
         }
     }
 
-    fn put(
-        part: &mut Source,
-        _alloc: Global,
-        value: Or<Text, Text>,
-    ) -> Result<(), AllocError> {
+    fn put(part: &mut Source, _alloc: Global, value: Or<Text, Text>) -> Result<(), AllocError> {
         match value {
             Or::This(name) => part.name = Some(name),
             Or::Other(url) => part.url = Some(url),
@@ -194,7 +192,10 @@ impl PushRecord for IssueChildren {
 
     type Record = Issue;
 
-    type Child = Or<TextMachine, Or<TextMachine, Or<TextMachine, Or<SourceMachine, Only<LinksMachine>>>>>;
+    type Child = Or<
+        TextMachine,
+        Or<TextMachine, Or<TextMachine, Or<SourceMachine, Only<LinksMachine>>>>,
+    >;
 
     ghost kinds = { issue_kinds };
 
@@ -219,7 +220,9 @@ impl PushRecord for IssueChildren {
             Or::Other(Or::This(name)) => part.name = Some(name),
             Or::Other(Or::Other(Or::This(description))) => part.description = Some(description),
             Or::Other(Or::Other(Or::Other(Or::This(source)))) => part.source = Some(source),
-            Or::Other(Or::Other(Or::Other(Or::Other(references)))) => part.references = Some(references),
+            Or::Other(Or::Other(Or::Other(Or::Other(references)))) => part.references = Some(
+                references,
+            ),
         }
         Ok(())
     }
@@ -259,7 +262,11 @@ impl Machine for IssuesMachine {
         })
     }
 
-    fn step(&mut self, place: usize, event: &XmlEvent) -> Result<Option<List<Issue>>, XmlReadError> {
+    fn step(
+        &mut self,
+        place: usize,
+        event: &XmlEvent,
+    ) -> Result<Option<List<Issue>>, XmlReadError> {
         self.machine.step(place, event)
     }
 }

@@ -3,7 +3,9 @@
 use crate::hashes::HashesMachine;
 use cdx_events::{List, OwnedAttribute, OwnedName, Text, XmlEvent};
 use cdx_leaf::{Rule, XmlRecord};
-use cdx_machine::{Found, ListMachine, ListOf, Machine, Only, Or, PushRecord, RecordMachine, TextMachine};
+use cdx_machine::{
+    Found, ListMachine, ListOf, Machine, Only, Or, PushRecord, RecordMachine, TextMachine,
+};
 use cdx_models::{ExternalReference, ExternalReferences, Hashes, SpecVersion, Tool, XmlReadError};
 use std::alloc::{AllocError, Global};
 
@@ -37,11 +39,17 @@ impl Machine for ReferenceMachine {
         attributes: &List<OwnedAttribute>,
     ) -> Result<ReferenceMachine, XmlReadError> {
         Ok(ReferenceMachine {
-            machine: RecordMachine::<ReferenceChildren>::start(alloc, place, v, element, attributes)?,
+            machine: RecordMachine::<ReferenceChildren>::start(
+                alloc, place, v, element, attributes,
+            )?,
         })
     }
 
-    fn step(&mut self, place: usize, event: &XmlEvent) -> Result<Option<ExternalReference>, XmlReadError> {
+    fn step(
+        &mut self,
+        place: usize,
+        event: &XmlEvent,
+    ) -> Result<Option<ExternalReference>, XmlReadError> {
         self.machine.step(place, event)
     }
 }
@@ -56,7 +64,11 @@ impl PushRecord for ReferenceChildren {
 
     ghost kinds = { reference_kinds };
 
-    fn find(_part: &<ExternalReference as XmlRecord>::Part, _v: SpecVersion, name: &OwnedName) -> Found {
+    fn find(
+        _part: &<ExternalReference as XmlRecord>::Part,
+        _v: SpecVersion,
+        name: &OwnedName,
+    ) -> Found {
         match name.local_name.as_str() {
             "url" => Found::At(0),
             "comment" => Found::At(1),
@@ -112,7 +124,11 @@ impl Machine for ExternalReferencesMachine {
         })
     }
 
-    fn step(&mut self, place: usize, event: &XmlEvent) -> Result<Option<ExternalReferences>, XmlReadError> {
+    fn step(
+        &mut self,
+        place: usize,
+        event: &XmlEvent,
+    ) -> Result<Option<ExternalReferences>, XmlReadError> {
         match self.machine.step(place, event)? {
             Some(items) => Ok(Some(ExternalReferences(items))),
             None => Ok(None),
@@ -187,7 +203,10 @@ impl PushRecord for ToolChildren {
 
     type Record = Tool;
 
-    type Child = Or<TextMachine, Or<TextMachine, Or<TextMachine, Or<HashesMachine, Only<ExternalReferencesMachine>>>>>;
+    type Child = Or<
+        TextMachine,
+        Or<TextMachine, Or<TextMachine, Or<HashesMachine, Only<ExternalReferencesMachine>>>>,
+    >;
 
     ghost kinds = { tool_kinds };
 
@@ -217,7 +236,8 @@ impl PushRecord for ToolChildren {
             Or::Other(Or::This(name)) => part.name = Some(name),
             Or::Other(Or::Other(Or::This(version))) => part.version = Some(version),
             Or::Other(Or::Other(Or::Other(Or::This(hashes)))) => part.hashes = Some(hashes),
-            Or::Other(Or::Other(Or::Other(Or::Other(external_references)))) => part.external_references = Some(external_references),
+            Or::Other(Or::Other(Or::Other(Or::Other(external_references)))) =>
+                part.external_references = Some(external_references),
         }
         Ok(())
     }

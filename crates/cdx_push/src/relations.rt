@@ -4,7 +4,10 @@ use crate::bom_reference::BomReferenceMachine;
 use crate::signature::SignatureMachine;
 use cdx_events::{List, OwnedAttribute, OwnedName, Text, XmlEvent};
 use cdx_leaf::{Rule, XmlRecord};
-use cdx_machine::{Found, ListMachine, ListOf, Machine, NoMachine, Only, Or, PushRecord, RecordMachine, TextMachine};
+use cdx_machine::{
+    Found, ListMachine, ListOf, Machine, NoMachine, Only, Or, PushRecord, RecordMachine,
+    TextMachine,
+};
 use cdx_models::{SpecVersion, XmlReadError};
 use cdx_relations::{BomReference, Composition, Compositions, Dependencies, Dependency};
 use cdx_signature::Signature;
@@ -40,7 +43,9 @@ impl Machine for DependencyMachine {
         attributes: &List<OwnedAttribute>,
     ) -> Result<DependencyMachine, XmlReadError> {
         Ok(DependencyMachine {
-            machine: RecordMachine::<DependencyChildren>::start(alloc, place, v, element, attributes)?,
+            machine: RecordMachine::<DependencyChildren>::start(
+                alloc, place, v, element, attributes,
+            )?,
         })
     }
 
@@ -111,7 +116,11 @@ impl Machine for DependenciesMachine {
         })
     }
 
-    fn step(&mut self, place: usize, event: &XmlEvent) -> Result<Option<Dependencies>, XmlReadError> {
+    fn step(
+        &mut self,
+        place: usize,
+        event: &XmlEvent,
+    ) -> Result<Option<Dependencies>, XmlReadError> {
         match self.machine.step(place, event)? {
             Some(items) => Ok(Some(Dependencies(items))),
             None => Ok(None),
@@ -175,7 +184,11 @@ impl Machine for AssembliesMachine {
         })
     }
 
-    fn step(&mut self, place: usize, event: &XmlEvent) -> Result<Option<List<BomReference>>, XmlReadError> {
+    fn step(
+        &mut self,
+        place: usize,
+        event: &XmlEvent,
+    ) -> Result<Option<List<BomReference>>, XmlReadError> {
         self.machine.step(place, event)
     }
 }
@@ -236,7 +249,11 @@ impl Machine for ComposedMachine {
         })
     }
 
-    fn step(&mut self, place: usize, event: &XmlEvent) -> Result<Option<List<BomReference>>, XmlReadError> {
+    fn step(
+        &mut self,
+        place: usize,
+        event: &XmlEvent,
+    ) -> Result<Option<List<BomReference>>, XmlReadError> {
         self.machine.step(place, event)
     }
 }
@@ -297,7 +314,11 @@ impl Machine for VulnerabilitiesMachine {
         })
     }
 
-    fn step(&mut self, place: usize, event: &XmlEvent) -> Result<Option<List<BomReference>>, XmlReadError> {
+    fn step(
+        &mut self,
+        place: usize,
+        event: &XmlEvent,
+    ) -> Result<Option<List<BomReference>>, XmlReadError> {
         self.machine.step(place, event)
     }
 }
@@ -354,11 +375,17 @@ impl Machine for CompositionMachine {
         attributes: &List<OwnedAttribute>,
     ) -> Result<CompositionMachine, XmlReadError> {
         Ok(CompositionMachine {
-            machine: RecordMachine::<CompositionChildren>::start(alloc, place, v, element, attributes)?,
+            machine: RecordMachine::<CompositionChildren>::start(
+                alloc, place, v, element, attributes,
+            )?,
         })
     }
 
-    fn step(&mut self, place: usize, event: &XmlEvent) -> Result<Option<Composition>, XmlReadError> {
+    fn step(
+        &mut self,
+        place: usize,
+        event: &XmlEvent,
+    ) -> Result<Option<Composition>, XmlReadError> {
         self.machine.step(place, event)
     }
 }
@@ -369,7 +396,13 @@ impl PushRecord for CompositionChildren {
 
     type Record = Composition;
 
-    type Child = Or<TextMachine, Or<AssembliesMachine, Or<ComposedMachine, Or<VulnerabilitiesMachine, Only<SignatureMachine>>>>>;
+    type Child = Or<
+        TextMachine,
+        Or<
+            AssembliesMachine,
+            Or<ComposedMachine, Or<VulnerabilitiesMachine, Only<SignatureMachine>>>,
+        >,
+    >;
 
     ghost kinds = { composition_kinds };
 
@@ -397,14 +430,20 @@ impl PushRecord for CompositionChildren {
     fn put(
         part: &mut <Composition as XmlRecord>::Part,
         _alloc: Global,
-        value: Or<Text, Or<List<BomReference>, Or<List<BomReference>, Or<List<BomReference>, Signature>>>>,
+        value: Or<
+            Text,
+            Or<List<BomReference>, Or<List<BomReference>, Or<List<BomReference>, Signature>>>,
+        >,
     ) -> Result<(), AllocError> {
         match value {
             Or::This(aggregate) => part.aggregate = Some(aggregate),
             Or::Other(Or::This(assemblies)) => part.assemblies = Some(assemblies),
             Or::Other(Or::Other(Or::This(dependencies))) => part.dependencies = Some(dependencies),
-            Or::Other(Or::Other(Or::Other(Or::This(vulnerabilities)))) => part.vulnerabilities = Some(vulnerabilities),
-            Or::Other(Or::Other(Or::Other(Or::Other(signature)))) => part.signature = Some(signature),
+            Or::Other(Or::Other(Or::Other(Or::This(vulnerabilities)))) => part.vulnerabilities =
+                Some(vulnerabilities),
+            Or::Other(Or::Other(Or::Other(Or::Other(signature)))) => part.signature = Some(
+                signature,
+            ),
         }
         Ok(())
     }
@@ -443,7 +482,11 @@ impl Machine for CompositionsMachine {
         })
     }
 
-    fn step(&mut self, place: usize, event: &XmlEvent) -> Result<Option<Compositions>, XmlReadError> {
+    fn step(
+        &mut self,
+        place: usize,
+        event: &XmlEvent,
+    ) -> Result<Option<Compositions>, XmlReadError> {
         match self.machine.step(place, event)? {
             Some(items) => Ok(Some(Compositions(items))),
             None => Ok(None),

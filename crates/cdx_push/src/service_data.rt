@@ -2,7 +2,9 @@
 
 use cdx_events::{List, OwnedAttribute, OwnedName, XmlEvent};
 use cdx_leaf::{Children, Rule, XmlRecord};
-use cdx_machine::{Found, Frame, FrameMachine, Machine, Only, Or, PushRecord, RecordMachine, TextRecordMachine};
+use cdx_machine::{
+    Found, Frame, FrameMachine, Machine, Only, Or, PushRecord, RecordMachine, TextRecordMachine,
+};
 use cdx_models::{SpecVersion, XmlReadError};
 use cdx_service_data::{Data, DataClassification, DataPart, ServiceData, ServiceDataPart};
 use std::alloc::{AllocError, Global};
@@ -79,7 +81,11 @@ impl Machine for EntryMachine {
         })
     }
 
-    fn step(&mut self, place: usize, event: &XmlEvent) -> Result<Option<ServiceData>, XmlReadError> {
+    fn step(
+        &mut self,
+        place: usize,
+        event: &XmlEvent,
+    ) -> Result<Option<ServiceData>, XmlReadError> {
         self.machine.step(place, event)
     }
 }

@@ -2,7 +2,10 @@
 
 use cdx_events::{List, OwnedAttribute, OwnedName, Text, XmlEvent};
 use cdx_leaf::{Rule, XmlRecord};
-use cdx_machine::{Found, Frame, FrameMachine, Machine, NoMachine, Only, Or, PushRecord, RecordMachine, TextMachine};
+use cdx_machine::{
+    Found, Frame, FrameMachine, Machine, NoMachine, Only, Or, PushRecord, RecordMachine,
+    TextMachine,
+};
 use cdx_models::{SpecVersion, XmlReadError};
 use cdx_signature::{Signature, SignaturePart, Signer, SignerPart};
 use std::alloc::{AllocError, Global};
@@ -64,11 +67,7 @@ impl PushRecord for SignerChildren {
         }
     }
 
-    fn put(
-        part: &mut SignerPart,
-        _alloc: Global,
-        value: Or<Text, Text>,
-    ) -> Result<(), AllocError> {
+    fn put(part: &mut SignerPart, _alloc: Global, value: Or<Text, Text>) -> Result<(), AllocError> {
         match value {
             Or::This(algorithm) => part.algorithm = Some(algorithm),
             Or::Other(value) => part.value = Some(value),

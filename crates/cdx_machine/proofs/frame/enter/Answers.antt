@@ -1,4 +1,4 @@
-use Rattle.std.proofs.Common.{refl, sym, ◌∙◌}
+use Rattle.std.proofs.Common.{sym, ◌∙◌}
 use Rattle.std.proofs.lemmas.Result.{err_from_is_err_and}
 use Rattle.cdx_machine.specs.Several.{reads_child}
 use Rattle.cdx_machine.proofs.Names.{found_at, found_none, found_second}

@@ -1,7 +1,7 @@
 use Rattle.std.proofs.Common.{◌≡◌, refl, subst}
 use Rattle.std.specs.Prelude.{IfSome}
 use Rattle.std.proofs.lemmas.Result.{err_from_is_err_and}
-use Rattle.cdx_machine.proofs.Children.{can_step, child_waits, child_put, child_refused}
+use Rattle.cdx_machine.proofs.Children.{child_waits, child_put, child_refused}
 use Rattle.cdx_machine.proofs.frame.feed.Goals as goal
 
 pub returns-in_err-step : goal.returns-in_err-step

@@ -1,4 +1,3 @@
-use Rattle.std.proofs.Common.{Ok, Err, Result}
 use Rattle.cdx_machine.proofs.Listing.{item_put}
 use Rattle.cdx_machine.proofs.lists.ItemsFrame.put.Goals as goal
 

@@ -1,5 +1,4 @@
-use Rattle.std.proofs.Common.{Ok, Err, subst}
-use Rattle.std.proofs.lemmas.Result.{err_from_is_err_and}
+use Rattle.std.proofs.Common.{Ok, subst}
 use Rattle.cdx_machine.specs.Machines.{StartsAs}
 use Rattle.cdx_machine.proofs.Several.{first_is, other_is}
 use Rattle.cdx_machine.proofs.or.OrMachines.start.Goals as goal

@@ -1,4 +1,4 @@
-use Rattle.std.proofs.Common.{Ok, Err, Some, None, ap, ◌∙◌, subst, sym}
+use Rattle.std.proofs.Common.{Ok, Err, Some, None, subst}
 use Rattle.std.proofs.lemmas.Result.{err_from_is_err_and}
 use Rattle.cdx_machine.specs.Machines.{StepsAs}
 use Rattle.cdx_machine.proofs.Several.{other_steps}
