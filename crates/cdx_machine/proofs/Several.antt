@@ -34,6 +34,13 @@ other_is {A = A} x y xs (suc i) not is = ap (λ j. at_position xs j) (one_less i
     one_less : (k : ℕ) → suc k - 1 ≡ k
     one_less k = omega arith
 
+pub other_at : (i j : ℕ) → (i ≡ 0 → ⊥) → j ≡ i - 1 → suc j ≡ i
+other_at zero j not is = absurd (not refl)
+other_at (suc i) j not is = ap suc (is ∙ one_less i)
+  where
+    one_less : (k : ℕ) → suc k - 1 ≡ k
+    one_less k = omega arith
+
 -- a row of one
 pub only_is : {A : Type 0} (x y : A) (i : ℕ) → at_position (x ∷ []) i ≡ Some y → x ≡ y
 only_is x y zero is = some_same is

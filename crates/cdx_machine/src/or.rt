@@ -43,8 +43,7 @@ pub trait Machines: Drop {
         element: &OwnedName,
         attributes: &List<OwnedAttribute>,
     ) -> Result<Self, XmlReadError>
-        requires { IsThere kinds position }
-        ensures runs { IfOk result (λ m. position_of m ≡ position) }
+        ensures runs { IsThere kinds position → IfOk result (λ m. position_of m ≡ position) }
         ensures starts { (k : Kind) → at_position kinds position ≡ Some k
             → StartsAs holds k v place element.now attributes.now result };
 
@@ -167,7 +166,7 @@ impl Machines for NoMachine {
 
     ghost position_of = { λ m. 0 };
 
-    ghost holds = { λ m v p d o. ⊥ };
+    ghost holds = { λ m v p d o. Unit {0} };
 
     ghost source = { λ x. 0 };
 
@@ -181,7 +180,7 @@ impl Machines for NoMachine {
         _element: &OwnedName,
         _attributes: &List<OwnedAttribute>,
     ) -> Result<NoMachine, XmlReadError> {
-        unreachable!()
+        Ok(NoMachine)
     }
 
     fn step(
@@ -189,6 +188,6 @@ impl Machines for NoMachine {
         _place: usize,
         _event: &XmlEvent,
     ) -> Result<Option<NoMachine>, XmlReadError> {
-        unreachable!()
+        Ok(None)
     }
 }

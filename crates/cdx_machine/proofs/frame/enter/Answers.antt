@@ -6,13 +6,6 @@ use Rattle.cdx_machine.proofs.Children.{runs_kind, child_starts, there_is}
 use Rattle.cdx_machine.proofs.Frames.{enters_fault, enters_second, enters_unknown, enters_skipped}
 use Rattle.cdx_machine.proofs.frame.enter.Goals as goal
 
-pub start-requires : goal.start-requires
-start-requires g c =
-    let f = g.F.Frame in
-    let h = found_at (f.slots c.args.part.now) c.args.v c.args.name.now.local_name f.plan.children c.find.result c.in-At.position c.in-At.is c.find.ensures in
-    let m = g.F.Child.Machines in
-    there_is f.plan m.kinds g.met.F.Frame.kinds m.position_of m.holds m.tree c.in-At.position h.row h.is_at
-
 pub returns-in_err-start-in-At : goal.returns-in_err-start-in-At
 returns-in_err-start-in-At g c = λ is d s.
     let q = err_from_is_err_and c.from_residual.result c.from_residual.ensures.1 in
@@ -26,7 +19,7 @@ returns-in_ok-start-in-At g c = λ is d s.
     let f = g.F.Frame in
     let m = g.F.Child.Machines in
     let h = found_at (f.slots c.args.part.now) c.args.v c.args.name.now.local_name f.plan.children c.find.result c.in-At.position c.in-At.is c.find.ensures in
-    child_starts f.plan m.kinds g.met.F.Frame.kinds m.position_of m.holds m.tree (f.slots c.args.part.now) c.args.v c.args.place d c.args.name.now c.args.attributes.now s c.in-At.position c.in_ok-start-in-At.field-0 h c.in_ok-start-in-At.ensures.runs c.in_ok-start-in-At.ensures.starts
+    child_starts f.plan m.kinds g.met.F.Frame.kinds m.position_of m.holds m.tree (f.slots c.args.part.now) c.args.v c.args.place d c.args.name.now c.args.attributes.now s c.in-At.position c.in_ok-start-in-At.field-0 h (c.in_ok-start-in-At.ensures.runs (there_is f.plan m.kinds g.met.F.Frame.kinds m.position_of m.holds m.tree c.in-At.position h.row h.is_at)) c.in_ok-start-in-At.ensures.starts
 
 pub returns-then-not-skips : goal.returns-then-not-skips
 returns-then-not-skips g c = λ is d s.
