@@ -1,2 +1,0 @@
-pub mod OnRows
-pub mod Signing
