@@ -5,6 +5,7 @@
 mod by_name;
 mod content;
 mod frame;
+mod leaves;
 mod listener;
 mod lists;
 mod machine;
@@ -17,7 +18,8 @@ mod texts;
 pub use by_name::{ByName, NamedMachine};
 pub use content::{Content, ContentMachine};
 pub use frame::{Found, Frame, FrameMachine, Inside};
-pub use listener::{Holds, Listener};
+pub use leaves::Leaves;
+pub use listener::Listener;
 pub use lists::{Items, ListMachine, ListOf};
 pub use machine::Machine;
 pub use or::{Machines, NoMachine, Only, Or};

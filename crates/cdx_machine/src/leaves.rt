@@ -1,0 +1,58 @@
+//! Machines of kinds that don't contain themselves.
+
+use cdx_events::{List, OwnedAttribute, OwnedName, XmlEvent};
+use cdx_models::{SpecVersion, XmlReadError};
+use std::alloc::Global;
+
+/// What reads one element of any leaf kind, event by event.
+pub trait Leaves: Drop {
+    ghost use Rattle.std.specs.Prelude.{◌≡◌, ℕ, IfOk, IfSome};
+    ghost use Rattle.cdx_models.specs.declared.bom.SpecVersion.{SpecVersion};
+    ghost use Rattle.cdx_models.specs.Trees.{Tree};
+    ghost use Rattle.cdx_schema.specs.Kinds.{Kind};
+    ghost use Rattle.cdx_schema.specs.Depth.{Depth};
+    ghost use Rattle.cdx_machine.specs.Begun.{Begun};
+    ghost use Rattle.cdx_machine.specs.Machines.{Holding, StartsAs, CanStep, StepsAs};
+
+    /// The names of the kinds.
+    type Sort: Drop;
+
+    /// What an element is read as.
+    type Value: Drop;
+
+    /// The kind of each name.
+    ghost as_kind: { Self.Sort → Kind };
+
+    /// What the machine reads its element as.
+    ghost sort_of: { Self → Self.Sort };
+
+    /// What a value was read as.
+    ghost value_sort: { Self.Value → Self.Sort };
+
+    /// The tree of a value.
+    ghost tree: { Self.Value → Tree };
+
+    /// What the machine keeps of the events so far: in a version, with the element's start at a place, at a depth.
+    ghost holds: { Self → SpecVersion → ℕ → Depth → Begun → Type 0 };
+
+    /// Takes the element's start, at `place`. A refusal is the fault of the start alone.
+    fn start(
+        alloc: Global,
+        sort: Self::Sort,
+        place: usize,
+        v: SpecVersion,
+        element: &OwnedName,
+        attributes: &List<OwnedAttribute>,
+    ) -> Result<Self, XmlReadError>
+        ensures sort { IfOk result (λ m. sort_of m ≡ sort) }
+        ensures starts { StartsAs holds (as_kind sort) v place element.now attributes.now result };
+
+    /// Takes the next event, at `place`. The value comes with the element's end, and a refusal with the first event
+    /// through which the element has a fault; that is the fault, and it stands at this event.
+    fn step(&mut self, place: usize, event: &XmlEvent) -> Result<Option<Self::Value>, XmlReadError>
+        requires { CanStep holds self.old place event.now }
+        ensures same { sort_of self.new ≡ sort_of self.old }
+        ensures value { IfOk result (λ o. IfSome o (λ x. value_sort x ≡ sort_of self.old)) }
+        ensures steps { StepsAs holds tree (as_kind (sort_of self.old)) self.old self.new place
+            event.now result };
+}
