@@ -10,3 +10,5 @@ pub mod Feeding
 pub mod Several
 pub mod Listing
 pub mod Named
+pub mod OnRows
+pub mod Hearing

@@ -6,13 +6,13 @@ use Rattle.cdx_models.specs.declared.bom.SpecVersion.{SpecVersion}
 use Rattle.cdx_models.specs.declared.bom.SpecVersion.TheVariants.{V1_3, V1_4, V1_5}
 use Rattle.cdx_models.specs.Versions.{knows}
 use Rattle.cdx_models.specs.Trees.{Tree, Trees, list_tree, one}
-use Rattle.cdx_schema.specs.Kinds.{Lists}
+use Rattle.cdx_schema.specs.Kinds.{Kind, Lists}
 use Rattle.cdx_schema.specs.Table.{list}
 use Rattle.cdx_schema.specs.XmlReading.{Plan, Child, stored, list_plan, plan_of_list, list_of}
 use Rattle.std.specs.declared.alloc.AllocError.{AllocError}
 use Rattle.cdx_leaf.specs.Trees.{collected}
 use Rattle.cdx_machine.proofs.Names.{push_put}
-use Rattle.cdx_machine.specs.Records.{items_slots}
+use Rattle.cdx_machine.specs.Records.{HasOneName, one_plan, items_slots}
 use Rattle.cdx_machine.specs.Several.{at_position, found_from, Puts}
 use Rattle.cdx_machine.specs.declared.frame.Found.TheVariants.{At, Unknown}
 
@@ -21,7 +21,10 @@ known_all V1_3 = refl
 known_all V1_4 = refl
 known_all V1_5 = refl
 
-module _ (l : Lists) (one_name : plan_of_list l ≡ list_plan l) where
+module _ (l : Lists) (k : Kind) (item_kind : k ≡ (list l).kind) (has_one : HasOneName k) where
+  one_name : plan_of_list l ≡ list_plan l
+  one_name = one_plan l k item_kind has_one
+
   pub item_found : (ts : Trees) (v : SpecVersion) (s : List ℕ) → bytes_eq s (list l).name ≡ true → At 0 ≡ found_from 0 (plan_of_list l).children ts v s
   item_found ts v s h =
       sym (ap (λ p. found_from 0 p.children ts v s) one_name ∙ (ap (λ b. if b && knows V1_3 v then At 0 else Unknown) h ∙ ap (λ b. if b then At 0 else Unknown) (known_all v)))

@@ -9,8 +9,9 @@ use Rattle.cdx_models.specs.declared.errors.XmlReadError.{XmlReadError}
 use Rattle.cdx_models.specs.Trees.{Tree}
 use Rattle.cdx_schema.specs.Depth.{Depth}
 use Rattle.cdx_schema.specs.Kinds.{Kind}
+use Rattle.cdx_schema.specs.Nodes.{places}
 use Rattle.cdx_schema.specs.XmlReading.{xread}
-use Rattle.cdx_machine.specs.Begun.{Begun, innermost, Next, still, whole, start_name, ended_now, next, Takes}
+use Rattle.cdx_machine.specs.Begun.{Begun, innermost, Next, still, whole, start_name, count, ended_now}
 use Rattle.cdx_machine.specs.Machines.{Holding, Refuses, IsQuiet, StartsAs, Steps}
 use Rattle.cdx_machine.proofs.Frames.{IsNamed, ended_named, Keeps}
 use Rattle.cdx_machine.proofs.Several.{mapped}
@@ -24,15 +25,12 @@ module _ (kind other_kind : Kind) (Is : List ℕ → Type 0) (alike : (n : Owned
       → StartsAs holds other_kind v place n a (Ok m) → StartsAs holds' kind v place n a (Ok (wrap m))
   starts_alike holds holds' wrap v place n a m named up h d s = (up d s (h d s).0, subst (λ r. IsQuiet (place + 1) r) (read_alike (element n a s no_nodes) n v place d (a, s, no_nodes, refl) named) (h d s).1)
 
-  pub start_refused_alike : {M N : Type 0} (holds : Holding M) (holds' : Holding N) (v : SpecVersion) (place : ℕ) (n : OwnedName) (a : List OwnedAttribute) (e : XmlReadError) → Is n.local_name → StartsAs holds other_kind v place n a (Err e) → StartsAs holds' kind v place n a (Err e)
-  start_refused_alike holds holds' v place n a e named h d s = subst (λ r. Refuses e (place + 1) r) (read_alike (element n a s no_nodes) n v place d (a, s, no_nodes, refl) named) (h d s)
-
   step_alike : {X Y : Type 0} (held held' : Begun → Type 0) (view : X → Tree) (view' : Y → Tree) (f : X → Y) (v : SpecVersion) (p : ℕ) (d : Depth) (n : OwnedName) → Is n.local_name → ((o : Begun) → start_name o ≡ n → held o → held' o) → ((x : X) → view' (f x) ≡ view x) → (x : Next) (r : Result (Option X) XmlReadError) → Keeps n x
       → Steps held view (λ k. xread k v other_kind p d) p x r → Steps held' view' (λ k. xread k v kind p d) p x (mapped f r)
   step_alike held held' view view' f v p d n named up same (still o) (Ok None) keeps h =
-      (up o keeps h.0, subst (λ r. IsQuiet (p + Rattle.cdx_machine.specs.Begun.count o) r) (read_alike (ended_now o) (start_name o) v p d (ended_named o) (subst (λ (m : OwnedName). Is m.local_name) (sym keeps) named)) h.1)
+      (up o keeps h.0, subst (λ r. IsQuiet (p + count o) r) (read_alike (ended_now o) (start_name o) v p d (ended_named o) (subst (λ (m : OwnedName). Is m.local_name) (sym keeps) named)) h.1)
   step_alike held held' view view' f v p d n named up same (still o) (Ok (Some x)) keeps h = h
-  step_alike held held' view view' f v p d n named up same (still o) (Err e) keeps h = subst (λ r. Refuses e (p + Rattle.cdx_machine.specs.Begun.count o) r) (read_alike (ended_now o) (start_name o) v p d (ended_named o) (subst (λ (m : OwnedName). Is m.local_name) (sym keeps) named)) h
+  step_alike held held' view view' f v p d n named up same (still o) (Err e) keeps h = subst (λ r. Refuses e (p + count o) r) (read_alike (ended_now o) (start_name o) v p d (ended_named o) (subst (λ (m : OwnedName). Is m.local_name) (sym keeps) named)) h
   step_alike held held' view view' f v p d n named up same (whole k) (Ok None) keeps h = h
   step_alike held held' view view' f v p d n named up same (whole k) (Ok (Some x)) keeps h = sym (read_alike k n v p d keeps named) ∙ (h ∙ ap (λ t. Ok t) (sym (same x)))
-  step_alike held held' view view' f v p d n named up same (whole k) (Err e) keeps h = subst (λ r. Refuses e (p + Rattle.cdx_schema.specs.Nodes.places k) r) (read_alike k n v p d keeps named) h
+  step_alike held held' view view' f v p d n named up same (whole k) (Err e) keeps h = subst (λ r. Refuses e (p + places k) r) (read_alike k n v p d keeps named) h

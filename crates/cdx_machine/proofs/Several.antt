@@ -26,20 +26,17 @@ pub first_is : {A : Type 0} (x y : A) (xs : List A) (i : ℕ) → i ≡ 0 → at
 first_is x y xs zero at is = some_same is
 first_is x y xs (suc i) at is = absurd (omega (arith, at))
 
+one_less : (k : ℕ) → suc k - 1 ≡ k
+one_less k = omega arith
+
 -- The others stand one place further on.
 pub other_is : {A : Type 0} (x y : A) (xs : List A) (i : ℕ) → (i ≡ 0 → ⊥) → at_position (x ∷ xs) i ≡ Some y → at_position xs (i - 1) ≡ Some y
 other_is x y xs zero not is = absurd (not refl)
 other_is {A = A} x y xs (suc i) not is = ap (λ j. at_position xs j) (one_less i) ∙ is
-  where
-    one_less : (k : ℕ) → suc k - 1 ≡ k
-    one_less k = omega arith
 
 pub other_at : (i j : ℕ) → (i ≡ 0 → ⊥) → j ≡ i - 1 → suc j ≡ i
 other_at zero j not is = absurd (not refl)
 other_at (suc i) j not is = ap suc (is ∙ one_less i)
-  where
-    one_less : (k : ℕ) → suc k - 1 ≡ k
-    one_less k = omega arith
 
 -- a row of one
 pub only_is : {A : Type 0} (x y : A) (i : ℕ) → at_position (x ∷ []) i ≡ Some y → x ≡ y

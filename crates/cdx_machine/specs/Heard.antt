@@ -1,5 +1,5 @@
 -- What a machine has heard, and what it answers.
-use Rattle.std.specs.Prelude.{◌≡◌, ℕ, List, Option, Some, None, Result, Ok, Err}
+use Rattle.std.specs.Prelude.{◌≡◌, ℕ, ◌+◌, List, [], ◌∷◌, ◌++◌, length, Option, Some, None, Result, Ok, Err}
 use Rattle.cdx_events.specs.declared.name.OwnedName.{OwnedName}
 use Rattle.cdx_events.specs.declared.name.OwnedAttribute.{OwnedAttribute}
 use Rattle.cdx_events.specs.declared.name.Namespace.{Namespace}
@@ -12,9 +12,10 @@ use Rattle.cdx_models.specs.Trees.{Tree}
 use Rattle.cdx_schema.specs.Depth.{Depth}
 use Rattle.cdx_schema.specs.Kinds.{Kind}
 use Rattle.cdx_schema.specs.Locality.{fault_place}
-use Rattle.cdx_schema.specs.Soon.{IsElement, IsSoon}
+use Rattle.cdx_schema.specs.Soon.{IsElement, BeginsElement, IsSoon}
 use Rattle.cdx_schema.specs.XmlReading.{xread}
 use Rattle.cdx_machine.specs.Begun.{Begun, so_far}
+use Rattle.cdx_machine.specs.Machines.{Holding}
 
 -- These events are those of an element that is kept.
 pub record Hears (holds : Begun → Type 0) (events : List XmlEvent) : Type 0 where
@@ -56,3 +57,24 @@ pub record OpensAs {M : Type 0} (hears : M → List XmlEvent → Type 0) (v : Sp
   pub soon : Option XmlReadError
   pub is_soon : IsSoon v k events p d soon
   pub answers : OpensBy hears p events soon result
+
+-- ---- machines that are spent once they refused an event or their element has ended
+
+-- What was heard by a machine of one of several sorts. One that is spent may have heard any events with which an element
+-- begins.
+abbrev pub heard_by : {M S : Type 0} → Holding M → (M → S) → S → SpecVersion → ℕ → Depth → Option M → List XmlEvent → Type 0
+heard_by holds sort_of sort v p d None events = BeginsElement events
+heard_by holds sort_of sort v p d (Some m) events = (sort_of m ≡ sort) × Hears (λ o. holds m v p d o) events
+
+-- It is not spent.
+abbrev pub IsListening : {M : Type 0} → Option M → Type 0
+IsListening None = ⊥
+IsListening (Some m) = Unit {0}
+
+-- It is not spent, and the event at this place is the next one of its element, whose start stands at place p.
+pub record Listens (listening : Type 0) (heard : List XmlEvent → Type 0) (p place : ℕ) (event : XmlEvent) : Type 0 where
+  pub listens : listening
+  pub events : List XmlEvent
+  pub were_heard : heard events
+  pub place_is : place ≡ p + length events
+  pub goes_on : BeginsElement (events ++ event ∷ [])

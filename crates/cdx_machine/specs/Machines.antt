@@ -72,10 +72,6 @@ Fills held read p by before now (whole k) (Ok false) = ⊥
 Fills held read p by before now (whole k) (Ok true) = (t : Tree) × (read k ≡ Ok t) × (now ≡ by t)
 Fills held read p by before now (whole k) (Err e) = Refuses e (p + places k) (read k)
 
-abbrev pub FillsBy : {M : Type 0} → Holding M → Kind → (Tree → Tree) → Tree → Tree → M → M → ℕ → XmlEvent → Result Bool XmlReadError → Type 0
-FillsBy holds kind by before now old new place event result =
-    (v : SpecVersion) (p : ℕ) (d : Depth) (o : Begun) → holds old v p d o → place ≡ p + count o → Takes o event → Fills (λ o. holds new v p d o) (λ k. xread k v kind p d) p by before now (next o event) result
-
 -- What the machine of an open child keeps, which is read by this child of a plan.
 abbrev pub ChildHolding : Type 0 → Type 1
 ChildHolding M = M → Child → SpecVersion → ℕ → Depth → Begun → Type 0

@@ -1,8 +1,8 @@
 -- Records and lists as frames.
-use Rattle.std.specs.Prelude.{◌≡◌, refl, suc, ◌+◌, List, [], ◌∷◌, true, Ok}
+use Rattle.std.specs.Prelude.{◌≡◌, refl, suc, ◌+◌, List, [], ◌∷◌, true, Ok, ⊤}
 use Rattle.std.proofs.Common.{sym, ap, ◌∙◌}
 use Rattle.cdx_models.specs.Trees.{Name, Tree, Trees, absent, fields, field, one}
-use Rattle.cdx_schema.specs.Kinds.{Kind, Lists, a_list, a_record}
+use Rattle.cdx_schema.specs.Kinds.{Kind, Lists, a_list, a_license_choice, a_record}
 use Rattle.cdx_schema.specs.Nodes.{places_of}
 use Rattle.cdx_schema.specs.Results.{◌>>=◌}
 use Rattle.cdx_schema.specs.Table.{rows, list}
@@ -44,9 +44,18 @@ pub list_frame : (l : Lists) → IsFrame (a_list l) (plan_of_list l) list_first 
 unfolding xread
 list_frame l = record { reads = λ n a s xs v p d. refl; first_place = λ el a v p f h. ok_err h; last_place = λ el v q ts f h. ok_err h }
 
--- Its items are its only children.
-pub item_kinds : (l : Lists) (k : Kind) → plan_of_list l ≡ list_plan l → k ≡ (list l).kind → k ∷ [] ≡ kinds_of (plan_of_list l).children
-item_kinds l k named is = ap (λ k. k ∷ []) is ∙ ap (λ p. kinds_of p.children) (sym named)
+-- Items of this kind have one name. Licenses and expressions have two.
+abbrev pub HasOneName : Kind → Type 0
+HasOneName a_license_choice = ⊥
+HasOneName _ = ⊤
+
+-- They are its only children.
+pub one_plan : (l : Lists) (k : Kind) → k ≡ (list l).kind → HasOneName k → plan_of_list l ≡ list_plan l
+one_plan l a_license_choice is one = absurd one
+one_plan l _ is one = rw (sym is) (rw (sym is) refl)
+
+pub item_kinds : (l : Lists) (k : Kind) → k ≡ (list l).kind → HasOneName k → k ∷ [] ≡ kinds_of (plan_of_list l).children
+item_kinds l k is one = ap (λ k. k ∷ []) is ∙ ap (λ p. kinds_of p.children) (sym (one_plan l k is one))
 
 abbrev pub items_slots : {X : Type 0} → (X → Tree) → List X → Trees
 items_slots f xs = one (collected f xs)

@@ -13,8 +13,8 @@ pub trait ListOf {
     ghost use Rattle.std.specs.Prelude.{◌≡◌};
     ghost use Rattle.cdx_schema.specs.Kinds.{Lists};
     ghost use Rattle.cdx_schema.specs.Table.{list};
-    ghost use Rattle.cdx_schema.specs.XmlReading.{list_plan, plan_of_list};
     ghost use Rattle.cdx_leaf.specs.Rules.{as_rule};
+    ghost use Rattle.cdx_machine.specs.Records.{HasOneName};
 
     /// The machine of an item.
     type Item: Machine;
@@ -31,7 +31,7 @@ pub trait ListOf {
         ensures { (list list_name).rule ≡ as_rule result };
 
     // Its items have one name.
-    ghost one_name: { plan_of_list list_name ≡ list_plan list_name };
+    ghost one_name: { HasOneName Self.Item.kind };
 
     // Their machine reads the kind of the list's items.
     ghost item_kind: { Self.Item.kind ≡ (list list_name).kind };
@@ -69,7 +69,7 @@ impl<L: ListOf> Frame for Items<L> {
 
     ghost slots = { λ r. items_slots L.Item.tree r.items };
 
-    ghost kinds = { item_kinds L.list_name L.Item.kind L.one_name L.item_kind };
+    ghost kinds = { item_kinds L.list_name L.Item.kind L.item_kind L.one_name };
 
     ghost frame = { list_frame L.list_name };
 

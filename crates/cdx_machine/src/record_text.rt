@@ -97,7 +97,8 @@ pub trait ExactRecord {
 
     /// The record with this text.
     fn with_text(begun: Self::Start, content: Text) -> Self::Value
-        ensures { Self.Value.tree result ≡ fields name (with_field at (text content) (start begun)) };
+        ensures { Self.Value.tree result
+            ≡ fields name (with_field at (text content) (start begun)) };
 
     // That row is the text that stands right in the element.
     ghost content: { content_from 0 (rows name) ≡ one_text_alone at };

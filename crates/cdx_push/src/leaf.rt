@@ -1,0 +1,248 @@
+//! The machine of any kind that doesn't contain itself.
+
+use crate::kinds::{LeafKind, LeafValue};
+use cdx_events::{List, OwnedAttribute, OwnedName, XmlEvent};
+use cdx_machine::{FlagMachine, Leaves, Machine, TextMachine};
+use cdx_models::{SpecVersion, XmlReadError};
+use cdx_push_models::{
+    AttachedTextMachine, AuthorsMachine, EndpointsMachine, EntityMachine,
+    ExternalReferencesMachine, HashesMachine, PropertiesMachine, ToolMachine,
+};
+use cdx_push_parts::{
+    CommitsMachine, ComponentEvidenceMachine, DataMachine, LicensesMachine, PatchesMachine,
+    SwidMachine,
+};
+use cdx_push_relations::{CompositionsMachine, DependenciesMachine, SignatureMachine};
+use std::alloc::Global;
+
+/// The machine of the kind that its variant names.
+#[derive(Drop)]
+pub enum Leaf {
+    /// A text.
+    Text(TextMachine),
+    /// `true` or `false`.
+    Flag(FlagMachine),
+    /// A text with its content type and its encoding.
+    AttachedText(AttachedTextMachine),
+    /// The addresses of a service.
+    Endpoints(EndpointsMachine),
+    /// The authors of a bill.
+    Authors(AuthorsMachine),
+    /// An organization.
+    Entity(EntityMachine),
+    /// Hashes.
+    Hashes(HashesMachine),
+    /// Properties.
+    Properties(PropertiesMachine),
+    /// Commits.
+    Commits(CommitsMachine),
+    /// Patches.
+    Patches(PatchesMachine),
+    /// References to what stands outside the bill.
+    ExternalReferences(ExternalReferencesMachine),
+    /// Dependencies.
+    Dependencies(DependenciesMachine),
+    /// Compositions.
+    Compositions(CompositionsMachine),
+    /// Licenses and expressions.
+    Licenses(LicensesMachine),
+    /// A signature.
+    Signature(SignatureMachine),
+    /// A tool.
+    Tool(ToolMachine),
+    /// A software tag.
+    Swid(SwidMachine),
+    /// The evidence of a component.
+    Evidence(ComponentEvidenceMachine),
+    /// The data of a service.
+    Data(DataMachine),
+}
+
+impl Leaves for Leaf {
+    ghost use Rattle.cdx_push.specs.declared.leaf.Leaf.TheVariants.{Text, Flag, AttachedText, Endpoints, Authors, Entity, Hashes, Properties, Commits, Patches, ExternalReferences, Dependencies, Compositions, Licenses, Signature, Tool, Swid, Evidence, Data};
+    ghost use Rattle.cdx_push.specs.Leaf.{kind_of, value_kind, value_tree, leaf_kind};
+
+    type Sort = LeafKind;
+
+    type Value = LeafValue;
+
+    ghost as_kind = { kind_of };
+
+    ghost sort_of = { leaf_kind };
+
+    ghost value_sort = { value_kind };
+
+    ghost tree = { value_tree };
+
+    ghost holds = { elim [
+      | Text m ↦ ⟦<TextMachine as Machine>⟧.holds m
+      | Flag m ↦ ⟦<FlagMachine as Machine>⟧.holds m
+      | AttachedText m ↦ ⟦<AttachedTextMachine as Machine>⟧.holds m
+      | Endpoints m ↦ ⟦<EndpointsMachine as Machine>⟧.holds m
+      | Authors m ↦ ⟦<AuthorsMachine as Machine>⟧.holds m
+      | Entity m ↦ ⟦<EntityMachine as Machine>⟧.holds m
+      | Hashes m ↦ ⟦<HashesMachine as Machine>⟧.holds m
+      | Properties m ↦ ⟦<PropertiesMachine as Machine>⟧.holds m
+      | Commits m ↦ ⟦<CommitsMachine as Machine>⟧.holds m
+      | Patches m ↦ ⟦<PatchesMachine as Machine>⟧.holds m
+      | ExternalReferences m ↦ ⟦<ExternalReferencesMachine as Machine>⟧.holds m
+      | Dependencies m ↦ ⟦<DependenciesMachine as Machine>⟧.holds m
+      | Compositions m ↦ ⟦<CompositionsMachine as Machine>⟧.holds m
+      | Licenses m ↦ ⟦<LicensesMachine as Machine>⟧.holds m
+      | Signature m ↦ ⟦<SignatureMachine as Machine>⟧.holds m
+      | Tool m ↦ ⟦<ToolMachine as Machine>⟧.holds m
+      | Swid m ↦ ⟦<SwidMachine as Machine>⟧.holds m
+      | Evidence m ↦ ⟦<ComponentEvidenceMachine as Machine>⟧.holds m
+      | Data m ↦ ⟦<DataMachine as Machine>⟧.holds m
+    ] };
+
+    fn start(
+        alloc: Global,
+        sort: LeafKind,
+        place: usize,
+        v: SpecVersion,
+        element: &OwnedName,
+        attributes: &List<OwnedAttribute>,
+    ) -> Result<Leaf, XmlReadError> {
+        match sort {
+            LeafKind::Text => Ok(Leaf::Text(TextMachine::start(
+                alloc, place, v, element, attributes,
+            )?)),
+            LeafKind::Flag => Ok(Leaf::Flag(FlagMachine::start(
+                alloc, place, v, element, attributes,
+            )?)),
+            LeafKind::AttachedText => Ok(Leaf::AttachedText(AttachedTextMachine::start(
+                alloc, place, v, element, attributes,
+            )?)),
+            LeafKind::Endpoints => Ok(Leaf::Endpoints(EndpointsMachine::start(
+                alloc, place, v, element, attributes,
+            )?)),
+            LeafKind::Authors => Ok(Leaf::Authors(AuthorsMachine::start(
+                alloc, place, v, element, attributes,
+            )?)),
+            LeafKind::Entity => Ok(Leaf::Entity(EntityMachine::start(
+                alloc, place, v, element, attributes,
+            )?)),
+            LeafKind::Hashes => Ok(Leaf::Hashes(HashesMachine::start(
+                alloc, place, v, element, attributes,
+            )?)),
+            LeafKind::Properties => Ok(Leaf::Properties(PropertiesMachine::start(
+                alloc, place, v, element, attributes,
+            )?)),
+            LeafKind::Commits => Ok(Leaf::Commits(CommitsMachine::start(
+                alloc, place, v, element, attributes,
+            )?)),
+            LeafKind::Patches => Ok(Leaf::Patches(PatchesMachine::start(
+                alloc, place, v, element, attributes,
+            )?)),
+            LeafKind::ExternalReferences => Ok(Leaf::ExternalReferences(
+                ExternalReferencesMachine::start(alloc, place, v, element, attributes)?,
+            )),
+            LeafKind::Dependencies => Ok(Leaf::Dependencies(DependenciesMachine::start(
+                alloc, place, v, element, attributes,
+            )?)),
+            LeafKind::Compositions => Ok(Leaf::Compositions(CompositionsMachine::start(
+                alloc, place, v, element, attributes,
+            )?)),
+            LeafKind::Licenses => Ok(Leaf::Licenses(LicensesMachine::start(
+                alloc, place, v, element, attributes,
+            )?)),
+            LeafKind::Signature => Ok(Leaf::Signature(SignatureMachine::start(
+                alloc, place, v, element, attributes,
+            )?)),
+            LeafKind::Tool => Ok(Leaf::Tool(ToolMachine::start(
+                alloc, place, v, element, attributes,
+            )?)),
+            LeafKind::Swid => Ok(Leaf::Swid(SwidMachine::start(
+                alloc, place, v, element, attributes,
+            )?)),
+            LeafKind::Evidence => Ok(Leaf::Evidence(ComponentEvidenceMachine::start(
+                alloc, place, v, element, attributes,
+            )?)),
+            LeafKind::Data => Ok(Leaf::Data(DataMachine::start(
+                alloc, place, v, element, attributes,
+            )?)),
+        }
+    }
+
+    fn step(&mut self, place: usize, event: &XmlEvent) -> Result<Option<LeafValue>, XmlReadError> {
+        match self {
+            Leaf::Text(machine) => match machine.step(place, event)? {
+                None => Ok(None),
+                Some(value) => Ok(Some(LeafValue::Text(value))),
+            },
+            Leaf::Flag(machine) => match machine.step(place, event)? {
+                None => Ok(None),
+                Some(value) => Ok(Some(LeafValue::Flag(value))),
+            },
+            Leaf::AttachedText(machine) => match machine.step(place, event)? {
+                None => Ok(None),
+                Some(value) => Ok(Some(LeafValue::AttachedText(value))),
+            },
+            Leaf::Endpoints(machine) => match machine.step(place, event)? {
+                None => Ok(None),
+                Some(value) => Ok(Some(LeafValue::Endpoints(value))),
+            },
+            Leaf::Authors(machine) => match machine.step(place, event)? {
+                None => Ok(None),
+                Some(value) => Ok(Some(LeafValue::Authors(value))),
+            },
+            Leaf::Entity(machine) => match machine.step(place, event)? {
+                None => Ok(None),
+                Some(value) => Ok(Some(LeafValue::Entity(value))),
+            },
+            Leaf::Hashes(machine) => match machine.step(place, event)? {
+                None => Ok(None),
+                Some(value) => Ok(Some(LeafValue::Hashes(value))),
+            },
+            Leaf::Properties(machine) => match machine.step(place, event)? {
+                None => Ok(None),
+                Some(value) => Ok(Some(LeafValue::Properties(value))),
+            },
+            Leaf::Commits(machine) => match machine.step(place, event)? {
+                None => Ok(None),
+                Some(value) => Ok(Some(LeafValue::Commits(value))),
+            },
+            Leaf::Patches(machine) => match machine.step(place, event)? {
+                None => Ok(None),
+                Some(value) => Ok(Some(LeafValue::Patches(value))),
+            },
+            Leaf::ExternalReferences(machine) => match machine.step(place, event)? {
+                None => Ok(None),
+                Some(value) => Ok(Some(LeafValue::ExternalReferences(value))),
+            },
+            Leaf::Dependencies(machine) => match machine.step(place, event)? {
+                None => Ok(None),
+                Some(value) => Ok(Some(LeafValue::Dependencies(value))),
+            },
+            Leaf::Compositions(machine) => match machine.step(place, event)? {
+                None => Ok(None),
+                Some(value) => Ok(Some(LeafValue::Compositions(value))),
+            },
+            Leaf::Licenses(machine) => match machine.step(place, event)? {
+                None => Ok(None),
+                Some(value) => Ok(Some(LeafValue::Licenses(value))),
+            },
+            Leaf::Signature(machine) => match machine.step(place, event)? {
+                None => Ok(None),
+                Some(value) => Ok(Some(LeafValue::Signature(value))),
+            },
+            Leaf::Tool(machine) => match machine.step(place, event)? {
+                None => Ok(None),
+                Some(value) => Ok(Some(LeafValue::Tool(value))),
+            },
+            Leaf::Swid(machine) => match machine.step(place, event)? {
+                None => Ok(None),
+                Some(value) => Ok(Some(LeafValue::Swid(value))),
+            },
+            Leaf::Evidence(machine) => match machine.step(place, event)? {
+                None => Ok(None),
+                Some(value) => Ok(Some(LeafValue::Evidence(value))),
+            },
+            Leaf::Data(machine) => match machine.step(place, event)? {
+                None => Ok(None),
+                Some(value) => Ok(Some(LeafValue::Data(value))),
+            },
+        }
+    }
+}

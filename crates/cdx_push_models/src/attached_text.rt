@@ -1,0 +1,94 @@
+//! Attached texts.
+
+use cdx_events::{List, OwnedAttribute, OwnedName, Text, XmlEvent};
+use cdx_leaf::begin_attached_text;
+use cdx_machine::{ExactRecord, ExactRecordMachine, Machine};
+use cdx_models::{AttachedText, SpecVersion, XmlReadError};
+use std::alloc::Global;
+
+/// An attached text, whose text has to be there.
+pub struct ExactAttachedText;
+
+/// The machine of an attached text.
+#[derive(Drop)]
+pub struct AttachedTextMachine {
+    machine: ExactRecordMachine<ExactAttachedText>,
+}
+
+impl Machine for AttachedTextMachine {
+    ghost use Rattle.cdx_models.specs.Records.{attached_text_tree};
+    ghost use Rattle.cdx_schema.specs.Kinds.{a_record};
+    ghost use Rattle.cdx_models.specs.Trees.{attached_text};
+
+    type Value = AttachedText;
+
+    ghost tree = { attached_text_tree };
+
+    ghost kind = { a_record attached_text };
+
+    ghost holds = { λ m. ⟦<ExactRecordMachine<ExactAttachedText> as Machine>⟧.holds m.machine };
+
+    fn start(
+        alloc: Global,
+        place: usize,
+        v: SpecVersion,
+        element: &OwnedName,
+        attributes: &List<OwnedAttribute>,
+    ) -> Result<AttachedTextMachine, XmlReadError> {
+        Ok(AttachedTextMachine {
+            machine: ExactRecordMachine::<ExactAttachedText>::start(
+                alloc, place, v, element, attributes,
+            )?,
+        })
+    }
+
+    fn step(
+        &mut self,
+        place: usize,
+        event: &XmlEvent,
+    ) -> Result<Option<AttachedText>, XmlReadError> {
+        self.machine.step(place, event)
+    }
+}
+
+impl ExactRecord for ExactAttachedText {
+    ghost use Rattle.std.specs.Prelude.{refl};
+    ghost use Rattle.cdx_models.specs.Trees.{attached_text};
+    ghost use Rattle.cdx_leaf.specs.Parts.{attached_start};
+    ghost use Rattle.cdx_leaf.specs.RowContents.{content_is};
+    ghost use Rattle.cdx_push_models.specs.Exact.{attached_whole};
+
+    type Value = AttachedText;
+
+    type Start = (Option<Text>, Option<Text>);
+
+    ghost name = { attached_text };
+
+    ghost start = { attached_start };
+
+    ghost at = { 2 };
+
+    ghost content = { content_is attached_text };
+
+    ghost plain = { refl };
+
+    ghost whole = { attached_whole };
+
+    fn begin(
+        alloc: Global,
+        place: usize,
+        v: SpecVersion,
+        element: &OwnedName,
+        attributes: &List<OwnedAttribute>,
+    ) -> Result<(Option<Text>, Option<Text>), XmlReadError> {
+        begin_attached_text(alloc, place, v, element, attributes)
+    }
+
+    fn with_text(begun: (Option<Text>, Option<Text>), content: Text) -> AttachedText {
+        AttachedText {
+            content_type: begun.0,
+            encoding: begun.1,
+            content,
+        }
+    }
+}

@@ -1,0 +1,244 @@
+//! References to what stands outside the bill, and tools.
+
+use crate::hashes::HashesMachine;
+use cdx_events::{List, OwnedAttribute, OwnedName, Text, XmlEvent};
+use cdx_leaf::{Rule, XmlRecord};
+use cdx_machine::{
+    Found, ListMachine, ListOf, Machine, Only, Or, PushRecord, RecordMachine, TextMachine,
+};
+use cdx_models::{ExternalReference, ExternalReferences, Hashes, SpecVersion, Tool, XmlReadError};
+use std::alloc::{AllocError, Global};
+
+/// The children of a reference.
+pub struct ReferenceChildren;
+
+/// The machine of a reference.
+#[derive(Drop)]
+pub struct ReferenceMachine {
+    machine: RecordMachine<ReferenceChildren>,
+}
+
+impl Machine for ReferenceMachine {
+    ghost use Rattle.cdx_models.specs.Trees.{reference};
+    ghost use Rattle.cdx_models.specs.Records.{reference_tree};
+    ghost use Rattle.cdx_schema.specs.Kinds.{a_record};
+
+    type Value = ExternalReference;
+
+    ghost tree = { reference_tree };
+
+    ghost kind = { a_record reference };
+
+    ghost holds = { λ m. ⟦<RecordMachine<ReferenceChildren> as Machine>⟧.holds m.machine };
+
+    fn start(
+        alloc: Global,
+        place: usize,
+        v: SpecVersion,
+        element: &OwnedName,
+        attributes: &List<OwnedAttribute>,
+    ) -> Result<ReferenceMachine, XmlReadError> {
+        Ok(ReferenceMachine {
+            machine: RecordMachine::<ReferenceChildren>::start(
+                alloc, place, v, element, attributes,
+            )?,
+        })
+    }
+
+    fn step(
+        &mut self,
+        place: usize,
+        event: &XmlEvent,
+    ) -> Result<Option<ExternalReference>, XmlReadError> {
+        self.machine.step(place, event)
+    }
+}
+
+#[tactic(auto, unfolding(cdx_machine::proofs::OnRows::on_rows), using(cdx_machine::proofs::OnRows::by_rows))]
+impl PushRecord for ReferenceChildren {
+    ghost use Rattle.cdx_push_models.specs.RecordKinds.{reference_kinds};
+
+    type Record = ExternalReference;
+
+    type Child = Or<TextMachine, Or<TextMachine, Only<HashesMachine>>>;
+
+    ghost kinds = { reference_kinds };
+
+    fn find(
+        _part: &<ExternalReference as XmlRecord>::Part,
+        _v: SpecVersion,
+        name: &OwnedName,
+    ) -> Found {
+        match name.local_name.as_str() {
+            "url" => Found::At(0),
+            "comment" => Found::At(1),
+            "hashes" => Found::At(2),
+            _ => Found::Unknown,
+        }
+    }
+
+    fn put(
+        part: &mut <ExternalReference as XmlRecord>::Part,
+        _alloc: Global,
+        value: Or<Text, Or<Text, Hashes>>,
+    ) -> Result<(), AllocError> {
+        match value {
+            Or::This(url) => part.url = Some(url),
+            Or::Other(Or::This(comment)) => part.comment = Some(comment),
+            Or::Other(Or::Other(hashes)) => part.hashes = Some(hashes),
+        }
+        Ok(())
+    }
+}
+
+/// References as a list.
+pub struct ReferenceList;
+
+/// The machine of references.
+#[derive(Drop)]
+pub struct ExternalReferencesMachine {
+    machine: ListMachine<ReferenceList>,
+}
+
+impl Machine for ExternalReferencesMachine {
+    ghost use Rattle.cdx_models.specs.Records.{references_tree};
+    ghost use Rattle.cdx_schema.specs.Kinds.{a_list, external_references};
+
+    type Value = ExternalReferences;
+
+    ghost tree = { references_tree };
+
+    ghost kind = { a_list external_references };
+
+    ghost holds = { λ m. ⟦<ListMachine<ReferenceList> as Machine>⟧.holds m.machine };
+
+    fn start(
+        alloc: Global,
+        place: usize,
+        v: SpecVersion,
+        element: &OwnedName,
+        attributes: &List<OwnedAttribute>,
+    ) -> Result<ExternalReferencesMachine, XmlReadError> {
+        Ok(ExternalReferencesMachine {
+            machine: ListMachine::<ReferenceList>::start(alloc, place, v, element, attributes)?,
+        })
+    }
+
+    fn step(
+        &mut self,
+        place: usize,
+        event: &XmlEvent,
+    ) -> Result<Option<ExternalReferences>, XmlReadError> {
+        match self.machine.step(place, event)? {
+            Some(items) => Ok(Some(ExternalReferences(items))),
+            None => Ok(None),
+        }
+    }
+}
+
+#[tactic(auto, unfolding(cdx_machine::proofs::OnRows::on_rows), using(cdx_machine::proofs::OnRows::by_rows))]
+impl ListOf for ReferenceList {
+    ghost use Rattle.cdx_schema.specs.Kinds.{external_references};
+    ghost use Rattle.cdx_push_models.specs.ItemKinds.{external_references_item};
+
+    type Item = ReferenceMachine;
+
+    ghost list_name = { external_references };
+
+    ghost one_name = { tt };
+
+    ghost item_kind = { external_references_item };
+
+    fn inner() -> &'static str {
+        "reference"
+    }
+
+    fn rule() -> Rule {
+        Rule::Strict
+    }
+}
+
+/// The children of a tool.
+pub struct ToolChildren;
+
+/// The machine of a tool.
+#[derive(Drop)]
+pub struct ToolMachine {
+    machine: RecordMachine<ToolChildren>,
+}
+
+impl Machine for ToolMachine {
+    ghost use Rattle.cdx_models.specs.Trees.{tool};
+    ghost use Rattle.cdx_models.specs.Records.{tool_tree};
+    ghost use Rattle.cdx_schema.specs.Kinds.{a_record};
+
+    type Value = Tool;
+
+    ghost tree = { tool_tree };
+
+    ghost kind = { a_record tool };
+
+    ghost holds = { λ m. ⟦<RecordMachine<ToolChildren> as Machine>⟧.holds m.machine };
+
+    fn start(
+        alloc: Global,
+        place: usize,
+        v: SpecVersion,
+        element: &OwnedName,
+        attributes: &List<OwnedAttribute>,
+    ) -> Result<ToolMachine, XmlReadError> {
+        Ok(ToolMachine {
+            machine: RecordMachine::<ToolChildren>::start(alloc, place, v, element, attributes)?,
+        })
+    }
+
+    fn step(&mut self, place: usize, event: &XmlEvent) -> Result<Option<Tool>, XmlReadError> {
+        self.machine.step(place, event)
+    }
+}
+
+#[tactic(auto, unfolding(cdx_machine::proofs::OnRows::on_rows), using(cdx_machine::proofs::OnRows::by_rows))]
+impl PushRecord for ToolChildren {
+    ghost use Rattle.cdx_push_models.specs.RecordKinds.{tool_kinds};
+
+    type Record = Tool;
+
+    type Child = Or<
+        TextMachine,
+        Or<TextMachine, Or<TextMachine, Or<HashesMachine, Only<ExternalReferencesMachine>>>>,
+    >;
+
+    ghost kinds = { tool_kinds };
+
+    fn find(_part: &Tool, v: SpecVersion, name: &OwnedName) -> Found {
+        match name.local_name.as_str() {
+            "vendor" => Found::At(0),
+            "name" => Found::At(1),
+            "version" => Found::At(2),
+            "hashes" => Found::At(3),
+            "externalReferences" => {
+                if !SpecVersion::V1_4.is_known_to(v) {
+                    return Found::Unknown;
+                }
+                Found::At(4)
+            }
+            _ => Found::Unknown,
+        }
+    }
+
+    fn put(
+        part: &mut Tool,
+        _alloc: Global,
+        value: Or<Text, Or<Text, Or<Text, Or<Hashes, ExternalReferences>>>>,
+    ) -> Result<(), AllocError> {
+        match value {
+            Or::This(vendor) => part.vendor = Some(vendor),
+            Or::Other(Or::This(name)) => part.name = Some(name),
+            Or::Other(Or::Other(Or::This(version))) => part.version = Some(version),
+            Or::Other(Or::Other(Or::Other(Or::This(hashes)))) => part.hashes = Some(hashes),
+            Or::Other(Or::Other(Or::Other(Or::Other(external_references)))) =>
+                part.external_references = Some(external_references),
+        }
+        Ok(())
+    }
+}

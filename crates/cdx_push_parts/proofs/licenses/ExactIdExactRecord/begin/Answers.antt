@@ -1,0 +1,8 @@
+use Rattle.std.proofs.Common.{refl}
+use Rattle.cdx_schema.specs.Table.{rows}
+use Rattle.cdx_schema.specs.XmlReading.{attributes_read}
+use Rattle.cdx_push_parts.proofs.licenses.ExactIdExactRecord.begin.Goals as goal
+
+pub returns : goal.returns
+unfolding rows attributes_read
+returns c = refl

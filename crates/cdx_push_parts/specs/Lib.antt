@@ -1,0 +1,5 @@
+pub mod Choices
+pub mod Exact
+pub mod ItemKinds
+pub mod RecordKinds
+pub mod ServiceData

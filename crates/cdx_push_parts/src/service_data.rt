@@ -1,0 +1,287 @@
+//! The data of services.
+
+use cdx_events::{List, OwnedAttribute, OwnedName, XmlEvent};
+use cdx_leaf::{Children, Rule, XmlRecord};
+use cdx_machine::{
+    Found, Frame, FrameMachine, Machine, Only, Or, PushRecord, RecordMachine, TextRecordMachine,
+};
+use cdx_models::{SpecVersion, XmlReadError};
+use cdx_service_data::{Data, DataClassification, DataPart, ServiceData, ServiceDataPart};
+use std::alloc::{AllocError, Global};
+
+/// The machine of a classification.
+pub type ClassificationMachine = TextRecordMachine<DataClassification>;
+
+/// The children of a flow.
+pub struct ServiceDataChildren;
+
+/// The machine of a flow.
+pub type ServiceDataMachine = RecordMachine<ServiceDataChildren>;
+
+#[tactic(auto, unfolding(cdx_machine::proofs::OnRows::on_rows), using(cdx_machine::proofs::OnRows::by_rows))]
+impl PushRecord for ServiceDataChildren {
+    ghost use Rattle.cdx_push_parts.specs.RecordKinds.{service_data_kinds};
+
+    type Record = ServiceData;
+
+    type Child = Only<ClassificationMachine>;
+
+    ghost kinds = { service_data_kinds };
+
+    fn find(_part: &ServiceDataPart, _v: SpecVersion, name: &OwnedName) -> Found {
+        match name.local_name.as_str() {
+            "classification" => Found::At(0),
+            _ => Found::Unknown,
+        }
+    }
+
+    fn put(
+        part: &mut ServiceDataPart,
+        _alloc: Global,
+        value: DataClassification,
+    ) -> Result<(), AllocError> {
+        part.classification = Some(value);
+        Ok(())
+    }
+}
+
+/// A flow while it is read as an entry of a service's data.
+#[derive(Drop)]
+pub struct BegunEntry {
+    part: ServiceDataPart,
+}
+
+/// The machine of an entry.
+#[derive(Drop)]
+pub struct EntryMachine {
+    machine: FrameMachine<BegunEntry>,
+}
+
+impl Machine for EntryMachine {
+    ghost use Rattle.cdx_service_data.specs.Records.{service_entry};
+    ghost use Rattle.cdx_schema.specs.Kinds.{an_entry};
+
+    type Value = ServiceData;
+
+    ghost tree = { service_entry };
+
+    ghost kind = { an_entry };
+
+    ghost holds = { λ m. ⟦<FrameMachine<BegunEntry> as Machine>⟧.holds m.machine };
+
+    fn start(
+        alloc: Global,
+        place: usize,
+        v: SpecVersion,
+        element: &OwnedName,
+        attributes: &List<OwnedAttribute>,
+    ) -> Result<EntryMachine, XmlReadError> {
+        Ok(EntryMachine {
+            machine: FrameMachine::<BegunEntry>::start(alloc, place, v, element, attributes)?,
+        })
+    }
+
+    fn step(
+        &mut self,
+        place: usize,
+        event: &XmlEvent,
+    ) -> Result<Option<ServiceData>, XmlReadError> {
+        self.machine.step(place, event)
+    }
+}
+
+impl Frame for BegunEntry {
+    ghost use Rattle.cdx_models.specs.Trees.{service_data};
+    ghost use Rattle.cdx_schema.specs.Kinds.{an_entry};
+    ghost use Rattle.cdx_schema.specs.XmlReading.{record_plan};
+    ghost use Rattle.cdx_service_data.specs.Parts.{service_data_part};
+    ghost use Rattle.cdx_service_data.specs.Records.{service_entry};
+    ghost use Rattle.cdx_machine.specs.Plain.{attributes_first};
+    ghost use Rattle.cdx_push_parts.specs.RecordKinds.{service_data_kinds};
+    ghost use Rattle.cdx_push_parts.specs.ServiceData.{entry_last, entry_frame};
+
+    type Value = ServiceData;
+
+    type Child = Only<ClassificationMachine>;
+
+    ghost tree = { service_entry };
+
+    ghost kind = { an_entry };
+
+    ghost plan = { record_plan service_data };
+
+    ghost first = { attributes_first service_data };
+
+    ghost last = { entry_last };
+
+    ghost slots = { λ r. service_data_part r.part };
+
+    ghost kinds = { service_data_kinds };
+
+    ghost frame = { entry_frame };
+
+    fn rule(&self) -> Rule {
+        self.part.rule()
+    }
+
+    fn begin(
+        alloc: Global,
+        place: usize,
+        v: SpecVersion,
+        element: &OwnedName,
+        attributes: &List<OwnedAttribute>,
+    ) -> Result<BegunEntry, XmlReadError> {
+        Ok(BegunEntry {
+            part: ServiceData::begin(alloc, place, v, element, attributes)?,
+        })
+    }
+
+    fn find(&self, v: SpecVersion, name: &OwnedName) -> Found {
+        ServiceDataChildren::find(&self.part, v, name)
+    }
+
+    fn put(&mut self, alloc: Global, value: DataClassification) -> Result<(), AllocError> {
+        ServiceDataChildren::put(&mut self.part, alloc, value)
+    }
+
+    fn finish(
+        self,
+        alloc: Global,
+        place: usize,
+        v: SpecVersion,
+        element: &OwnedName,
+    ) -> Result<ServiceData, XmlReadError> {
+        ServiceData::finish(alloc, place, v, element, self.part)
+    }
+}
+
+/// The data of a service while it is read.
+#[derive(Drop)]
+pub struct BegunData {
+    part: DataPart,
+}
+
+/// The machine of the data of a service.
+#[derive(Drop)]
+pub struct DataMachine {
+    machine: FrameMachine<BegunData>,
+}
+
+impl Machine for DataMachine {
+    ghost use Rattle.cdx_service_data.specs.Records.{data_tree};
+    ghost use Rattle.cdx_schema.specs.Kinds.{a_data};
+
+    type Value = Data;
+
+    ghost tree = { data_tree };
+
+    ghost kind = { a_data };
+
+    ghost holds = { λ m. ⟦<FrameMachine<BegunData> as Machine>⟧.holds m.machine };
+
+    fn start(
+        alloc: Global,
+        place: usize,
+        v: SpecVersion,
+        element: &OwnedName,
+        attributes: &List<OwnedAttribute>,
+    ) -> Result<DataMachine, XmlReadError> {
+        Ok(DataMachine {
+            machine: FrameMachine::<BegunData>::start(alloc, place, v, element, attributes)?,
+        })
+    }
+
+    fn step(&mut self, place: usize, event: &XmlEvent) -> Result<Option<Data>, XmlReadError> {
+        self.machine.step(place, event)
+    }
+}
+
+#[tactic(auto, unfolding(cdx_machine::proofs::OnRows::on_rows), using(cdx_machine::proofs::OnRows::by_rows))]
+impl Frame for BegunData {
+    ghost use Rattle.std.specs.Prelude.{refl};
+    ghost use Rattle.cdx_schema.specs.Kinds.{a_data};
+    ghost use Rattle.cdx_schema.specs.XmlReading.{data_plan};
+    ghost use Rattle.cdx_service_data.specs.Parts.{data_part};
+    ghost use Rattle.cdx_service_data.specs.Records.{data_tree};
+    ghost use Rattle.cdx_push_parts.specs.ServiceData.{data_first, data_last, data_frame};
+
+    type Value = Data;
+
+    type Child = Or<ClassificationMachine, Only<EntryMachine>>;
+
+    ghost tree = { data_tree };
+
+    ghost kind = { a_data };
+
+    ghost plan = { data_plan };
+
+    ghost first = { data_first };
+
+    ghost last = { data_last };
+
+    ghost slots = { λ r. data_part r.part };
+
+    ghost kinds = { refl };
+
+    ghost frame = { data_frame };
+
+    fn rule(&self) -> Rule {
+        Rule::Passing
+    }
+
+    fn begin(
+        alloc: Global,
+        _place: usize,
+        _v: SpecVersion,
+        _element: &OwnedName,
+        _attributes: &List<OwnedAttribute>,
+    ) -> Result<BegunData, XmlReadError> {
+        Ok(BegunData {
+            part: DataPart {
+                classifications: List::new(alloc),
+                flows: List::new(alloc),
+            },
+        })
+    }
+
+    fn find(&self, v: SpecVersion, name: &OwnedName) -> Found {
+        match name.local_name.as_str() {
+            "classification" => Found::At(0),
+            "dataflow" => {
+                if !SpecVersion::V1_5.is_known_to(v) {
+                    return Found::Unknown;
+                }
+                Found::At(1)
+            }
+            _ => Found::Unknown,
+        }
+    }
+
+    fn put(
+        &mut self,
+        _alloc: Global,
+        value: Or<DataClassification, ServiceData>,
+    ) -> Result<(), AllocError> {
+        match value {
+            Or::This(classification) => self.part.classifications.push(classification),
+            Or::Other(flow) => self.part.flows.push(flow),
+        }
+    }
+
+    fn finish(
+        self,
+        _alloc: Global,
+        _place: usize,
+        _v: SpecVersion,
+        _element: &OwnedName,
+    ) -> Result<Data, XmlReadError> {
+        let DataPart {
+            classifications,
+            flows,
+        } = self.part;
+        if flows.len() == 0 {
+            return Ok(Data::Classification(classifications));
+        }
+        Ok(Data::ServiceData(flows))
+    }
+}

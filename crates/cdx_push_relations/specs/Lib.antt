@@ -1,0 +1,4 @@
+pub mod BomReferences
+pub mod ItemKinds
+pub mod RecordKinds
+pub mod Signatures

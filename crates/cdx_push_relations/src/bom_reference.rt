@@ -1,0 +1,116 @@
+//! References to other parts of the bill.
+
+use cdx_events::{List, OwnedAttribute, OwnedName, Text, XmlEvent};
+use cdx_leaf::{Rule, attribute_or_error};
+use cdx_machine::{Found, Frame, FrameMachine, Machine, NoMachine};
+use cdx_models::{SpecVersion, XmlReadError};
+use cdx_relations::BomReference;
+use std::alloc::{AllocError, Global};
+
+/// A reference whose element hasn't ended.
+#[derive(Drop)]
+pub struct BegunReference {
+    reference: Text,
+}
+
+/// The machine of a reference.
+#[derive(Drop)]
+pub struct BomReferenceMachine {
+    machine: FrameMachine<BegunReference>,
+}
+
+impl Machine for BomReferenceMachine {
+    ghost use Rattle.cdx_relations.specs.Records.{bom_reference_tree};
+    ghost use Rattle.cdx_schema.specs.Kinds.{a_reference};
+
+    type Value = BomReference;
+
+    ghost tree = { bom_reference_tree };
+
+    ghost kind = { a_reference };
+
+    ghost holds = { λ m. ⟦<FrameMachine<BegunReference> as Machine>⟧.holds m.machine };
+
+    fn start(
+        alloc: Global,
+        place: usize,
+        v: SpecVersion,
+        element: &OwnedName,
+        attributes: &List<OwnedAttribute>,
+    ) -> Result<BomReferenceMachine, XmlReadError> {
+        Ok(BomReferenceMachine {
+            machine: FrameMachine::<BegunReference>::start(alloc, place, v, element, attributes)?,
+        })
+    }
+
+    fn step(
+        &mut self,
+        place: usize,
+        event: &XmlEvent,
+    ) -> Result<Option<BomReference>, XmlReadError> {
+        self.machine.step(place, event)
+    }
+}
+
+impl Frame for BegunReference {
+    ghost use Rattle.std.specs.Prelude.{refl};
+    ghost use Rattle.cdx_models.specs.Trees.{text, one};
+    ghost use Rattle.cdx_schema.specs.Kinds.{a_reference};
+    ghost use Rattle.cdx_schema.specs.XmlReading.{no_plan};
+    ghost use Rattle.cdx_relations.specs.Records.{bom_reference_tree};
+    ghost use Rattle.cdx_push_relations.specs.BomReferences.{reference_first, reference_last, reference_frame};
+
+    type Value = BomReference;
+
+    type Child = NoMachine;
+
+    ghost tree = { bom_reference_tree };
+
+    ghost kind = { a_reference };
+
+    ghost plan = { no_plan };
+
+    ghost first = { reference_first };
+
+    ghost last = { reference_last };
+
+    ghost slots = { λ r. one (text r.reference) };
+
+    ghost kinds = { refl };
+
+    ghost frame = { reference_frame };
+
+    fn rule(&self) -> Rule {
+        Rule::Strict
+    }
+
+    fn begin(
+        alloc: Global,
+        place: usize,
+        _v: SpecVersion,
+        element: &OwnedName,
+        attributes: &List<OwnedAttribute>,
+    ) -> Result<BegunReference, XmlReadError> {
+        Ok(BegunReference {
+            reference: attribute_or_error(alloc, place, element, attributes, "ref")?,
+        })
+    }
+
+    fn find(&self, _v: SpecVersion, _name: &OwnedName) -> Found {
+        Found::Unknown
+    }
+
+    fn put(&mut self, _alloc: Global, _value: NoMachine) -> Result<(), AllocError> {
+        Ok(())
+    }
+
+    fn finish(
+        self,
+        _alloc: Global,
+        _place: usize,
+        _v: SpecVersion,
+        _element: &OwnedName,
+    ) -> Result<BomReference, XmlReadError> {
+        Ok(BomReference(self.reference))
+    }
+}

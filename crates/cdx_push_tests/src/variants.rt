@@ -1,0 +1,104 @@
+//! Which variant stands in a value that a machine reads. Trees don't tell it, so no contract does.
+
+use crate::expect::row_is;
+use crate::feeding::Heard;
+use crate::readers::read;
+use crate::told::{around, fed, kind_of};
+use cdx_events::List;
+use cdx_models::{ExternalReferences, Uri};
+use cdx_push::LeafValue;
+use cdx_signature::{Algorithm, Signature, Signer};
+use cdx_test_cases::rows::{Case, cases};
+use std::alloc::Global;
+use std::process::Abort;
+use std::test::Fail;
+
+fn of_signer(signer: &Signer) -> &'static str {
+    match signer.algorithm {
+        Algorithm::RS256 => "RS256",
+        Algorithm::ES256 => "ES256",
+        Algorithm::Ed25519 => "Ed25519",
+        Algorithm::HS512 => "HS512",
+        Algorithm::Unknown(_) => "unknown",
+        _ => "another",
+    }
+}
+
+fn of_only(signers: &List<Signer>) -> &'static str {
+    match signers.as_slice() {
+        [signer] => of_signer(signer),
+        _ => "not one",
+    }
+}
+
+fn of_signature(signature: &Signature) -> &'static str {
+    match signature {
+        Signature::Single(signer) => of_signer(signer),
+        Signature::Chain(signers) => of_only(signers),
+        Signature::Signers(signers) => of_only(signers),
+    }
+}
+
+fn of_references(references: &ExternalReferences) -> &'static str {
+    match references.0.as_slice() {
+        [reference] => match reference.url {
+            Uri::Url(_) => "address",
+            Uri::BomLink(_) => "link",
+        },
+        _ => "not one",
+    }
+}
+
+fn variant(value: &LeafValue) -> &'static str {
+    match value {
+        LeafValue::Signature(signature) => of_signature(signature),
+        LeafValue::ExternalReferences(references) => of_references(references),
+        _ => "another kind",
+    }
+}
+
+// The variant in what the machine reads, where it is that in what the kind's reader reads.
+fn found(alloc: Global, case: &Case<'_>) -> Result<&'static str, Fail> {
+    let kind = kind_of(case.word)?;
+    let events = around(alloc, case.given)?;
+    let Heard::Done(value) = fed(alloc, &events, kind, case.version, usize::MAX) else {
+        return Ok("not read by the machine");
+    };
+    let wanted = read(alloc, &events, kind, case.version)?;
+    if variant(&value) != variant(&wanted) {
+        return Ok("another than the reader's");
+    }
+    Ok(variant(&value))
+}
+
+fn variants(rt: &impl Abort, alloc: Global, rows: &str) -> Result<(), Fail> {
+    for case in &cases(alloc, rows)? {
+        row_is(rt, case.line, found(alloc, case)?, case.answer);
+    }
+    Ok(())
+}
+
+const ALGORITHMS: &str = r#"
+    1.3,1.4,1.5 Signature <signature|<algorithm|=ES256|>algorithm|<value|=a|>value|>signature -> ES256
+    1.5 Signature <signature|<algorithm|=Ed25519|>algorithm|<value|=a|>value|>signature -> Ed25519
+    1.5 Signature <signature|<algorithm|=es256|>algorithm|<value|=a|>value|>signature -> unknown
+    1.5 Signature <signature|<chain|<chain|<algorithm|=RS256|>algorithm|<value|=a|>value|>chain|>chain|>signature -> RS256
+    1.5 Signature <signature|<chain|<chain|<algorithm|=XY1|>algorithm|<value|=a|>value|>chain|>chain|>signature -> unknown
+    1.5 Signature <signature|<signers|<signer|<algorithm|=HS512|>algorithm|<value|=a|>value|>signer|>signers|>signature -> HS512
+"#;
+
+#[test]
+fn algorithms(rt: HostRuntime) -> Result<(), Fail> {
+    variants(&rt, rt.alloc(), ALGORITHMS)
+}
+
+// An address is a link to a bill where it begins with `urn:cdx:`.
+const ADDRESSES: &str = r#"
+    1.3,1.4,1.5 ExternalReferences <externalReferences|<reference type=t|<url|=urn:cdx:x|>url|>reference|>externalReferences -> link
+    1.3,1.4,1.5 ExternalReferences <externalReferences|<reference type=t|<url|=u|>url|>reference|>externalReferences -> address
+"#;
+
+#[test]
+fn addresses(rt: HostRuntime) -> Result<(), Fail> {
+    variants(&rt, rt.alloc(), ADDRESSES)
+}

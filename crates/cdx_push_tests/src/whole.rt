@@ -1,0 +1,153 @@
+//! Machines that are fed a whole element.
+
+use crate::expect::{row_holds, row_is};
+use crate::feeding::Heard;
+use crate::kinds::name_of;
+use crate::readers::read;
+use crate::same::same;
+use crate::samples::{GOOD, MISSING, PASSED, STRAY, UNKNOWN, UNPARSED};
+use crate::told::{around, fed, kind_of, told};
+use cdx_events::Events;
+use cdx_models::{Hashes, SpecVersion};
+use cdx_push::{LeafKind, LeafValue};
+use cdx_test_cases::faults::of_xml;
+use cdx_test_cases::rows::{Case, cases};
+use std::alloc::Global;
+use std::process::Abort;
+use std::test::Fail;
+
+// Rows of numbers of events, and what a machine of hashes makes of so many.
+const HASHES: &str = r#"
+    1.3,1.4,1.5 2,3,4 <hashes|<hash alg=a|=v|>hash|>hashes -> more
+    1.3,1.4,1.5 5 <hashes|<hash alg=a|=v|>hash|>hashes -> done
+    1.3,1.4,1.5 5 <hashes|<hash alg=a|=v|>hash|=t|>hashes -> unexpected 5 hashes Characters
+"#;
+
+fn count_of(word: &str) -> Result<usize, Fail> {
+    match word {
+        "2" => Ok(2),
+        "3" => Ok(3),
+        "4" => Ok(4),
+        "5" => Ok(5),
+        _ => Err(Fail::new("a row has another number of events")),
+    }
+}
+
+// What comes of the row's first events.
+fn counted(alloc: Global, case: &Case<'_>) -> Result<String, Fail> {
+    let count = count_of(case.word)?;
+    let events = around(alloc, case.given)?;
+    let heard = fed(alloc, &events, LeafKind::Hashes, case.version, count);
+    Ok(told(alloc, &heard)?)
+}
+
+#[test]
+fn hashes_step_by_step(rt: HostRuntime) -> Result<(), Fail> {
+    let alloc = rt.alloc();
+    for case in &cases(alloc, HASHES)? {
+        row_is(&rt, case.line, counted(alloc, case)?.as_str(), case.answer);
+    }
+    Ok(())
+}
+
+fn is_one_hash(hashes: &Hashes) -> bool {
+    match hashes.0.as_slice() {
+        [hash] => hash.alg.is("a") && hash.content.0.is("v"),
+        _ => false,
+    }
+}
+
+fn reads_one_hash(heard: &Heard) -> bool {
+    match heard {
+        Heard::Done(LeafValue::Hashes(hashes)) => is_one_hash(hashes),
+        _ => false,
+    }
+}
+
+#[test]
+fn one_hash(rt: HostRuntime) -> Result<(), Fail> {
+    let alloc = rt.alloc();
+    let line = "<hashes|<hash alg=a|=v|>hash|>hashes";
+    let events = around(alloc, line)?;
+    let heard = fed(alloc, &events, LeafKind::Hashes, SpecVersion::V1_5, 5);
+    row_holds(&rt, line, reads_one_hash(&heard));
+    Ok(())
+}
+
+// The name of the variant of what the machine reads, where the kind's reader reads the same.
+fn read_alike(
+    alloc: Global,
+    events: &Events,
+    kind: LeafKind,
+    v: SpecVersion,
+) -> Result<&'static str, Fail> {
+    let Heard::Done(value) = fed(alloc, events, kind, v, usize::MAX) else {
+        return Ok("not read by the machine");
+    };
+    let wanted = read(alloc, events, kind, v)?;
+    if !same(&value, &wanted) {
+        return Ok("another than the reader's");
+    }
+    Ok(name_of(&value))
+}
+
+fn all_read(rt: &impl Abort, alloc: Global, rows: &str) -> Result<(), Fail> {
+    for case in &cases(alloc, rows)? {
+        let kind = kind_of(case.word)?;
+        let events = around(alloc, case.given)?;
+        let found = read_alike(alloc, &events, kind, case.version)?;
+        row_is(rt, case.line, found, case.word);
+    }
+    Ok(())
+}
+
+#[test]
+fn good_elements(rt: HostRuntime) -> Result<(), Fail> {
+    all_read(&rt, rt.alloc(), GOOD)?;
+    all_read(&rt, rt.alloc(), PASSED)
+}
+
+// What the kind's reader answers.
+fn answered(
+    alloc: Global,
+    events: &Events,
+    kind: LeafKind,
+    v: SpecVersion,
+) -> Result<String, Fail> {
+    match read(alloc, events, kind, v) {
+        Ok(_) => Ok(String::from_str(alloc, "done")?),
+        Err(fault) => Ok(of_xml(alloc, &fault)?),
+    }
+}
+
+fn all_refused(rt: &impl Abort, alloc: Global, rows: &str) -> Result<(), Fail> {
+    for case in &cases(alloc, rows)? {
+        let kind = kind_of(case.word)?;
+        let events = around(alloc, case.given)?;
+        let heard = fed(alloc, &events, kind, case.version, usize::MAX);
+        row_is(rt, case.line, told(alloc, &heard)?.as_str(), case.answer);
+        let answer = answered(alloc, &events, kind, case.version)?;
+        row_is(rt, case.line, answer.as_str(), case.answer);
+    }
+    Ok(())
+}
+
+#[test]
+fn stray_texts(rt: HostRuntime) -> Result<(), Fail> {
+    all_refused(&rt, rt.alloc(), STRAY)
+}
+
+#[test]
+fn unknown_children(rt: HostRuntime) -> Result<(), Fail> {
+    all_refused(&rt, rt.alloc(), UNKNOWN)
+}
+
+#[test]
+fn missing_parts(rt: HostRuntime) -> Result<(), Fail> {
+    all_refused(&rt, rt.alloc(), MISSING)
+}
+
+#[test]
+fn unparsed_texts(rt: HostRuntime) -> Result<(), Fail> {
+    all_refused(&rt, rt.alloc(), UNPARSED)
+}
