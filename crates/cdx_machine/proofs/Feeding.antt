@@ -176,7 +176,7 @@ within_at (InvalidNamespaceError expected actual) place h = tt
 within_at (Memory m) place h = tt
 
 -- A fault of an element that begins with these events is the fault of every element that does.
-feed_fails : (kind : Kind) (v : SpecVersion) (p : ℕ) (d : Depth) (e : XmlReadError) (es r r' rest rest' : List XmlEvent) (x k : Node) (place : ℕ) → IsNoBill kind → events_of x ++ r ≡ es ++ rest → events_of k ++ r' ≡ es ++ rest' → place ≡ p + length es → Refuses e place (xread x v kind p d) → Fails e place (xread k v kind p d)
+pub feed_fails : (kind : Kind) (v : SpecVersion) (p : ℕ) (d : Depth) (e : XmlReadError) (es r r' rest rest' : List XmlEvent) (x k : Node) (place : ℕ) → IsNoBill kind → events_of x ++ r ≡ es ++ rest → events_of k ++ r' ≡ es ++ rest' → place ≡ p + length es → Refuses e place (xread x v kind p d) → Fails e place (xread k v kind p d)
 feed_fails kind v p d (Memory m) es r r' rest rest' x k place nb f g at h = tt
 feed_fails kind v p d e es r r' rest rest' x k place nb f g at h = (element_local es rest rest' r r' x k v kind p d e nb f g (omega (arith, at, h.1)) h.0, within_at e place h.1)
 

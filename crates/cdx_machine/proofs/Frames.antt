@@ -49,7 +49,7 @@ keeps_inside n a s xs (EndElement m) = (a, s, xs, refl)
 keeps_inside n a s xs (Characters u) = refl
 keeps_inside n a s xs (CData u) = refl
 
-keeps_into : (n : OwnedName) (a : List OwnedAttribute) (s : Namespace) (xs : Nodes) (o : Next) → Keeps n (into n a s xs o)
+pub keeps_into : (n : OwnedName) (a : List OwnedAttribute) (s : Namespace) (xs : Nodes) (o : Next) → Keeps n (into n a s xs o)
 keeps_into n a s xs (still o) = refl
 keeps_into n a s xs (whole k) = refl
 

@@ -14,7 +14,7 @@ use Rattle.cdx_machine.specs.Begun.{Begun, Next, still, whole, next}
 use Rattle.cdx_machine.specs.Machines.{Holding, CanStep, Steps, StepsAs}
 use Rattle.cdx_machine.specs.Several.{at_position, or_position, or_holds, or_tree}
 
-some_same : {A : Type 0} {x y : A} → Some x ≡ Some y → x ≡ y
+pub some_same : {A : Type 0} {x y : A} → Some x ≡ Some y → x ≡ y
 some_same {A = A} {x = x} h = ap (λ (o : Option A). the o) h
   where
     the : Option A → A

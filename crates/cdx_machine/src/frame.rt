@@ -117,8 +117,8 @@ pub trait Frame: Drop {
     ghost frame: { IsFrame kind plan first last };
 }
 
-// Takes an event of a child that is skipped, in which so many elements are open. Says whether it is the child's end.
-fn skip_one(depth: &mut usize, place: usize, event: &XmlEvent) -> bool
+/// Takes an event of a child that is skipped, in which so many elements are open. Says whether it is the child's end.
+pub fn skip_one(depth: &mut usize, place: usize, event: &XmlEvent) -> bool
     requires { depth.old < place }
     ensures { SkipsOne depth.old depth.new event.now result }
 {

@@ -17,7 +17,7 @@ mod texts;
 
 pub use by_name::{ByName, NamedMachine};
 pub use content::{Content, ContentMachine};
-pub use frame::{Found, Frame, FrameMachine, Inside};
+pub use frame::{Found, Frame, FrameMachine, Inside, skip_one};
 pub use leaves::Leaves;
 pub use listener::Listener;
 pub use lists::{Items, ListMachine, ListOf};

@@ -1,0 +1,6 @@
+pub mod FormSteps
+pub mod Stacks
+pub mod Entering
+pub mod Machine
+pub mod HeardStack
+pub mod Fed

@@ -1,0 +1,253 @@
+-- What becomes of a whole stack by what becomes of its top frame.
+use Rattle.std.proofs.Common.{◌≡◌, ℕ, suc, ◌+◌, List, [], ◌∷◌, false, Option, Some, None, Result, Ok, Err, refl, sym, ap, ◌∙◌, subst, arith}
+use Rattle.cdx_events.specs.declared.name.OwnedName.{OwnedName}
+use Rattle.cdx_events.specs.declared.name.OwnedAttribute.{OwnedAttribute}
+use Rattle.cdx_events.specs.declared.name.Namespace.{Namespace}
+use Rattle.cdx_events.specs.declared.event.XmlEvent.{XmlEvent}
+use Rattle.cdx_events.specs.declared.event.XmlEvent.TheVariants.{StartElement}
+use Rattle.cdx_events.specs.Nodes.{Node, element, no_nodes}
+use Rattle.cdx_models.specs.declared.bom.SpecVersion.{SpecVersion}
+use Rattle.cdx_models.specs.declared.errors.XmlReadError.{XmlReadError}
+use Rattle.cdx_models.specs.declared.errors.XmlReadError.TheVariants.{Memory}
+use Rattle.cdx_models.specs.Trees.{Tree, Trees}
+use Rattle.cdx_schema.specs.Depth.{Depth, is_too_deep}
+use Rattle.cdx_schema.specs.Kinds.{Kind}
+use Rattle.cdx_schema.specs.Nodes.{places, places_of, ◌⊕◌}
+use Rattle.cdx_schema.specs.XmlReading.{Child, find_child, stored, xread}
+use Rattle.cdx_machine.specs.declared.frame.Inside.{Inside}
+use Rattle.cdx_machine.specs.declared.frame.Inside.TheVariants.{Nothing}
+use Rattle.cdx_machine.specs.Begun.{Begun, innermost, around, Next, still, whole, count, start_name, ended_now, into, next, Takes, lone}
+use Rattle.cdx_machine.specs.Machines.{Refuses, IsQuiet, Steps, ChildHolding}
+use Rattle.cdx_machine.specs.Frames.{read_so_far, holds_inside}
+use Rattle.cdx_machine.proofs.Places.{places_more}
+use Rattle.cdx_machine.proofs.Faults.{refuses_on}
+use Rattle.cdx_machine.proofs.Frames.{IsNamed, ended_named, Keeps, keeps_into}
+use Rattle.std.specs.Prelude.{IfSome}
+use Rattle.cdx_machine.specs.Several.{at_position, Puts}
+use Rattle.cdx_machine.proofs.Names.{FindsAt}
+use Rattle.cdx_nest_machine.specs.declared.nested.Reads.TheVariants.{Nested}
+use Rattle.cdx_nest_machine.specs.Forms.{plan_of, first_of, last_of, inner_of, inner_read, IsNested}
+use Rattle.cdx_nest_machine.specs.Stacks.{Layer, plug, plug_next, Shape, Waits, Stand, Stacked}
+use Rattle.cdx_nest_machine.proofs.FormSteps.{IsForm, open_ok, open_fails, open_quiet, quiet_inside, frame_opens, frame_refuses}
+use Rattle.cdx_leaf.specs.Fault.{Fails}
+
+-- ---- events
+
+pub next_plug : (ls : List Layer) (o : Begun) (event : XmlEvent) → next (plug ls o) event ≡ plug_next ls (next o event)
+next_plug [] o event = refl
+next_plug (l ∷ ls) o event = next_plug ls (around l.name l.attributes l.namespace l.nodes o) event
+
+pub takes_plug : (ls : List Layer) (o : Begun) (event : XmlEvent) → Takes (plug ls o) event → Takes o event
+takes_plug [] o event t = t
+takes_plug (l ∷ ls) o event t = takes_plug ls (around l.name l.attributes l.namespace l.nodes o) event t
+
+pub still_plug : (ls : List Layer) (o : Begun) → plug_next ls (still o) ≡ still (plug ls o)
+still_plug [] o = refl
+still_plug (l ∷ ls) o = still_plug ls (around l.name l.attributes l.namespace l.nodes o)
+
+pub form_of : (kind : Kind) → IsNested kind → IsForm (inner_read kind) (plan_of kind) (first_of kind) (last_of kind)
+form_of kind law = record { reads = λ n a s xs v p d. refl; first_place = law.first_place; last_place = law.last_place }
+
+-- a refusal for want of memory says nothing
+pub memory_steps : {X T : Type 0} (held : Begun → Type 0) (view : X → T) (read : Node → Result T XmlReadError) (p : ℕ) (x : Next) (m : Rattle.std.specs.declared.alloc.AllocError.AllocError) → Steps held view read p x (Err (Memory m))
+memory_steps held view read p (still o) m = tt
+memory_steps held view read p (whole k) m = tt
+
+-- what a field becomes, by the child of the position
+pub puts_row : (cs : List Child) (i : ℕ) (row : Child) (t : Tree) (before now : Trees) → at_position cs i ≡ Some row → Puts cs i t before now → now ≡ stored row.place row.field t before
+puts_row cs i row t before now h puts = subst (λ (o : Option Child). IfSome o (λ (row : Child). now ≡ stored row.place row.field t before)) h puts
+
+module _ {W L K : Type 0} (s : Shape W L K) (law : (k : K) → IsNested (s.as_kind k)) (v : SpecVersion) where
+  -- ---- one frame around an open child
+  module _ (w : W) (l : Layer) (k : K) (q : ℕ) (e : Depth) (m : OwnedName) (h : Waits s v w l k q e m) where
+    kind_here : Kind
+    kind_here = s.as_kind (s.sort w)
+
+    -- what the child denotes, by the child of the plan
+    by_row : (x : Node) → xread x v (s.as_kind k) q e ≡ xread x v h.finds.row.kind (suc l.place + places_of l.nodes) (inner_of (s.as_kind (s.sort w)) l.depth)
+    by_row x =
+        ap (λ (i : Kind). xread x v i q e) (sym h.row_kind)
+        ∙ (ap (λ (i : ℕ). xread x v h.finds.row.kind i e) h.place_is
+        ∙ ap (λ (i : Depth). xread x v h.finds.row.kind (suc l.place + places_of l.nodes) i) h.depth_is)
+
+    pub layer_fails : (x : Node) (f : XmlReadError) → IsNamed m x → xread x v (s.as_kind k) q e ≡ Err f → xread (element l.name l.attributes l.namespace (l.nodes ⊕ lone x)) v (s.as_kind (s.sort w)) l.place l.depth ≡ Err f
+    layer_fails x f i is =
+        let c = s.as_kind (s.sort w) in
+        (law (s.sort w)).reads (element l.name l.attributes l.namespace (l.nodes ⊕ lone x)) v l.place l.depth h.sits.fits
+        ∙ open_fails (inner_read c) (plan_of c) (first_of c) (last_of c) (form_of c (law (s.sort w))) l.name l.attributes l.namespace l.nodes v l.place (inner_of c l.depth) (s.fields w) h.sits.reads x m h.finds.row f i h.finds.found h.finds.first_one (sym (by_row x) ∙ is)
+
+    pub layer_quiet : (o : Begun) → start_name o ≡ m → IsQuiet (q + count o) (xread (ended_now o) v (s.as_kind k) q e)
+        → IsQuiet (l.place + count (around l.name l.attributes l.namespace l.nodes o)) (xread (ended_now (around l.name l.attributes l.namespace l.nodes o)) v (s.as_kind (s.sort w)) l.place l.depth)
+    layer_quiet o i quiet =
+        let c = s.as_kind (s.sort w) in
+        subst (λ (r : Result Tree XmlReadError). IsQuiet (l.place + suc (places_of l.nodes + count o)) r) (sym ((law (s.sort w)).reads (element l.name l.attributes l.namespace (l.nodes ⊕ lone (ended_now o))) v l.place l.depth h.sits.fits))
+        (open_quiet (inner_read c) (plan_of c) (first_of c) (last_of c) (form_of c (law (s.sort w))) l.name l.attributes l.namespace l.nodes v l.place (inner_of c l.depth) (s.fields w) h.sits.reads o m h.finds.row (subst (λ (n : OwnedName). IsNamed n (ended_now o)) i (ended_named o)) h.finds.found h.finds.first_one
+        (subst (λ (j : ℕ). IsQuiet (j + count o) (xread (ended_now o) v h.finds.row.kind (suc l.place + places_of l.nodes) (inner_of c l.depth))) h.place_is (subst (λ (r : Result Tree XmlReadError). IsQuiet (q + count o) r) (by_row (ended_now o)) quiet)))
+
+    pub layer_at : (o : Begun) → l.place + count (around l.name l.attributes l.namespace l.nodes o) ≡ q + count o
+    layer_at o = at (places_of l.nodes) (count o) h.place_is
+      where
+        at : (i j : ℕ) → q ≡ suc l.place + i → l.place + suc (i + j) ≡ q + j
+        at i j e = omega (arith, e)
+
+    -- a fault of the child, or of what is open in it
+    pub layer_err : {X Y : Type 0} (held held' : Begun → Type 0) (view : X → Tree) (view' : Y → Tree) (x : Next) (f : XmlReadError) → Keeps m x → Steps held view (λ y. xread y v (s.as_kind k) q e) q x (Err f)
+        → Steps held' view' (λ y. xread y v (s.as_kind (s.sort w)) l.place l.depth) l.place (into l.name l.attributes l.namespace l.nodes x) (Err f)
+    layer_err held held' view view' (still o) f i r =
+        refuses_on f (q + count o) (l.place + count (around l.name l.attributes l.namespace l.nodes o)) (xread (ended_now o) v (s.as_kind k) q e) _ (λ g is. layer_fails (ended_now o) g (subst (λ (n : OwnedName). IsNamed n (ended_now o)) i (ended_named o)) is) (sym (layer_at o)) r
+    layer_err held held' view view' (whole x) f i r =
+        refuses_on f (q + places x) (l.place + suc (places_of (l.nodes ⊕ lone x))) (xread x v (s.as_kind k) q e) _ (λ g is. layer_fails x g i is) (at (places_of l.nodes) (places x) _ h.place_is (places_more l.nodes x)) r
+      where
+        at : (i j n : ℕ) → q ≡ suc l.place + i → n ≡ i + j → q + j ≡ l.place + suc n
+        at i j n e g = omega (arith, e, g)
+
+    -- The child is read, and its tree is stored.
+    pub layer_sits : (x : Node) (t : Tree) (ts : Trees) → IsNamed m x → xread x v (s.as_kind k) q e ≡ Ok t → Puts (plan_of (s.as_kind (s.sort w))).children (s.position w) t (s.fields w) ts
+        → read_so_far (first_of (s.as_kind (s.sort w))) (plan_of (s.as_kind (s.sort w))) l.name.local_name l.attributes v (inner_of (s.as_kind (s.sort w)) l.depth) l.place (l.nodes ⊕ lone x) ≡ Ok ts
+    layer_sits x t ts i is same =
+        let c = s.as_kind (s.sort w) in
+        open_ok (inner_read c) (plan_of c) (first_of c) (last_of c) (form_of c (law (s.sort w))) l.name l.attributes l.namespace l.nodes v l.place (inner_of c l.depth) (s.fields w) h.sits.reads x m h.finds.row t i h.finds.found h.finds.first_one (sym (by_row x) ∙ is)
+        ∙ ap (λ (us : Trees). Ok us) (sym (puts_row (plan_of c).children (s.position w) h.finds.row t (s.fields w) ts h.finds.is_at same))
+
+  -- ---- all frames around an open element
+  module _ (root : K) (p : ℕ) (d : Depth) where
+    pub at_place : (ws : List W) (ls : List Layer) (k : K) (q : ℕ) (e : Depth) (m : OwnedName) (o : Begun) → Stand s v root p d ws ls k q e m → p + count (plug ls o) ≡ q + count o
+    at_place [] [] k q e m o h = ap (λ i. i + count o) (sym h.1)
+    at_place [] (l ∷ ls) k q e m o h = absurd h
+    at_place (w ∷ ws) [] k q e m o h = absurd h
+    at_place (w ∷ ws) (l ∷ ls) k q e m o (h, hs) = at_place ws ls (s.sort w) l.place l.depth l.name (around l.name l.attributes l.namespace l.nodes o) hs ∙ layer_at w l k q e m h o
+
+    pub lift_quiet : (ws : List W) (ls : List Layer) (k : K) (q : ℕ) (e : Depth) (m : OwnedName) (o : Begun) → Stand s v root p d ws ls k q e m → start_name o ≡ m → IsQuiet (q + count o) (xread (ended_now o) v (s.as_kind k) q e)
+        → IsQuiet (p + count (plug ls o)) (xread (ended_now (plug ls o)) v (s.as_kind root) p d)
+    lift_quiet [] [] k q e m o (a, b, c) i quiet =
+        subst (λ (x : Depth). IsQuiet (p + count o) (xread (ended_now o) v (s.as_kind root) p x)) c
+        (subst (λ (x : ℕ). IsQuiet (x + count o) (xread (ended_now o) v (s.as_kind root) x e)) b (subst (λ (x : K). IsQuiet (q + count o) (xread (ended_now o) v (s.as_kind x) q e)) a quiet))
+    lift_quiet [] (l ∷ ls) k q e m o h i quiet = absurd h
+    lift_quiet (w ∷ ws) [] k q e m o h i quiet = absurd h
+    lift_quiet (w ∷ ws) (l ∷ ls) k q e m o (h, hs) i quiet = lift_quiet ws ls (s.sort w) l.place l.depth l.name (around l.name l.attributes l.namespace l.nodes o) hs refl (layer_quiet w l k q e m h o i quiet)
+
+    pub lift_err : {X Y : Type 0} (ws : List W) (ls : List Layer) (k : K) (q : ℕ) (e : Depth) (m : OwnedName) (held held' : Begun → Type 0) (view : X → Tree) (view' : Y → Tree) (x : Next) (f : XmlReadError) → Stand s v root p d ws ls k q e m → Keeps m x
+        → Steps held view (λ y. xread y v (s.as_kind k) q e) q x (Err f) → Steps held' view' (λ y. xread y v (s.as_kind root) p d) p (plug_next ls x) (Err f)
+    lift_err [] [] k q e m held held' view view' x f (a, b, c) i r = here x r
+      where
+        here : (x : Next) → Steps held view (λ y. xread y v (s.as_kind k) q e) q x (Err f) → Steps held' view' (λ y. xread y v (s.as_kind root) p d) p x (Err f)
+        here (still o) r = subst (λ (z : Depth). Refuses f (p + count o) (xread (ended_now o) v (s.as_kind root) p z)) c (subst (λ (z : ℕ). Refuses f (z + count o) (xread (ended_now o) v (s.as_kind root) z e)) b (subst (λ (z : K). Refuses f (q + count o) (xread (ended_now o) v (s.as_kind z) q e)) a r))
+        here (whole y) r = subst (λ (z : Depth). Refuses f (p + places y) (xread y v (s.as_kind root) p z)) c (subst (λ (z : ℕ). Refuses f (z + places y) (xread y v (s.as_kind root) z e)) b (subst (λ (z : K). Refuses f (q + places y) (xread y v (s.as_kind z) q e)) a r))
+    lift_err [] (l ∷ ls) k q e m held held' view view' x f h i r = absurd h
+    lift_err (w ∷ ws) [] k q e m held held' view view' x f h i r = absurd h
+    lift_err (w ∷ ws) (l ∷ ls) k q e m held held' view view' x f (h, hs) i r =
+        lift_err ws ls (s.sort w) l.place l.depth l.name held held' view view' (into l.name l.attributes l.namespace l.nodes x) f hs (keeps_into l.name l.attributes l.namespace l.nodes x) (layer_err w l k q e m h held held view view x f i r)
+
+    -- ---- the top frame
+    module _ {C X : Type 0} (holds : K → ChildHolding C) (view : X → Tree) (ws : List W) (k : K) where
+      abbrev pub Kept : OwnedName → Depth → Trees → SpecVersion → Inside C → Begun → Type 0
+      Kept name inner ts known inside o = Stacked s holds root ws k name inner ts known inside v p d o
+
+      abbrev pub Told : (Begun → Type 0) → Next → Result (Option X) XmlReadError → Type 0
+      Told held x r = Steps held view (λ y. xread y v (s.as_kind root) p d) p x r
+
+      -- The top element goes on.
+      pub goes_on : {Y : Type 0} (top_view : Y → Tree) (ls : List Layer) (q : ℕ) (e inner : Depth) (m : OwnedName) (name : OwnedName) (ts : Trees) (known : SpecVersion) (inside : Inside C) (x : Next) → Stand s v root p d ws ls k q e m → inner ≡ inner_of (s.as_kind k) e → is_too_deep (s.as_kind k) e ≡ false → Keeps m x
+          → Steps (λ o. holds_inside (holds k) (first_of (s.as_kind k)) (plan_of (s.as_kind k)) name known ts inside v q inner o) top_view (λ y. inner_read (s.as_kind k) y v q inner) q x (Ok None)
+          → Told (Kept name inner ts known inside) (plug_next ls x) (Ok None)
+      goes_on top_view ls q e inner m name ts known inside (whole y) h i f w r = absurd r
+      goes_on top_view ls q e inner m name ts known inside (still o) h i f w r =
+          subst (λ (z : Next). Told (Kept name inner ts known inside) z (Ok None)) (sym (still_plug ls o)) (
+            record { layers = ls; top = o; place = q; depth = e; whole = refl; stand = subst (λ (n : OwnedName). Stand s v root p d ws ls k q e n) (sym w) h; inner_is = i; fits = f; held = r.0 },
+            lift_quiet ws ls k q e m o h w (subst (λ (z : Result Tree XmlReadError). IsQuiet (q + count o) z) (ap (λ (z : Depth). inner_read (s.as_kind k) (ended_now o) v q z) i ∙ sym ((law k).reads (ended_now o) v q e f)) r.1),
+          )
+
+      -- It is refused.
+      pub is_refused : {Y : Type 0} (top_held held : Begun → Type 0) (top_view : Y → Tree) (ls : List Layer) (q : ℕ) (e inner : Depth) (m : OwnedName) (x : Next) (f : XmlReadError) → Stand s v root p d ws ls k q e m → inner ≡ inner_of (s.as_kind k) e → is_too_deep (s.as_kind k) e ≡ false → Keeps m x
+          → Steps top_held top_view (λ y. inner_read (s.as_kind k) y v q inner) q x (Err f) → Told held (plug_next ls x) (Err f)
+      is_refused top_held held top_view ls q e inner m x f h i fit w r = lift_err ws ls k q e m top_held held top_view view x f h w (by x r)
+        where
+          by : (x : Next) → Steps top_held top_view (λ y. inner_read (s.as_kind k) y v q inner) q x (Err f) → Steps top_held top_view (λ y. xread y v (s.as_kind k) q e) q x (Err f)
+          by (still o) r = subst (λ (z : Result Tree XmlReadError). Refuses f (q + count o) z) (ap (λ (z : Depth). inner_read (s.as_kind k) (ended_now o) v q z) i ∙ sym ((law k).reads (ended_now o) v q e fit)) r
+          by (whole y) r = subst (λ (z : Result Tree XmlReadError). Refuses f (q + places y) z) (ap (λ (z : Depth). inner_read (s.as_kind k) y v q z) i ∙ sym ((law k).reads y v q e fit)) r
+
+      -- The top element has ended, and it is the root.
+      pub is_done : (top_held held : Begun → Type 0) (ls : List Layer) (q : ℕ) (e inner : Depth) (m : OwnedName) (x : Next) (y : X) → ws ≡ [] → Stand s v root p d ws ls k q e m → inner ≡ inner_of (s.as_kind k) e → is_too_deep (s.as_kind k) e ≡ false
+          → Steps top_held view (λ y. inner_read (s.as_kind k) y v q inner) q x (Ok (Some y)) → Told held (plug_next ls x) (Ok (Some y))
+      is_done top_held held ls q e inner m x y none h i fit r = by ls x (subst (λ (z : List W). Stand s v root p d z ls k q e m) none h) r
+        where
+          by : (ls : List Layer) (x : Next) → Stand s v root p d [] ls k q e m → Steps top_held view (λ y. inner_read (s.as_kind k) y v q inner) q x (Ok (Some y)) → Told held (plug_next ls x) (Ok (Some y))
+          by (l ∷ ls) x h r = absurd h
+          by [] (still o) h r = absurd r
+          by [] (whole x) (a, b, c) r =
+              ap (λ (z : K). xread x v (s.as_kind z) p d) (sym a)
+              ∙ (ap (λ (z : ℕ). xread x v (s.as_kind k) z d) (sym b)
+              ∙ (ap (λ (z : Depth). xread x v (s.as_kind k) q z) (sym c)
+              ∙ ((law k).reads x v q e fit ∙ (ap (λ (z : Depth). inner_read (s.as_kind k) x v q z) (sym i) ∙ r))))
+
+      pub root_is : (ls : List Layer) (q : ℕ) (e : Depth) (m : OwnedName) → ws ≡ [] → Stand s v root p d ws ls k q e m → k ≡ root
+      root_is ls q e m none h = by ls (subst (λ (z : List W). Stand s v root p d z ls k q e m) none h)
+        where
+          by : (ls : List Layer) → Stand s v root p d [] ls k q e m → k ≡ root
+          by [] h = h.0
+          by (l ∷ ls) h = absurd h
+
+    -- The top element has ended, and what it denotes is put into the frame below.
+    pub pops : {C X Y : Type 0} (holds : K → ChildHolding C) (view : X → Tree) (top_view : Y → Tree) (w : W) (ws : List W) (k : K) (top_held : Begun → Type 0) (ls : List Layer) (q : ℕ) (e inner : Depth) (m : OwnedName) (x : Next) (y : Y) (ts : Trees) (known : SpecVersion)
+        → Stand s v root p d (w ∷ ws) ls k q e m → inner ≡ inner_of (s.as_kind k) e → is_too_deep (s.as_kind k) e ≡ false → Keeps m x → known ≡ v
+        → Steps top_held top_view (λ y. inner_read (s.as_kind k) y v q inner) q x (Ok (Some y)) → Puts (plan_of (s.as_kind (s.sort w))).children (s.position w) (top_view y) (s.fields w) ts
+        → Steps (λ o. Stacked s holds root ws (s.sort w) (s.name w) (s.inner w) ts known Nothing v p d o) view (λ y. xread y v (s.as_kind root) p d) p (plug_next ls x) (Ok None)
+    pops holds view top_view w ws k top_held ls q e inner m (still o) y ts known h i fit n kv r is = absurd r
+    pops holds view top_view w ws k top_held [] q e inner m (whole x) y ts known h i fit n kv r is = absurd h
+    pops holds view top_view w ws k top_held (l ∷ ls) q e inner m (whole x) y ts known (h, hs) i fit n kv r is =
+        let c = s.as_kind (s.sort w) in
+        let again : read_so_far (first_of c) (plan_of c) l.name.local_name l.attributes v (inner_of c l.depth) l.place (l.nodes ⊕ lone x) ≡ Ok ts =
+        layer_sits w l k q e m h x (top_view y) ts n ((law k).reads x v q e fit ∙ (ap (λ (z : Depth). inner_read (s.as_kind k) x v q z) (sym i) ∙ r)) is in
+        let quiet : IsQuiet (l.place + suc (places_of (l.nodes ⊕ lone x))) (inner_read c (element l.name l.attributes l.namespace (l.nodes ⊕ lone x)) v l.place (inner_of c l.depth)) =
+        quiet_inside (inner_read c) (plan_of c) (first_of c) (last_of c) (form_of c (law (s.sort w))) l.name l.attributes l.namespace (l.nodes ⊕ lone x) v l.place (inner_of c l.depth) ts again in
+        let held : holds_inside (holds (s.sort w)) (first_of c) (plan_of c) (s.name w) known ts Nothing v l.place (s.inner w) (innermost l.name l.attributes l.namespace (l.nodes ⊕ lone x)) =
+        record { name_is = h.sits.name_is; version_is = kv; reads = ap (λ (z : Depth). read_so_far (first_of c) (plan_of c) l.name.local_name l.attributes v z l.place (l.nodes ⊕ lone x)) h.sits.inner_is ∙ again } in
+        goes_on holds view ws (s.sort w) view ls l.place l.depth (s.inner w) l.name (s.name w) ts known Nothing (still (innermost l.name l.attributes l.namespace (l.nodes ⊕ lone x))) hs h.sits.inner_is h.sits.fits refl
+        (held, subst (λ (z : Depth). IsQuiet (l.place + suc (places_of (l.nodes ⊕ lone x))) (inner_read c (element l.name l.attributes l.namespace (l.nodes ⊕ lone x)) v l.place z)) (sym h.sits.inner_is) quiet)
+
+    -- A nested child starts in the top element.
+    pub pushes : {C X : Type 0} (holds : K → ChildHolding C) (view : X → Tree) (w : W) (k : K) (ws : List W) (ls : List Layer) (q : ℕ) (e : Depth) (o : Begun) (known : SpecVersion) (place : ℕ) (event : XmlEvent) (m : OwnedName) (b : List OwnedAttribute) (z : Namespace) (name : OwnedName) (inner : Depth) (ts : Trees)
+        → Stand s v root p d ws ls (s.sort w) q e (start_name o) → s.inner w ≡ inner_of (s.as_kind (s.sort w)) e → is_too_deep (s.as_kind (s.sort w)) e ≡ false
+        → holds_inside (holds (s.sort w)) (first_of (s.as_kind (s.sort w))) (plan_of (s.as_kind (s.sort w))) (s.name w) known (s.fields w) Nothing v q (s.inner w) o
+        → event ≡ StartElement m b z → place ≡ q + count o
+        → (f : FindsAt (plan_of (s.as_kind (s.sort w))).children (s.fields w) known m.local_name (s.position w)) → s.child w ≡ Some (Nested k) → f.row.kind ≡ s.as_kind k
+        → is_too_deep (s.as_kind k) (s.inner w) ≡ false → inner ≡ inner_of (s.as_kind k) (s.inner w) → name ≡ m → first_of (s.as_kind k) m.local_name b known place ≡ Ok ts
+        → Steps (λ o. Stacked s holds root (w ∷ ws) k name inner ts known Nothing v p d o) view (λ y. xread y v (s.as_kind root) p d) p (plug_next ls (next o event)) (Ok None)
+    pushes holds view w k ws ls q e (around n a sp xs o) known place event m b z name inner ts h i fit own is at f child rk fit' i' n' first = absurd own
+    pushes {X = X} holds view w k ws ls q e (innermost n a sp xs) known place event m b z name inner ts h i fit own is at f child rk fit' i' n' first =
+        let c = s.as_kind (s.sort w) in
+        let c' = s.as_kind k in
+        let l : Layer = record { name = n; attributes = a; namespace = sp; nodes = xs; place = q; depth = e } in
+        let here : place ≡ suc q + places_of xs = moved (places_of xs) at in
+        let first' : first_of c' m.local_name b v (suc q + places_of xs) ≡ Ok ts = ap (λ (x : ℕ). first_of c' m.local_name b v x) (sym here) ∙ (ap (λ (x : SpecVersion). first_of c' m.local_name b x place) (sym own.version_is) ∙ first) in
+        let opened : holds_inside (holds k) (first_of c') (plan_of c') m v ts Nothing v (suc q + places_of xs) inner (innermost m b z no_nodes) × IsQuiet ((suc q + places_of xs) + 1) (inner_read c' (element m b z no_nodes) v (suc q + places_of xs) inner) =
+        frame_opens (inner_read c') (plan_of c') (first_of c') (last_of c') (form_of c' (law k)) (holds k) (λ (x : Trees). x) ts m b z v (suc q + places_of xs) inner first' in
+        let waits : Waits s v w l k (suc q + places_of xs) (s.inner w) m = record {
+          sits = record { name_is = own.name_is; inner_is = i; fits = fit; reads = ap (λ (x : Depth). read_so_far (first_of c) (plan_of c) n.local_name a v x q xs) (sym i) ∙ own.reads };
+          finds = record { row = f.row; is_at = f.is_at; found = ap (λ (x : SpecVersion). find_child x m.local_name (plan_of c).children) (sym own.version_is) ∙ f.found; first_one = f.first_one };
+          child_is = child;
+          row_kind = rk;
+          place_is = refl;
+          depth_is = i;
+        } in
+        subst (λ (x : XmlEvent). Steps (λ o. Stacked s holds root (w ∷ ws) k name inner ts known Nothing v p d o) view (λ y. xread y v (s.as_kind root) p d) p (plug_next ls (next (innermost n a sp xs) x)) (Ok None)) (sym is)
+        (goes_on holds view (w ∷ ws) k view (l ∷ ls) (suc q + places_of xs) (s.inner w) inner m name ts known Nothing (still (innermost m b z no_nodes)) (waits, h) i' fit' refl
+        (record { name_is = n'; version_is = own.version_is; reads = opened.0.reads }, opened.1))
+      where
+        moved : (j : ℕ) → place ≡ q + suc j → place ≡ suc q + j
+        moved j e = omega (arith, e)
+
+    -- the start of the root
+    pub begins : {C : Type 0} (holds : K → ChildHolding C) (m : OwnedName) (b : List OwnedAttribute) (z : Namespace) (name : OwnedName) (inner : Depth) (ts : Trees) → is_too_deep (s.as_kind root) d ≡ false → inner ≡ inner_of (s.as_kind root) d → name ≡ m → first_of (s.as_kind root) m.local_name b v p ≡ Ok ts
+        → Stacked s holds root [] root name inner ts v Nothing v p d (innermost m b z no_nodes) × IsQuiet (p + 1) (xread (element m b z no_nodes) v (s.as_kind root) p d)
+    begins holds m b z name inner ts fit i n first =
+        let c = s.as_kind root in
+        let opened : holds_inside (holds root) (first_of c) (plan_of c) m v ts Nothing v p inner (innermost m b z no_nodes) × IsQuiet (p + 1) (inner_read c (element m b z no_nodes) v p inner) =
+        frame_opens (inner_read c) (plan_of c) (first_of c) (last_of c) (form_of c (law root)) (holds root) (λ (x : Trees). x) ts m b z v p inner first in (
+          record { layers = []; top = innermost m b z no_nodes; place = p; depth = d; whole = refl; stand = (refl, refl, refl); inner_is = i; fits = fit; held = record { name_is = n; version_is = opened.0.version_is; reads = opened.0.reads } },
+          subst (λ (r : Result Tree XmlReadError). IsQuiet (p + 1) r) (ap (λ (x : Depth). inner_read c (element m b z no_nodes) v p x) i ∙ sym ((law root).reads (element m b z no_nodes) v p d fit)) opened.1,
+        )
+
+pub begin_refuses : (kind : Kind) → IsNested kind → (e : XmlReadError) (q : ℕ) (n : OwnedName) (a : List OwnedAttribute) (z : Namespace) (v : SpecVersion) (p : ℕ) (d : Depth) → is_too_deep kind d ≡ false → Fails e q (first_of kind n.local_name a v p) → Refuses e (p + 1) (xread (element n a z no_nodes) v kind p d)
+begin_refuses kind law e q n a z v p d fit h =
+    subst (λ (r : Result Tree XmlReadError). Refuses e (p + 1) r) (sym (law.reads (element n a z no_nodes) v p d fit)) (frame_refuses (inner_read kind) (plan_of kind) (first_of kind) (last_of kind) (form_of kind law) e q n a z v p (inner_of kind d) h)

@@ -1,0 +1,95 @@
+use Rattle.std.proofs.Common.{◌+◌, Some, None, Ok, Err, sym, ◌∙◌, subst}
+use Rattle.std.proofs.lemmas.Result.{err_from_is_err_and}
+use Rattle.cdx_events.specs.declared.name.Namespace.{Namespace}
+use Rattle.cdx_json.specs.Depths.{depth_of}
+use Rattle.cdx_leaf.specs.Reading.{after}
+use Rattle.cdx_events.specs.Nodes.{element, no_nodes}
+use Rattle.cdx_schema.specs.XmlReading.{xread}
+use Rattle.cdx_machine.specs.Machines.{Refuses}
+use Rattle.cdx_leaf.proofs.Whole.{start_is}
+use Rattle.cdx_machine.proofs.Feeding.{feeds_takes, feeds_on, feeds_never, feeds_fails, feeds_done}
+use Rattle.cdx_nest_machine.specs.Frames.{leaf_holds, shape_of, stack_holds}
+use Rattle.cdx_nest_machine.specs.Stacks.{StartsStack, StepsStack}
+use Rattle.cdx_nest_machine.proofs.Fed.{stack_first, stack_refused, root_steps, root_value}
+use Rattle.cdx_nest_machine.proofs.reading.read_element.Goals as goal
+
+pub returns-in_err-machine-clause-reads : goal.returns-in_err-machine-clause-reads
+returns-in_err-machine-clause-reads g c = λ d s p nodes rest st.
+    let q = err_from_is_err_and c.from_residual.result c.from_residual.ensures.1 in
+    let f = g.F.Nested in
+    let e = g.F.Leaf.Leaves in
+    let x = c.in_err-machine.field-0.0 in
+    rw (q.1, q.2) (stack_refused f.tree (f.as_kind c.args.sort) c.args.v c.args.element.now c.args.attributes.now s p nodes rest (depth_of c.args.depth) c.args.reader.now (after c.args.reader.now nodes rest) x (g.met.F.Nested.no_bill c.args.sort) st
+    (subst (λ i. Refuses x (i + 1) (xread (element c.args.element.now c.args.attributes.now s no_nodes) c.args.v (f.as_kind c.args.sort) i (depth_of c.args.depth))) (start_is c.args.reader.now.place c.place.result p (sym c.place.ensures) st.place) (c.in_err-machine.ensures s)))
+
+pub events-init : goal.events-init
+events-init g c =
+    let f = g.F.Nested in
+    let e = g.F.Leaf.Leaves in
+    record {
+      fed = λ s p nodes rest st.
+          stack_first (λ m v p d o. stack_holds (shape_of f.as_kind f.sort_of f.fields f.child_of) (leaf_holds f.as_kind f.child_of e.sort_of e.holds) f.sort_of f.fields c.args.sort m.below.items m.top m.v m.inside v p d o) (f.as_kind c.args.sort) c.args.v c.args.element.now c.args.attributes.now s p nodes rest (depth_of c.args.depth) c.args.reader.now c.in_ok-machine.machine st
+          (subst (λ i. StartsStack (λ m v p d o. stack_holds (shape_of f.as_kind f.sort_of f.fields f.child_of) (leaf_holds f.as_kind f.child_of e.sort_of e.holds) f.sort_of f.fields c.args.sort m.below.items m.top m.v m.inside v p d o) (f.as_kind c.args.sort) c.args.v i (depth_of c.args.depth) c.args.element.now c.args.attributes.now (Ok c.in_ok-machine.machine)) (start_is c.args.reader.now.place c.place.result p (sym c.place.ensures) st.place) c.in_ok-machine.ensures);
+    }
+
+pub unreachable-requires : goal.unreachable-requires
+unreachable-requires g c =
+    let i = c.requires in
+    let z : Namespace = record { default = None } in
+    let f = g.F.Nested in
+    let e = g.F.Leaf.Leaves in
+    feeds_never (λ m v p d o. stack_holds (shape_of f.as_kind f.sort_of f.fields f.child_of) (leaf_holds f.as_kind f.child_of e.sort_of e.holds) f.sort_of f.fields c.args.sort m.below.items m.top m.v m.inside v p d o) c.args.v c.args.element.now c.args.attributes.now z i.p i.nodes i.rest (depth_of c.args.depth) c.events.reader c.events.machine (c.events.invariant.fed z i.p i.nodes i.rest i.stands) c.in_default.ensures.takes.0
+
+pub step-requires : goal.step-requires
+step-requires g c =
+    let i = c.requires in
+    let z : Namespace = record { default = None } in
+    let f = g.F.Nested in
+    let e = g.F.Leaf.Leaves in
+    let x = c.events.invariant.fed z i.p i.nodes i.rest i.stands in
+    let t = c.in-Some.ensures.takes in
+    record { root = c.args.sort; v = c.args.v; p = i.p; d = depth_of c.args.depth; o = x.o; held = x.held; place_is = c.place-place.ensures ∙ x.at; takes = feeds_takes (λ m v p d o. stack_holds (shape_of f.as_kind f.sort_of f.fields f.child_of) (leaf_holds f.as_kind f.child_of e.sort_of e.holds) f.sort_of f.fields c.args.sort m.below.items m.top m.v m.inside v p d o) c.args.v c.args.element.now c.args.attributes.now z i.p i.nodes i.rest (depth_of c.args.depth) c.events.reader c.next.new.self c.in-Some.event.now t.0 t.1 c.events.machine x }
+
+pub returns-in_err-value-clause-reads : goal.returns-in_err-value-clause-reads
+returns-in_err-value-clause-reads g c = λ d s p nodes rest st.
+    let q = err_from_is_err_and c.from_residual-in_err-value.result c.from_residual-in_err-value.ensures.1 in
+    let f = g.F.Nested in
+    let e = g.F.Leaf.Leaves in
+    let x = c.events.invariant.fed s p nodes rest st in
+    let t = c.in-Some.ensures.takes in
+    rw (q.1, q.2) (feeds_fails (λ m v p d o. stack_holds (shape_of f.as_kind f.sort_of f.fields f.child_of) (leaf_holds f.as_kind f.child_of e.sort_of e.holds) f.sort_of f.fields c.args.sort m.below.items m.top m.v m.inside v p d o) f.tree (f.as_kind c.args.sort) c.args.v c.args.element.now c.args.attributes.now s p nodes rest (depth_of c.args.depth) c.args.reader.now c.events.reader c.next.new.self c.in-Some.event.now t.0 t.1 c.events.machine c.step.new.self c.place-place.result x st c.place-place.ensures (after c.args.reader.now nodes rest) c.in_err-value.field-0.0 (g.met.F.Nested.no_bill c.args.sort)
+    (root_steps (λ root m v p d o. stack_holds (shape_of f.as_kind f.sort_of f.fields f.child_of) (leaf_holds f.as_kind f.child_of e.sort_of e.holds) f.sort_of f.fields root m.below.items m.top m.v m.inside v p d o) f.as_kind f.tree f.value_sort c.events.machine c.step.new.self c.place-place.result c.in-Some.event.now (Err c.in_err-value.field-0.0) c.args.sort c.in_err-value.ensures))
+
+pub returns-in-Some-2-clause-reads : goal.returns-in-Some-2-clause-reads
+returns-in-Some-2-clause-reads g c = λ d s p nodes rest st.
+    let f = g.F.Nested in
+    let e = g.F.Leaf.Leaves in
+    let x = c.events.invariant.fed s p nodes rest st in
+    let t = c.in-Some.ensures.takes in
+    feeds_done (λ m v p d o. stack_holds (shape_of f.as_kind f.sort_of f.fields f.child_of) (leaf_holds f.as_kind f.child_of e.sort_of e.holds) f.sort_of f.fields c.args.sort m.below.items m.top m.v m.inside v p d o) f.tree (f.as_kind c.args.sort) c.args.v c.args.element.now c.args.attributes.now s p nodes rest (depth_of c.args.depth) c.args.reader.now c.events.reader c.next.new.self c.in-Some.event.now t.0 t.1 c.events.machine c.step.new.self c.place-place.result x st c.place-place.ensures c.in-Some-2.value
+    (root_steps (λ root m v p d o. stack_holds (shape_of f.as_kind f.sort_of f.fields f.child_of) (leaf_holds f.as_kind f.child_of e.sort_of e.holds) f.sort_of f.fields root m.below.items m.top m.v m.inside v p d o) f.as_kind f.tree f.value_sort c.events.machine c.step.new.self c.place-place.result c.in-Some.event.now (Ok (Some c.in-Some-2.value)) c.args.sort
+    (subst (λ r. StepsStack (λ root m v p d o. stack_holds (shape_of f.as_kind f.sort_of f.fields f.child_of) (leaf_holds f.as_kind f.child_of e.sort_of e.holds) f.sort_of f.fields root m.below.items m.top m.v m.inside v p d o) f.as_kind f.tree f.value_sort c.events.machine c.step.new.self c.place-place.result c.in-Some.event.now (Ok r)) c.in-Some-2.is c.in_ok-value.ensures))
+
+pub returns-in-Some-2-clause-sort : goal.returns-in-Some-2-clause-sort
+returns-in-Some-2-clause-sort g c =
+    let i = c.requires in
+    let z : Namespace = record { default = None } in
+    let f = g.F.Nested in
+    let e = g.F.Leaf.Leaves in
+    let x = c.events.invariant.fed z i.p i.nodes i.rest i.stands in
+    let t = c.in-Some.ensures.takes in
+    root_value (λ root m v p d o. stack_holds (shape_of f.as_kind f.sort_of f.fields f.child_of) (leaf_holds f.as_kind f.child_of e.sort_of e.holds) f.sort_of f.fields root m.below.items m.top m.v m.inside v p d o) f.as_kind f.tree f.value_sort c.events.machine c.step.new.self c.place-place.result c.in-Some.event.now c.in-Some-2.value c.args.sort c.args.v i.p (depth_of c.args.depth) x.o x.held (c.place-place.ensures ∙ x.at) (feeds_takes (λ m v p d o. stack_holds (shape_of f.as_kind f.sort_of f.fields f.child_of) (leaf_holds f.as_kind f.child_of e.sort_of e.holds) f.sort_of f.fields c.args.sort m.below.items m.top m.v m.inside v p d o) c.args.v c.args.element.now c.args.attributes.now z i.p i.nodes i.rest (depth_of c.args.depth) c.events.reader c.next.new.self c.in-Some.event.now t.0 t.1 c.events.machine x)
+    (subst (λ r. StepsStack (λ root m v p d o. stack_holds (shape_of f.as_kind f.sort_of f.fields f.child_of) (leaf_holds f.as_kind f.child_of e.sort_of e.holds) f.sort_of f.fields root m.below.items m.top m.v m.inside v p d o) f.as_kind f.tree f.value_sort c.events.machine c.step.new.self c.place-place.result c.in-Some.event.now (Ok r)) c.in-Some-2.is c.in_ok-value.ensures)
+
+pub events-preserved : goal.events-preserved
+events-preserved g c =
+    let f = g.F.Nested in
+    let e = g.F.Leaf.Leaves in
+    record {
+      fed = λ s p nodes rest st.
+          let x = c.events.invariant.fed s p nodes rest st in
+          let t = c.in-Some.ensures.takes in
+          feeds_on (λ m v p d o. stack_holds (shape_of f.as_kind f.sort_of f.fields f.child_of) (leaf_holds f.as_kind f.child_of e.sort_of e.holds) f.sort_of f.fields c.args.sort m.below.items m.top m.v m.inside v p d o) c.args.v c.args.element.now c.args.attributes.now s p nodes rest (depth_of c.args.depth) c.events.reader c.next.new.self c.in-Some.event.now t.0 t.1 f.tree (f.as_kind c.args.sort) c.events.machine c.step.new.self c.place-place.result x c.place-place.ensures
+          (root_steps (λ root m v p d o. stack_holds (shape_of f.as_kind f.sort_of f.fields f.child_of) (leaf_holds f.as_kind f.child_of e.sort_of e.holds) f.sort_of f.fields root m.below.items m.top m.v m.inside v p d o) f.as_kind f.tree f.value_sort c.events.machine c.step.new.self c.place-place.result c.in-Some.event.now (Ok None) c.args.sort
+          (subst (λ r. StepsStack (λ root m v p d o. stack_holds (shape_of f.as_kind f.sort_of f.fields f.child_of) (leaf_holds f.as_kind f.child_of e.sort_of e.holds) f.sort_of f.fields root m.below.items m.top m.v m.inside v p d o) f.as_kind f.tree f.value_sort c.events.machine c.step.new.self c.place-place.result c.in-Some.event.now (Ok r)) c.in_default-2.is c.in_ok-value.ensures));
+    }

@@ -1,0 +1,44 @@
+-- What reads the children of nested kinds.
+use Rattle.std.specs.Prelude.{◌≡◌, refl, ℕ, zero, suc, List, [], ◌∷◌, map, true, false, Option, Some, None}
+use Rattle.std.proofs.Common.{sym, ap, ◌∙◌}
+use Rattle.cdx_schema.specs.Depth.{Depth, is_too_deep}
+use Rattle.cdx_schema.specs.Kinds.{Kind}
+use Rattle.cdx_schema.specs.XmlReading.{Child}
+use Rattle.cdx_json.specs.declared.depth.Depth.{Depth as Counts}
+use Rattle.cdx_json.specs.Depths.{depth_of}
+use Rattle.cdx_machine.specs.Several.{at_position, kinds_of}
+use Rattle.cdx_machine.proofs.Several.{some_same}
+use Rattle.cdx_nest_machine.specs.declared.nested.Reads.{Reads}
+use Rattle.cdx_nest_machine.specs.declared.nested.Reads.TheVariants.{Leaf, Nested}
+use Rattle.cdx_nest_machine.specs.Forms.{inner_of}
+
+-- the kind that is read
+abbrev pub kind_read : {L S : Type 0} → (L → Kind) → (S → Kind) → Reads L S → Kind
+kind_read leaf own (Leaf l) = leaf l
+kind_read leaf own (Nested s) = own s
+
+-- Something reads the child of each position, and reads it as the child's kind.
+abbrev pub ReadsEach : {L S : Type 0} → (L → Kind) → (S → Kind) → (ℕ → Option (Reads L S)) → List Child → Type 0
+ReadsEach {L = L} {S = S} leaf own child cs = (i : ℕ) (row : Child) → at_position cs i ≡ Some row → (r : Reads L S) × (child i ≡ Some r) × (row.kind ≡ kind_read leaf own r)
+
+-- Something reads the child of the position.
+abbrev pub HasReader : {L S : Type 0} → (ℕ → Option (Reads L S)) → ℕ → Type 0
+HasReader {L = L} {S = S} child i = (r : Reads L S) × (child i ≡ Some r)
+
+-- How deep the parts of an element of the kind stand, or none where it is too deep itself.
+abbrev pub Deepens : Kind → Depth → Option Counts → Type 0
+Deepens kind d None = is_too_deep kind d ≡ true
+Deepens kind d (Some e) = (is_too_deep kind d ≡ false) × (depth_of e ≡ inner_of kind d)
+
+-- The law of a list of what reads each child.
+pub reads_listed : {L S : Type 0} (leaf : L → Kind) (own : S → Kind) (rs : List (Reads L S)) (cs : List Child) → map (kind_read leaf own) rs ≡ kinds_of cs → ReadsEach leaf own (at_position rs) cs
+reads_listed leaf own [] [] e i row h = absurd (let wrong : None ≡ Some row = h in cc)
+reads_listed leaf own [] (c ∷ cs) e i row h = absurd (let wrong : [] ≡ c.kind ∷ kinds_of cs = e in cc)
+reads_listed leaf own (r ∷ rs) [] e i row h = absurd (let wrong : None ≡ Some row = h in cc)
+reads_listed leaf own (r ∷ rs) (c ∷ cs) e zero row h =
+    let same : c ≡ row = some_same h in
+    let kind : kind_read leaf own r ≡ c.kind = cc in
+    (r, refl, ap (λ (x : Child). x.kind) (sym same) ∙ sym kind)
+reads_listed leaf own (r ∷ rs) (c ∷ cs) e (suc i) row h =
+    let rest : map (kind_read leaf own) rs ≡ kinds_of cs = cc in
+    reads_listed leaf own rs cs rest i row h

@@ -1,0 +1,4 @@
+pub mod Forms
+pub mod Children
+pub mod Stacks
+pub mod Frames

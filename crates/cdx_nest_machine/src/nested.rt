@@ -1,0 +1,133 @@
+//! Kinds that stand in themselves.
+
+use cdx_events::{List, OwnedAttribute, OwnedName};
+use cdx_json::Depth;
+use cdx_leaf::Rule;
+use cdx_machine::{Found, Leaves};
+use cdx_models::{SpecVersion, XmlReadError};
+use std::alloc::{AllocError, Global};
+
+/// What reads a child.
+#[derive(Drop)]
+pub enum Reads<L, S> {
+    /// A machine of a leaf kind, which doesn't contain itself.
+    Leaf(L),
+    /// A frame of a nested kind.
+    Nested(S),
+}
+
+/// What is read of an element of one of several nested kinds, while it is read: the fields so far.
+pub trait Nested: Drop {
+    ghost use Rattle.std.specs.Prelude.{◌≡◌, ◌+◌, ℕ, Option, Some, IfOk, OnOk};
+    ghost use Rattle.cdx_models.specs.Trees.{Tree, Trees};
+    ghost use Rattle.cdx_schema.specs.Kinds.{Kind};
+    ghost use Rattle.cdx_json.specs.Depths.{depth_of};
+    ghost use Rattle.cdx_leaf.specs.Attribute.{Gives};
+    ghost use Rattle.cdx_leaf.specs.Rules.{as_rule};
+    ghost use Rattle.cdx_machine.specs.Feeding.{IsNoBill};
+    ghost use Rattle.cdx_machine.specs.Several.{found_from, Puts};
+    ghost use Rattle.cdx_nest_machine.specs.declared.nested.Reads.{Reads};
+    ghost use Rattle.cdx_nest_machine.specs.declared.nested.Reads.TheVariants.{Leaf, Nested};
+    ghost use Rattle.cdx_nest_machine.specs.Forms.{plan_of, first_of, last_of, IsNested};
+    ghost use Rattle.cdx_nest_machine.specs.Children.{Deepens, HasReader, ReadsEach};
+
+    /// The names of the nested kinds.
+    type Sort: Drop;
+
+    /// What an element is read as.
+    type Value: Drop;
+
+    /// The machine of an open child of a leaf kind.
+    type Leaf: Leaves;
+
+    /// The kind of each name.
+    ghost as_kind: { Self.Sort → Kind };
+
+    /// What the element is read as.
+    ghost sort_of: { Self → Self.Sort };
+
+    /// The fields so far.
+    ghost fields: { Self → Trees };
+
+    /// What a value was read as.
+    ghost value_sort: { Self.Value → Self.Sort };
+
+    /// The tree of a value.
+    ghost tree: { Self.Value → Tree };
+
+    /// What reads the child of a position in the plan of a kind: none where there is no such position.
+    ghost child_of: { Self.Sort → ℕ → Option (Reads Self.Leaf.Sort Self.Sort) };
+
+    /// What becomes of what the plan has no child for.
+    fn rule(&self) -> Rule
+        ensures { (plan_of (as_kind (sort_of self.now))).rule ≡ as_rule result };
+
+    /// How deep the parts of an element of the kind stand, or `None` where it is too deep itself.
+    fn deeper(sort: &Self::Sort, depth: Depth) -> Option<Depth>
+        ensures { Deepens (as_kind sort.now) (depth_of depth) result };
+
+    /// What the attributes begin, or their first fault, at `place`, that of the element's start.
+    fn begin(
+        alloc: Global,
+        sort: Self::Sort,
+        place: usize,
+        v: SpecVersion,
+        element: &OwnedName,
+        attributes: &List<OwnedAttribute>,
+    ) -> Result<Self, XmlReadError>
+        ensures sort { IfOk result (λ x. sort_of x ≡ sort) }
+        ensures gives { Gives fields (place + 1)
+            (first_of (as_kind sort) element.now.local_name attributes.now v place) result };
+
+    /// The child that `v` knows by the name.
+    fn find(&self, v: SpecVersion, name: &OwnedName) -> Found
+        ensures { result ≡ found_from 0 (plan_of (as_kind (sort_of self.now))).children
+            (fields self.now) v name.now.local_name };
+
+    /// What reads the child of the position.
+    fn child(&self, position: usize) -> Reads<<Self::Leaf as Leaves>::Sort, Self::Sort>
+        requires { HasReader (child_of (sort_of self.now)) position }
+        ensures { child_of (sort_of self.now) position ≡ Some result };
+
+    /// Puts what the child of the position was read as into its field.
+    fn put(&mut self, position: usize, alloc: Global, value: Self::Value) -> Result<(), AllocError>
+        requires { child_of (sort_of self.old) position ≡ Some (Nested (value_sort value)) }
+        ensures sort { sort_of self.new ≡ sort_of self.old }
+        ensures puts { OnOk result (Puts (plan_of (as_kind (sort_of self.old))).children position
+            (tree value) (fields self.old) (fields self.new)) };
+
+    /// Puts what the child of the position, which is of a leaf kind, was read as into its field.
+    fn put_leaf(
+        &mut self,
+        position: usize,
+        alloc: Global,
+        value: <Self::Leaf as Leaves>::Value,
+    ) -> Result<(), AllocError>
+        requires { child_of (sort_of self.old) position ≡ Some (Leaf (Self.Leaf.value_sort value)) }
+        ensures sort { sort_of self.new ≡ sort_of self.old }
+        ensures puts { OnOk result (Puts (plan_of (as_kind (sort_of self.old))).children position
+            (Self.Leaf.tree value) (fields self.old) (fields self.new)) };
+
+    /// The value, or the fault of the first required child that is missing, at `place`, that of the element's end.
+    fn finish(
+        self,
+        alloc: Global,
+        place: usize,
+        v: SpecVersion,
+        element: &OwnedName,
+    ) -> Result<Self::Value, XmlReadError>
+        ensures sort { IfOk result (λ x. value_sort x ≡ sort_of self) }
+        ensures gives { Gives tree (place + 1)
+            (last_of (as_kind (sort_of self)) element.now.local_name v place (fields self))
+            result };
+
+    // The child of each position is read as its kind.
+    ghost children: { (s : Self.Sort)
+        → ReadsEach Self.Leaf.as_kind as_kind (child_of s) (plan_of (as_kind s)).children };
+
+    // Each kind is read like this.
+    ghost nested: { (s : Self.Sort) → IsNested (as_kind s) };
+
+    // None of them is a whole document.
+    ghost no_bill: { (s : Self.Sort) → IsNoBill (as_kind s) };
+}

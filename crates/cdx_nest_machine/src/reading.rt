@@ -1,0 +1,48 @@
+//! Elements of nested kinds that are read whole.
+
+ghost use Rattle.std.specs.Prelude.{◌≡◌, IfOk};
+ghost use Rattle.cdx_json.specs.Depths.{depth_of};
+ghost use Rattle.cdx_leaf.specs.Reading.{IsIn, ReadsAs};
+
+use crate::nested::Nested;
+use crate::stack::NestMachine;
+use cdx_events::{EventReader, List, OwnedAttribute, OwnedName};
+use cdx_json::Depth;
+use cdx_models::{SpecVersion, XmlReadError};
+use std::alloc::Global;
+
+/// What the element denotes, as one of the nested kinds, whose start the reader has just taken, inside so many components
+/// and services. A refusal is the fault of the element, too great a depth among them, or want of memory.
+pub fn read_element<F: Nested>(
+    alloc: Global,
+    reader: &mut EventReader<'_>,
+    v: SpecVersion,
+    sort: F::Sort,
+    depth: Depth,
+    element: &OwnedName,
+    attributes: &List<OwnedAttribute>,
+) -> Result<F::Value, XmlReadError>
+    requires { IsIn reader.old element.now }
+    ensures reads { ReadsAs F.tree reader.old reader.new element.now attributes.now v
+        (F.as_kind sort) (λ _. depth_of depth) result }
+    ensures sort { IfOk result (λ x. F.value_sort x ≡ sort) }
+{
+    let mut machine = NestMachine::<F>::start(
+        alloc,
+        sort,
+        reader.place() - 1,
+        v,
+        depth,
+        element,
+        attributes,
+    )?;
+    'events: loop {
+        let place = reader.place();
+        let Some(event) = reader.next() else {
+            unreachable!()
+        };
+        if let Some(value) = machine.step(place, event)? {
+            return Ok(value);
+        }
+    }
+}
