@@ -1,0 +1,6 @@
+pub mod Starts
+pub mod Steps
+pub mod Stands
+pub mod Pieces
+pub mod Readers
+pub mod Documents

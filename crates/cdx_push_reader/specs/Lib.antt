@@ -1,0 +1,5 @@
+pub mod Starting
+pub mod Pushed
+pub mod PushSteps
+pub mod PushAnswers
+pub mod Documents

@@ -1,0 +1,22 @@
+-- What one event makes of where a reader of documents stands.
+use Rattle.std.specs.Prelude.{◌≡◌, ℕ, List, [], ◌∷◌, ◌++◌, length, Result}
+use Rattle.cdx_events.specs.declared.event.XmlEvent.{XmlEvent}
+use Rattle.cdx_events.specs.Nodes.{GoesOn}
+use Rattle.cdx_models.specs.declared.bom.SpecVersion.{SpecVersion}
+use Rattle.cdx_models.specs.declared.errors.XmlReadError.{XmlReadError}
+use Rattle.cdx_models.specs.Trees.{Tree}
+use Rattle.cdx_machine.specs.Machines.{Holding}
+use Rattle.cdx_push_reader.specs.declared.hearing.Stage.{Stage}
+use Rattle.cdx_push_reader.specs.Pushed.{Stands, Outcome}
+
+-- The events that were heard, of which the next stands at this place and goes on with a document.
+pub record CanGoOn {M X : Type 0} (holds : Holding M) (tree : X → Tree) (v : SpecVersion) (stage : Stage M X) (place : ℕ) (event : XmlEvent) : Type 0 where
+  pub events : List XmlEvent
+  pub stands : Stands holds tree v stage events
+  pub goes : GoesOn (events ++ event ∷ [])
+  pub place_is : place ≡ length events
+
+-- From one stage to the next, or a fault.
+abbrev pub Moves : {M X A : Type 0} → Holding M → (X → Tree) → SpecVersion → Stage M X → ℕ → XmlEvent → (List XmlEvent → A → Type 0) → Result A XmlReadError → Type 0
+Moves holds tree v stage place event gives result =
+    (events : List XmlEvent) → Stands holds tree v stage events → GoesOn (events ++ event ∷ []) → place ≡ length events → Outcome (gives (events ++ event ∷ [])) v (events ++ event ∷ []) result

@@ -1,0 +1,125 @@
+//! Events without a fault, one after the other.
+
+ghost use Rattle.std.specs.Prelude.{◌≡◌, ◌+◌, ◌≤◌, List, [], ◌∷◌, ◌++◌, length};
+ghost use Rattle.cdx_events.specs.declared.event.XmlEvent.{XmlEvent};
+ghost use Rattle.cdx_push_reader.specs.Pushed.{Stands, Hears, Outcome};
+ghost use Rattle.cdx_push_reader.specs.PushSteps.{CanGoOn, Moves};
+ghost use Rattle.cdx_push_reader.specs.PushAnswers.{Finishes};
+
+use crate::machine::RootMachine;
+use crate::places::unbalanced;
+use crate::start::begin;
+use cdx_events::{Balance, XmlEvent};
+use cdx_models::{SpecVersion, XmlReadError};
+use std::alloc::Global;
+
+// Where a reader stands in the document.
+#[derive(Drop)]
+pub(crate) enum Stage<M, X> {
+    // The root hasn't begun.
+    Before,
+    // The root is open.
+    Within { machine: M },
+    // The root has ended.
+    After { value: X },
+}
+
+// What is kept of events without a fault.
+#[derive(Drop)]
+pub(crate) struct Hearing<M: RootMachine> {
+    alloc: Global,
+    version: SpecVersion,
+    balance: Balance,
+    stage: Stage<M, M::Value>,
+}
+
+impl<M: RootMachine> Hearing<M> {
+    pub(crate) fn new(alloc: Global, v: SpecVersion) -> Hearing<M>
+        ensures hears { Hears M.holds M.tree result [] }
+        ensures version { result.version ≡ v }
+    {
+        Hearing {
+            alloc,
+            version: v,
+            balance: Balance::new(alloc),
+            stage: Stage::Before,
+        }
+    }
+
+    // Goes on with an event that is in balance.
+    fn go_on(&mut self, place: usize, event: &XmlEvent) -> Result<(), XmlReadError>
+        requires { CanGoOn M.holds M.tree self.old.version self.old.stage place event.now }
+        ensures moves { Moves M.holds M.tree self.old.version self.old.stage place event.now
+            (λ events _. Stands M.holds M.tree self.new.version self.new.stage events) result }
+        ensures balance { self.new.balance ≡ self.old.balance }
+        ensures version { self.new.version ≡ self.old.version }
+    {
+        match &mut self.stage {
+            Stage::Before => {
+                self.stage = begin(self.alloc, self.version, place, event)?;
+                Ok(())
+            }
+            Stage::Within { machine } => match machine.step(place, event)? {
+                None => Ok(()),
+                Some(value) => {
+                    self.stage = Stage::After { value };
+                    Ok(())
+                }
+            },
+            Stage::After { .. } => Ok(()),
+        }
+    }
+
+    // Hears one event.
+    fn hear(&mut self, place: usize, event: &XmlEvent) -> Result<(), XmlReadError>
+        requires { (events : List XmlEvent) × Hears M.holds M.tree self.old events
+            × (place ≡ length events) }
+        ensures hears { (events : List XmlEvent) → Hears M.holds M.tree self.old events
+            → place ≡ length events
+            → Outcome (λ _. Hears M.holds M.tree self.new (events ++ event.now ∷ []))
+            self.old.version (events ++ event.now ∷ []) result }
+        ensures version { self.new.version ≡ self.old.version }
+    {
+        if !self.balance.step(event)? {
+            return Err(unbalanced(place));
+        }
+        self.go_on(place, event)
+    }
+
+    // Hears a piece of events, the first of which stands at this place.
+    pub(crate) fn hear_all(&mut self, first: usize, piece: &[XmlEvent]) -> Result<(), XmlReadError>
+        requires room { first + length piece.now ≤ usize.MAX }
+        requires heard { (events : List XmlEvent) × Hears M.holds M.tree self.old events
+            × (first ≡ length events) }
+        ensures hears { (events : List XmlEvent) → Hears M.holds M.tree self.old events
+            → first ≡ length events
+            → Outcome (λ _. Hears M.holds M.tree self.new (events ++ piece.now))
+            self.old.version (events ++ piece.now) result }
+        ensures version { self.new.version ≡ self.old.version }
+    {
+        for (index, event) in piece.iter().enumerate() {
+            self.hear(first + index, event)?;
+        }
+        Ok(())
+    }
+
+    // What the root is read as, where the events heard are a whole document; they are so many.
+    pub(crate) fn finish(self, count: usize) -> Result<M::Value, XmlReadError>
+        ensures { (events : List XmlEvent) → Hears M.holds M.tree self events
+            → count ≡ length events → Finishes M.tree self.version events result }
+    {
+        let Hearing {
+            alloc: _,
+            version: _,
+            balance,
+            stage,
+        } = self;
+        if !balance.whole() {
+            return Err(unbalanced(count));
+        }
+        match stage {
+            Stage::After { value } => Ok(value),
+            _ => Err(unbalanced(count)),
+        }
+    }
+}

@@ -1,0 +1,46 @@
+//! What reads the root of a document.
+
+use cdx_events::{List, OwnedAttribute, OwnedName, XmlEvent};
+use cdx_models::{SpecVersion, XmlReadError};
+use std::alloc::Global;
+
+/// What reads a bill's root event by event, whatever its name and its default namespace are.
+pub trait RootMachine: Drop {
+    ghost use Rattle.std.specs.Prelude.{ℕ};
+    ghost use Rattle.cdx_events.specs.declared.name.Namespace.{Namespace};
+    ghost use Rattle.cdx_events.specs.Nodes.{no_nodes};
+    ghost use Rattle.cdx_models.specs.declared.bom.SpecVersion.{SpecVersion};
+    ghost use Rattle.cdx_models.specs.Trees.{bill, Tree};
+    ghost use Rattle.cdx_schema.specs.Depth.{Depth, top};
+    ghost use Rattle.cdx_schema.specs.Kinds.{a_record};
+    ghost use Rattle.cdx_schema.specs.XmlReading.{xread};
+    ghost use Rattle.cdx_machine.specs.Begun.{Begun, innermost};
+    ghost use Rattle.cdx_machine.specs.Machines.{Opens, CanStep, StepsAs};
+
+    /// The bill.
+    type Value: Drop;
+
+    /// The tree of a bill.
+    ghost tree: { Self.Value → Tree };
+
+    /// What the machine keeps of the events so far: in a version, with the root's start at a place, at a depth.
+    ghost holds: { Self → SpecVersion → ℕ → Depth → Begun → Type 0 };
+
+    /// Takes the root's start, at `place`. A refusal is the fault of the start alone.
+    fn start(
+        alloc: Global,
+        place: usize,
+        v: SpecVersion,
+        element: &OwnedName,
+        attributes: &List<OwnedAttribute>,
+    ) -> Result<Self, XmlReadError>
+        ensures { (z : Namespace) → Opens (λ m o. holds m v place top o)
+            (λ x. xread x v (a_record bill) place top) place
+            (innermost element.now attributes.now z no_nodes) result };
+
+    /// Takes the next event, at `place`. The bill comes with the root's end, and a refusal with the first event through
+    /// which the root has a fault; that is the fault, and it stands at this event.
+    fn step(&mut self, place: usize, event: &XmlEvent) -> Result<Option<Self::Value>, XmlReadError>
+        requires { CanStep holds self.old place event.now }
+        ensures { StepsAs holds tree (a_record bill) self.old self.new place event.now result };
+}
