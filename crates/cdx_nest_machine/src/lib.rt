@@ -10,4 +10,4 @@ mod stack;
 pub use keeps::Keeps;
 pub use nested::{Nested, Reads};
 pub use reading::read_element;
-pub use stack::NestMachine;
+pub use stack::StackMachine;

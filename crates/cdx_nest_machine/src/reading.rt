@@ -5,7 +5,7 @@ ghost use Rattle.cdx_json.specs.Depths.{depth_of};
 ghost use Rattle.cdx_leaf.specs.Reading.{IsIn, ReadsAs};
 
 use crate::nested::Nested;
-use crate::stack::NestMachine;
+use crate::stack::StackMachine;
 use cdx_events::{EventReader, List, OwnedAttribute, OwnedName};
 use cdx_json::Depth;
 use cdx_models::{SpecVersion, XmlReadError};
@@ -27,7 +27,7 @@ pub fn read_element<F: Nested>(
         (F.as_kind sort) (λ _. depth_of depth) result }
     ensures sort { IfOk result (λ x. F.value_sort x ≡ sort) }
 {
-    let mut machine = NestMachine::<F>::start(
+    let mut machine = StackMachine::<F>::start(
         alloc,
         sort,
         reader.place() - 1,

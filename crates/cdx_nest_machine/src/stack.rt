@@ -56,7 +56,7 @@ enum Entered<F, M> {
 
 /// The machine of an element of a nested kind. The frames of the elements around the innermost one wait below it.
 #[derive(Drop)]
-pub struct NestMachine<F: Nested> {
+pub struct StackMachine<F: Nested> {
     alloc: Global,
     v: SpecVersion,
     below: Vec<Waiting<F>>,
@@ -64,7 +64,7 @@ pub struct NestMachine<F: Nested> {
     inside: Inside<LeafChild<F::Leaf>>,
 }
 
-impl<F: Nested> Keeps for NestMachine<F> {
+impl<F: Nested> Keeps for StackMachine<F> {
     ghost use Rattle.cdx_nest_machine.specs.Frames.{leaf_holds, shape_of, stack_holds};
 
     type Sort = F::Sort;
@@ -168,7 +168,7 @@ fn push_below<W: Drop>(below: &mut Vec<W>, waiting: W) -> Result<(), AllocError>
     Ok(())
 }
 
-impl<F: Nested> NestMachine<F> {
+impl<F: Nested> StackMachine<F> {
     /// Takes the element's start, at `place`, inside so many components and services. A refusal is the fault of the start
     /// alone, as where the element is too deep, or want of memory.
     pub fn start(
@@ -179,12 +179,12 @@ impl<F: Nested> NestMachine<F> {
         depth: Depth,
         element: &OwnedName,
         attributes: &List<OwnedAttribute>,
-    ) -> Result<NestMachine<F>, XmlReadError>
-        ensures { StartsStack (⟦<NestMachine<F> as Keeps>⟧.holds sort) (F.as_kind sort) v place
+    ) -> Result<StackMachine<F>, XmlReadError>
+        ensures { StartsStack (⟦<StackMachine<F> as Keeps>⟧.holds sort) (F.as_kind sort) v place
             (depth_of depth) element.now attributes.now result }
     {
         let open = open_at::<F>(alloc, sort, place, v, depth, element, attributes)?;
-        Ok(NestMachine {
+        Ok(StackMachine {
             alloc,
             v,
             below: Vec::new(alloc),
@@ -201,11 +201,11 @@ impl<F: Nested> NestMachine<F> {
         name: &OwnedName,
         attributes: &List<OwnedAttribute>,
     ) -> Result<Option<F::Value>, XmlReadError>
-        requires can { CanStepStack ⟦<NestMachine<F> as Keeps>⟧.holds self.old place event.now }
+        requires can { CanStepStack ⟦<StackMachine<F> as Keeps>⟧.holds self.old place event.now }
         requires nothing { self.old.inside ≡ Nothing }
         requires start { (z : Namespace)
             × (event.now ≡ StartElement name.now attributes.now z) }
-        ensures { StepsStack ⟦<NestMachine<F> as Keeps>⟧.holds F.as_kind F.tree F.value_sort
+        ensures { StepsStack ⟦<StackMachine<F> as Keeps>⟧.holds F.as_kind F.tree F.value_sort
             self.old self.new place event.now result }
     {
         let Some(top) = self.top.take() else {
@@ -238,10 +238,10 @@ impl<F: Nested> NestMachine<F> {
 
     // Takes the end of the top element.
     fn end(&mut self, place: usize, event: &XmlEvent) -> Result<Option<F::Value>, XmlReadError>
-        requires can { CanStepStack ⟦<NestMachine<F> as Keeps>⟧.holds self.old place event.now }
+        requires can { CanStepStack ⟦<StackMachine<F> as Keeps>⟧.holds self.old place event.now }
         requires nothing { self.old.inside ≡ Nothing }
         requires end { (name : OwnedName) × (event.now ≡ EndElement name) }
-        ensures { StepsStack ⟦<NestMachine<F> as Keeps>⟧.holds F.as_kind F.tree F.value_sort
+        ensures { StepsStack ⟦<StackMachine<F> as Keeps>⟧.holds F.as_kind F.tree F.value_sort
             self.old self.new place event.now result }
     {
         let Some(top) = self.top.take() else {
@@ -265,9 +265,9 @@ impl<F: Nested> NestMachine<F> {
         place: usize,
         event: &XmlEvent,
     ) -> Result<Option<F::Value>, XmlReadError>
-        requires can { CanStepStack ⟦<NestMachine<F> as Keeps>⟧.holds self.old place event.now }
+        requires can { CanStepStack ⟦<StackMachine<F> as Keeps>⟧.holds self.old place event.now }
         requires something { self.old.inside ≡ Nothing → ⊥ }
-        ensures { StepsStack ⟦<NestMachine<F> as Keeps>⟧.holds F.as_kind F.tree F.value_sort
+        ensures { StepsStack ⟦<StackMachine<F> as Keeps>⟧.holds F.as_kind F.tree F.value_sort
             self.old self.new place event.now result }
     {
         let Some(top) = &mut self.top else {
@@ -294,12 +294,12 @@ impl<F: Nested> NestMachine<F> {
 
     // Takes a text in the top element.
     fn text(&mut self, place: usize, event: &XmlEvent) -> Result<Option<F::Value>, XmlReadError>
-        requires can { CanStepStack ⟦<NestMachine<F> as Keeps>⟧.holds self.old place event.now }
+        requires can { CanStepStack ⟦<StackMachine<F> as Keeps>⟧.holds self.old place event.now }
         requires nothing { self.old.inside ≡ Nothing }
         requires no_start { (n : OwnedName) (a : List OwnedAttribute) (z : Namespace)
             → event.now ≡ StartElement n a z → ⊥ }
         requires no_end { (n : OwnedName) → event.now ≡ EndElement n → ⊥ }
-        ensures { StepsStack ⟦<NestMachine<F> as Keeps>⟧.holds F.as_kind F.tree F.value_sort
+        ensures { StepsStack ⟦<StackMachine<F> as Keeps>⟧.holds F.as_kind F.tree F.value_sort
             self.old self.new place event.now result }
     {
         let Some(top) = &self.top else { unreachable!() };
@@ -313,8 +313,8 @@ impl<F: Nested> NestMachine<F> {
     /// through which the element has a fault; that is the fault, and it stands at this event. Only the top frame is
     /// touched, or the one below it.
     pub fn step(&mut self, place: usize, event: &XmlEvent) -> Result<Option<F::Value>, XmlReadError>
-        requires { CanStepStack ⟦<NestMachine<F> as Keeps>⟧.holds self.old place event.now }
-        ensures { StepsStack ⟦<NestMachine<F> as Keeps>⟧.holds F.as_kind F.tree F.value_sort
+        requires { CanStepStack ⟦<StackMachine<F> as Keeps>⟧.holds self.old place event.now }
+        ensures { StepsStack ⟦<StackMachine<F> as Keeps>⟧.holds F.as_kind F.tree F.value_sort
             self.old self.new place event.now result }
     {
         match self.inside {

@@ -1,7 +1,7 @@
 use Rattle.cdx_json.specs.Depths.{depth_of}
 use Rattle.cdx_nest_machine.specs.Frames.{leaf_holds, shape_of}
 use Rattle.cdx_nest_machine.proofs.Machine.{began}
-use Rattle.cdx_nest_machine.proofs.stack.NestMachine.start.Goals as goal
+use Rattle.cdx_nest_machine.proofs.stack.StackMachine.start.Goals as goal
 
 pub returns : goal.returns
 returns g c = λ z.

@@ -4,7 +4,7 @@ use Rattle.cdx_json.specs.Depths.{depth_of}
 use Rattle.cdx_machine.specs.declared.frame.Inside.TheVariants.{Nothing, Read, Skipped}
 use Rattle.cdx_nest_machine.specs.Frames.{leaf_holds, shape_of}
 use Rattle.cdx_nest_machine.proofs.Machine.{held_top, leaf_can, leaf_fails, leaf_ends, leaf_goes_on, skip_fits_in, skip_ended, skip_more, renamed_top}
-use Rattle.cdx_nest_machine.proofs.stack.NestMachine.step_inside.Goals as goal
+use Rattle.cdx_nest_machine.proofs.stack.StackMachine.step_inside.Goals as goal
 
 pub step_leaf-requires : goal.step_leaf-requires
 step_leaf-requires g c =

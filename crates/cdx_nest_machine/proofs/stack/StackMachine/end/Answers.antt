@@ -5,7 +5,7 @@ use Rattle.cdx_machine.specs.declared.frame.Inside.TheVariants.{Nothing}
 use Rattle.cdx_nest_machine.specs.Frames.{leaf_holds, shape_of}
 use Rattle.cdx_nest_machine.proofs.Machine.{held_top, waits_below, end_fails, end_pops, renamed, reversed}
 use Rattle.cdx_nest_machine.specs.declared.nested.Reads.TheVariants.{Nested}
-use Rattle.cdx_nest_machine.proofs.stack.NestMachine.end.Goals as goal
+use Rattle.cdx_nest_machine.proofs.stack.StackMachine.end.Goals as goal
 
 pub put-requires : goal.put-requires
 put-requires g c =

@@ -3,7 +3,7 @@ use Rattle.cdx_events.specs.Event.{kind_of}
 use Rattle.cdx_schema.specs.Faults.{unexpected}
 use Rattle.cdx_nest_machine.specs.Frames.{leaf_holds, shape_of, stack_holds}
 use Rattle.cdx_nest_machine.proofs.Machine.{text_more_top, text_fails_top, refused_root}
-use Rattle.cdx_nest_machine.proofs.stack.NestMachine.text.Goals as goal
+use Rattle.cdx_nest_machine.proofs.stack.StackMachine.text.Goals as goal
 
 pub returns-then-not-passes : goal.returns-then-not-passes
 returns-then-not-passes g c = λ root v p d o h is t.

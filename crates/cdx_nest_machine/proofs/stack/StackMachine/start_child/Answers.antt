@@ -5,7 +5,7 @@ use Rattle.cdx_json.specs.Depths.{depth_of}
 use Rattle.cdx_machine.specs.declared.frame.Inside.TheVariants.{Nothing, Read, Skipped}
 use Rattle.cdx_nest_machine.specs.Frames.{leaf_holds, shape_of, EnteredAt}
 use Rattle.cdx_nest_machine.proofs.Machine.{held_top, start_fails, start_more, start_pushes, renamed, reversed}
-use Rattle.cdx_nest_machine.proofs.stack.NestMachine.start_child.Goals as goal
+use Rattle.cdx_nest_machine.proofs.stack.StackMachine.start_child.Goals as goal
 
 pub returns-in_err-child : goal.returns-in_err-child
 returns-in_err-child g c = λ root v p d o h is t.
