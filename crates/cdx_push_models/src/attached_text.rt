@@ -10,9 +10,14 @@ use std::alloc::Global;
 pub struct ExactAttachedText;
 
 /// The machine of an attached text.
-#[derive(Drop)]
 pub struct AttachedTextMachine {
     machine: ExactRecordMachine<ExactAttachedText>,
+}
+
+impl Drop for AttachedTextMachine {
+    fn drop(self) {
+        let AttachedTextMachine { machine: _ } = self;
+    }
 }
 
 impl Machine for AttachedTextMachine {

@@ -10,9 +10,14 @@ use std::alloc::Global;
 pub struct HashList;
 
 /// The machine of hashes.
-#[derive(Drop)]
 pub struct HashesMachine {
     machine: ListMachine<HashList>,
+}
+
+impl Drop for HashesMachine {
+    fn drop(self) {
+        let HashesMachine { machine: _ } = self;
+    }
 }
 
 impl Machine for HashesMachine {
@@ -73,9 +78,14 @@ impl ListOf for HashList {
 pub struct PropertyList;
 
 /// The machine of properties.
-#[derive(Drop)]
 pub struct PropertiesMachine {
     machine: ListMachine<PropertyList>,
+}
+
+impl Drop for PropertiesMachine {
+    fn drop(self) {
+        let PropertiesMachine { machine: _ } = self;
+    }
 }
 
 impl Machine for PropertiesMachine {

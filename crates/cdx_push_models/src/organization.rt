@@ -88,9 +88,14 @@ impl PushRecord for ContactChildren {
 pub struct EntityChildren;
 
 /// The machine of an entity.
-#[derive(Drop)]
 pub struct EntityMachine {
     machine: RecordMachine<EntityChildren>,
+}
+
+impl Drop for EntityMachine {
+    fn drop(self) {
+        let EntityMachine { machine: _ } = self;
+    }
 }
 
 impl Machine for EntityMachine {
@@ -164,9 +169,14 @@ impl PushRecord for EntityChildren {
 pub struct AuthorList;
 
 /// The machine of authors.
-#[derive(Drop)]
 pub struct AuthorsMachine {
     machine: ListMachine<AuthorList>,
+}
+
+impl Drop for AuthorsMachine {
+    fn drop(self) {
+        let AuthorsMachine { machine: _ } = self;
+    }
 }
 
 impl Machine for AuthorsMachine {

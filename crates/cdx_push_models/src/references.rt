@@ -95,9 +95,14 @@ impl PushRecord for ReferenceChildren {
 pub struct ReferenceList;
 
 /// The machine of references.
-#[derive(Drop)]
 pub struct ExternalReferencesMachine {
     machine: ListMachine<ReferenceList>,
+}
+
+impl Drop for ExternalReferencesMachine {
+    fn drop(self) {
+        let ExternalReferencesMachine { machine: _ } = self;
+    }
 }
 
 impl Machine for ExternalReferencesMachine {
@@ -162,9 +167,14 @@ impl ListOf for ReferenceList {
 pub struct ToolChildren;
 
 /// The machine of a tool.
-#[derive(Drop)]
 pub struct ToolMachine {
     machine: RecordMachine<ToolChildren>,
+}
+
+impl Drop for ToolMachine {
+    fn drop(self) {
+        let ToolMachine { machine: _ } = self;
+    }
 }
 
 impl Machine for ToolMachine {

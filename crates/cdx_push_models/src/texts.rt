@@ -10,9 +10,14 @@ use std::alloc::Global;
 pub struct LinkList;
 
 /// The machine of the addresses of an issue.
-#[derive(Drop)]
 pub struct LinksMachine {
     machine: ListMachine<LinkList>,
+}
+
+impl Drop for LinksMachine {
+    fn drop(self) {
+        let LinksMachine { machine: _ } = self;
+    }
 }
 
 impl Machine for LinksMachine {
@@ -70,9 +75,14 @@ impl ListOf for LinkList {
 pub struct EndpointList;
 
 /// The machine of endpoints.
-#[derive(Drop)]
 pub struct EndpointsMachine {
     machine: ListMachine<EndpointList>,
+}
+
+impl Drop for EndpointsMachine {
+    fn drop(self) {
+        let EndpointsMachine { machine: _ } = self;
+    }
 }
 
 impl Machine for EndpointsMachine {

@@ -175,9 +175,14 @@ impl PushRecord for CommitChildren {
 pub struct CommitList;
 
 /// The machine of commits.
-#[derive(Drop)]
 pub struct CommitsMachine {
     machine: ListMachine<CommitList>,
+}
+
+impl Drop for CommitsMachine {
+    fn drop(self) {
+        let CommitsMachine { machine: _ } = self;
+    }
 }
 
 impl Machine for CommitsMachine {

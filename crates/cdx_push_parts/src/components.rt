@@ -17,9 +17,14 @@ use std::alloc::{AllocError, Global};
 pub struct SwidChildren;
 
 /// The machine of a software tag.
-#[derive(Drop)]
 pub struct SwidMachine {
     machine: RecordMachine<SwidChildren>,
+}
+
+impl Drop for SwidMachine {
+    fn drop(self) {
+        let SwidMachine { machine: _ } = self;
+    }
 }
 
 impl Machine for SwidMachine {
@@ -154,9 +159,14 @@ impl ListOf for CopyrightList {
 pub struct ComponentEvidenceChildren;
 
 /// The machine of a component's evidence.
-#[derive(Drop)]
 pub struct ComponentEvidenceMachine {
     machine: RecordMachine<ComponentEvidenceChildren>,
+}
+
+impl Drop for ComponentEvidenceMachine {
+    fn drop(self) {
+        let ComponentEvidenceMachine { machine: _ } = self;
+    }
 }
 
 impl Machine for ComponentEvidenceMachine {

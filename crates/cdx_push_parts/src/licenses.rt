@@ -381,9 +381,14 @@ pub struct BegunLicenses {
 }
 
 /// The machine of licenses.
-#[derive(Drop)]
 pub struct LicensesMachine {
     machine: FrameMachine<BegunLicenses>,
+}
+
+impl Drop for LicensesMachine {
+    fn drop(self) {
+        let LicensesMachine { machine: _ } = self;
+    }
 }
 
 impl Machine for LicensesMachine {

@@ -366,9 +366,14 @@ impl PushRecord for PatchChildren {
 pub struct PatchList;
 
 /// The machine of patches.
-#[derive(Drop)]
 pub struct PatchesMachine {
     machine: ListMachine<PatchList>,
+}
+
+impl Drop for PatchesMachine {
+    fn drop(self) {
+        let PatchesMachine { machine: _ } = self;
+    }
 }
 
 impl Machine for PatchesMachine {

@@ -162,9 +162,14 @@ pub struct BegunData {
 }
 
 /// The machine of the data of a service.
-#[derive(Drop)]
 pub struct DataMachine {
     machine: FrameMachine<BegunData>,
+}
+
+impl Drop for DataMachine {
+    fn drop(self) {
+        let DataMachine { machine: _ } = self;
+    }
 }
 
 impl Machine for DataMachine {

@@ -87,9 +87,14 @@ impl PushRecord for DependencyChildren {
 pub struct DependencyList;
 
 /// The machine of dependencies.
-#[derive(Drop)]
 pub struct DependenciesMachine {
     machine: ListMachine<DependencyList>,
+}
+
+impl Drop for DependenciesMachine {
+    fn drop(self) {
+        let DependenciesMachine { machine: _ } = self;
+    }
 }
 
 impl Machine for DependenciesMachine {
@@ -453,9 +458,14 @@ impl PushRecord for CompositionChildren {
 pub struct CompositionList;
 
 /// The machine of compositions.
-#[derive(Drop)]
 pub struct CompositionsMachine {
     machine: ListMachine<CompositionList>,
+}
+
+impl Drop for CompositionsMachine {
+    fn drop(self) {
+        let CompositionsMachine { machine: _ } = self;
+    }
 }
 
 impl Machine for CompositionsMachine {

@@ -313,9 +313,14 @@ pub struct BegunSignature {
 }
 
 /// The machine of a signature.
-#[derive(Drop)]
 pub struct SignatureMachine {
     machine: FrameMachine<BegunSignature>,
+}
+
+impl Drop for SignatureMachine {
+    fn drop(self) {
+        let SignatureMachine { machine: _ } = self;
+    }
 }
 
 impl Machine for SignatureMachine {
