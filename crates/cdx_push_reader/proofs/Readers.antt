@@ -9,12 +9,14 @@ use Rattle.cdx_models.specs.declared.errors.XmlReadError.{XmlReadError}
 use Rattle.cdx_models.specs.declared.errors.XmlReadError.TheVariants.{ElementReadError, UnexpectedElementReadError, RequiredDataMissing, RequiredAttributeMissing, InvalidParseError, InvalidNamespaceError, TooDeep, Memory}
 use Rattle.cdx_models.specs.Trees.{Tree}
 use Rattle.cdx_schema.specs.Early.{IsEarly, unbalanced}
-use Rattle.cdx_schema.proofs.EarlyLaws.{early_stays}
+use Rattle.cdx_schema.specs.Locality.{root_of, IsDocumentFault}
+use Rattle.cdx_schema.proofs.FaultPlaces.{refuses_by_faults}
+use Rattle.cdx_schema.proofs.EarlyLaws.{Cases, nothing, in_front, out_of_balance, early_cases, early_stays}
 use Rattle.cdx_machine.specs.Machines.{Holding}
 use Rattle.cdx_push_reader.specs.declared.hearing.Hearing.{Hearing}
 use Rattle.cdx_push_reader.specs.declared.reader.DocumentReader.{DocumentReader}
 use Rattle.cdx_push_reader.specs.Pushed.{Hears, HeardAs, Outcome, heard}
-use Rattle.cdx_push_reader.specs.PushAnswers.{version_of, fault_of, is_spent, IsRefusedFor, Finishes, Feeds, push_error}
+use Rattle.cdx_push_reader.specs.PushAnswers.{version_of, fault_of, is_spent, is_want, IsRefusedFor, Finishes, Feeds, push_error}
 use Rattle.cdx_push_reader.proofs.Stands.{stands_none}
 
 heard_early : (v : SpecVersion) (hears : Type 0) (o : Option AllocError) (f : Option XmlReadError) (events : List XmlEvent) → (hears → IsEarly v events None) → HeardAs v hears o f events → is_some o ≡ false → IsEarly v events f
@@ -43,6 +45,25 @@ early_ends tree v events (RequiredAttributeMissing p el k) h = inl h
 early_ends tree v events (InvalidParseError p el k t) h = inl h
 early_ends tree v events (InvalidNamespaceError x y) h = inl h
 early_ends tree v events (TooDeep p) h = inl h
+
+-- no early fault is a want of memory
+never_memory : (v : SpecVersion) (events : List XmlEvent) (m : AllocError) → IsEarly v events (Some (Memory m)) → ⊥
+never_memory v events m h = by (early_cases v events (Some (Memory m)) h)
+  where
+    by : Cases v events (Some (Memory m)) → ⊥
+    by (nothing e g n) = absurd cc
+    by (in_front f e front rest s i) = let same : f ≡ Memory m = cc in subst IsDocumentFault same (refuses_by_faults (root_of i.goes.balanced) v f (i.blocks i.goes.rest i.goes.balanced))
+    by (out_of_balance p e b l n) = absurd cc
+
+pub not_want : {X : Type 0} (tree : X → Tree) (v : SpecVersion) (events : List XmlEvent) (f : XmlReadError) → IsEarly v events (Some f) → is_want {A = X} (Err f) ≡ false
+not_want tree v events (Memory m) h = absurd (never_memory v events m h)
+not_want tree v events (ElementReadError k p) h = refl
+not_want tree v events (UnexpectedElementReadError p el k) h = refl
+not_want tree v events (RequiredDataMissing p el k) h = refl
+not_want tree v events (RequiredAttributeMissing p el k) h = refl
+not_want tree v events (InvalidParseError p el k t) h = refl
+not_want tree v events (InvalidNamespaceError x y) h = refl
+not_want tree v events (TooDeep p) h = refl
 
 pub hears_of : (v : SpecVersion) (hears : Type 0) (o : Option AllocError) (f : Option XmlReadError) (events : List XmlEvent) → HeardAs v hears o f events → o ≡ None → f ≡ None → hears
 hears_of v hears None None events h p q = h

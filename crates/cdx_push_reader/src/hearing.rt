@@ -1,10 +1,10 @@
 //! Events without a fault, one after the other.
 
-ghost use Rattle.std.specs.Prelude.{◌≡◌, ◌+◌, ◌≤◌, List, [], ◌∷◌, ◌++◌, length};
+ghost use Rattle.std.specs.Prelude.{◌≡◌, ◌+◌, ◌≤◌, List, [], ◌∷◌, ◌++◌, length, false};
 ghost use Rattle.cdx_events.specs.declared.event.XmlEvent.{XmlEvent};
 ghost use Rattle.cdx_push_reader.specs.Pushed.{Stands, Hears, Outcome};
 ghost use Rattle.cdx_push_reader.specs.PushSteps.{CanGoOn, Moves};
-ghost use Rattle.cdx_push_reader.specs.PushAnswers.{Finishes};
+ghost use Rattle.cdx_push_reader.specs.PushAnswers.{is_want, Finishes};
 
 use crate::machine::RootMachine;
 use crate::places::unbalanced;
@@ -105,8 +105,9 @@ impl<M: RootMachine> Hearing<M> {
 
     // What the root is read as, where the events heard are a whole document; they are so many.
     pub(crate) fn finish(self, count: usize) -> Result<M::Value, XmlReadError>
-        ensures { (events : List XmlEvent) → Hears M.holds M.tree self events
+        ensures answer { (events : List XmlEvent) → Hears M.holds M.tree self events
             → count ≡ length events → Finishes M.tree self.version events result }
+        ensures sound { is_want result ≡ false }
     {
         let Hearing {
             alloc: _,

@@ -115,11 +115,13 @@ impl<M: RootMachine> DocumentReader<M> {
 
     /// The bill, exactly where the events fed are balanced and denote it. Else the first fault of the events fed, where
     /// there is one; else `ElementReadError` of kind `Unbalanced` with their number, where they are no whole document.
-    /// Or want of memory, where it ran out in a `feed`.
+    /// Or want of memory, exactly where it ran out in a `feed`: this takes none.
     pub fn finish(self) -> Result<M::Value, XmlReadError>
         ensures answer { (events : List XmlEvent) → heard M.holds M.tree self events
             → is_spent self ≡ false → Finishes M.tree (version_of self) events result }
         ensures again { is_spent self ≡ true → is_want result ≡ true }
+        ensures sound { (events : List XmlEvent) → heard M.holds M.tree self events
+            → is_spent self ≡ false → is_want result ≡ false }
     {
         let DocumentReader {
             fed,
