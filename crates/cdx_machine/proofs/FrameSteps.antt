@@ -1,4 +1,4 @@
--- What an event makes of an element that is read child by child.
+-- What an event makes of an element that is read child by child, by its kind or otherwise.
 use Rattle.std.proofs.Common.{◌≡◌, ℕ, suc, ◌+◌, ◌≤◌, List, Bool, true, false, Option, Some, None, Result, Ok, Err, refl, sym, ap, ◌∙◌, subst, arith}
 use Rattle.cdx_events.specs.declared.name.OwnedName.{OwnedName}
 use Rattle.cdx_events.specs.declared.name.OwnedAttribute.{OwnedAttribute}
@@ -12,7 +12,6 @@ use Rattle.cdx_models.specs.declared.errors.XmlReadError.{XmlReadError}
 use Rattle.cdx_models.specs.Trees.{Tree, Trees, field}
 use Rattle.cdx_schema.specs.Depth.{Depth}
 use Rattle.cdx_schema.specs.Faults.{unexpected}
-use Rattle.cdx_schema.specs.Kinds.{Kind}
 use Rattle.cdx_schema.specs.Locality.{fault_place}
 use Rattle.cdx_schema.specs.Nodes.{places, places_of, ◌⊕◌}
 use Rattle.cdx_schema.specs.Results.{◌>>=◌}
@@ -30,20 +29,20 @@ use Rattle.cdx_machine.specs.declared.frame.Inside.TheVariants.{Nothing, Read, S
 use Rattle.cdx_machine.specs.Begun.{Begun, innermost, around, Next, still, whole, count, levels, start_name, ended_now, into, next, Takes, lone}
 use Rattle.cdx_machine.specs.Contents.{First}
 use Rattle.cdx_machine.specs.Machines.{Refuses, IsQuiet, Steps, StepsRow, StepsChild, ChildHolding}
-use Rattle.cdx_machine.specs.Frames.{Last, read_so_far, IsFrame, IsOpen, Stays, holds_inside, frame_holds, EntersAt, Enters, Skips, SkipsOne}
+use Rattle.cdx_machine.specs.Frames.{Last, read_so_far, IsForm, IsOpen, Stays, holds_inside, frame_holds, EntersAt, Skips, SkipsOne}
 use Rattle.cdx_machine.proofs.Places.{places_more, count_below}
 use Rattle.cdx_machine.proofs.Faults.{refuses_along, refuses_on, refuses_known, quiet_at}
 use Rattle.cdx_machine.proofs.Contents.{ended_with}
 use Rattle.cdx_machine.proofs.Frames.{IsNamed, ended_named, Keeps, keeps_name, skips_next, row_read, level_less}
 
-module _ (kind : Kind) (plan : Plan) (first : First) (last : Last) (law : IsFrame kind plan first last) where
+module _ (denotes : Node → SpecVersion → ℕ → Depth → Result Tree XmlReadError) (plan : Plan) (first : First) (last : Last) (law : IsForm denotes plan first last) where
   module _ (n : OwnedName) (a : List OwnedAttribute) (s : Namespace) (xs : Nodes) (v : SpecVersion) (p : ℕ) (d : Depth) where
     -- what was read up to the end of these nodes
     read_of : Nodes → Result Trees XmlReadError
     read_of ys = read_so_far first plan n.local_name a v d p ys
 
     whole_of : Nodes → Result Tree XmlReadError
-    whole_of ys = xread (element n a s ys) v kind p d
+    whole_of ys = denotes (element n a s ys) v p d
 
     -- one node more
     pub more_node : (ts : Trees) (k : Node) → read_so_far first plan n.local_name a v d p xs ≡ Ok ts → read_so_far first plan n.local_name a v d p (xs ⊕ lone k) ≡ node_read k (xread k) plan n.local_name v d (suc p + places_of xs) ts
@@ -52,21 +51,21 @@ module _ (kind : Kind) (plan : Plan) (first : First) (last : Last) (law : IsFram
         ∙ (after (first n.local_name a v p) (λ us. nodes_read xs plan n.local_name v d (suc p) us) (λ us. node_read k (xread k) plan n.local_name v d (suc p + places_of xs) us)
         ∙ ap (λ r. r >>= λ us. node_read k (xread k) plan n.local_name v d (suc p + places_of xs) us) h)
 
-  pub whole_read : (n : OwnedName) (a : List OwnedAttribute) (s : Namespace) (xs : Nodes) (v : SpecVersion) (p : ℕ) (d : Depth) (ts : Trees) → read_so_far first plan n.local_name a v d p xs ≡ Ok ts → xread (element n a s xs) v kind p d ≡ last n.local_name v (suc (p + places_of xs)) ts
+  pub whole_read : (n : OwnedName) (a : List OwnedAttribute) (s : Namespace) (xs : Nodes) (v : SpecVersion) (p : ℕ) (d : Depth) (ts : Trees) → read_so_far first plan n.local_name a v d p xs ≡ Ok ts → denotes (element n a s xs) v p d ≡ last n.local_name v (suc (p + places_of xs)) ts
   whole_read n a s xs v p d ts h = law.reads n a s xs v p d ∙ ap (λ r. r >>= λ ts. last n.local_name v (suc (p + places_of xs)) ts) h
 
-  pub whole_fails : (n : OwnedName) (a : List OwnedAttribute) (s : Namespace) (xs : Nodes) (v : SpecVersion) (p : ℕ) (d : Depth) (f : XmlReadError) → read_so_far first plan n.local_name a v d p xs ≡ Err f → xread (element n a s xs) v kind p d ≡ Err f
+  pub whole_fails : (n : OwnedName) (a : List OwnedAttribute) (s : Namespace) (xs : Nodes) (v : SpecVersion) (p : ℕ) (d : Depth) (f : XmlReadError) → read_so_far first plan n.local_name a v d p xs ≡ Err f → denotes (element n a s xs) v p d ≡ Err f
   whole_fails n a s xs v p d f h = law.reads n a s xs v p d ∙ ap (λ r. r >>= λ ts. last n.local_name v (suc (p + places_of xs)) ts) h
 
   -- Where the nodes are read, no fault stands before the end.
-  pub quiet_until : (n : OwnedName) (a : List OwnedAttribute) (s : Namespace) (xs : Nodes) (v : SpecVersion) (p : ℕ) (d : Depth) (ts : Trees) (q : ℕ) → read_so_far first plan n.local_name a v d p xs ≡ Ok ts → q ≤ suc (p + places_of xs) → IsQuiet q (xread (element n a s xs) v kind p d)
+  pub quiet_until : (n : OwnedName) (a : List OwnedAttribute) (s : Namespace) (xs : Nodes) (v : SpecVersion) (p : ℕ) (d : Depth) (ts : Trees) (q : ℕ) → read_so_far first plan n.local_name a v d p xs ≡ Ok ts → q ≤ suc (p + places_of xs) → IsQuiet q (denotes (element n a s xs) v p d)
   quiet_until n a s xs v p d ts q h l = quiet_at q (suc (p + places_of xs)) _ _ (whole_read n a s xs v p d ts h) (law.last_place n.local_name v (suc (p + places_of xs)) ts) l
 
-  pub quiet_inside : (n : OwnedName) (a : List OwnedAttribute) (s : Namespace) (xs : Nodes) (v : SpecVersion) (p : ℕ) (d : Depth) (ts : Trees) → read_so_far first plan n.local_name a v d p xs ≡ Ok ts → IsQuiet (p + suc (places_of xs)) (xread (element n a s xs) v kind p d)
+  pub quiet_inside : (n : OwnedName) (a : List OwnedAttribute) (s : Namespace) (xs : Nodes) (v : SpecVersion) (p : ℕ) (d : Depth) (ts : Trees) → read_so_far first plan n.local_name a v d p xs ≡ Ok ts → IsQuiet (p + suc (places_of xs)) (denotes (element n a s xs) v p d)
   quiet_inside n a s xs v p d ts h = quiet_until n a s xs v p d ts (p + suc (places_of xs)) h (omega arith)
 
   quiet_around : (n : OwnedName) (a : List OwnedAttribute) (s : Namespace) (xs : Nodes) (v : SpecVersion) (p : ℕ) (d : Depth) (o : Begun) (ts : Trees) → read_so_far first plan n.local_name a v d p (xs ⊕ lone (ended_now o)) ≡ Ok ts
-      → IsQuiet (p + suc (places_of xs + count o)) (xread (element n a s (xs ⊕ lone (ended_now o))) v kind p d)
+      → IsQuiet (p + suc (places_of xs + count o)) (denotes (element n a s (xs ⊕ lone (ended_now o))) v p d)
   quiet_around n a s xs v p d o ts h =
       quiet_until n a s (xs ⊕ lone (ended_now o)) v p d ts (p + suc (places_of xs + count o)) h (beyond (places_of xs) (places (ended_now o)) (count o) _ (places_more xs (ended_now o)) (count_below o))
     where
@@ -79,33 +78,33 @@ module _ (kind : Kind) (plan : Plan) (first : First) (last : Last) (law : IsFram
 
   module _ (n : OwnedName) (a : List OwnedAttribute) (s : Namespace) (xs : Nodes) (v : SpecVersion) (p : ℕ) (d : Depth) (ts : Trees) (h : read_so_far first plan n.local_name a v d p xs ≡ Ok ts) where
     -- a child that a child of the plan reads
-    open_read : (k : Node) (m : OwnedName) (row : Child) → IsNamed m k → find_child v m.local_name plan.children ≡ Some row → is_second row.place (field row.field ts) ≡ false
+    pub open_read : (k : Node) (m : OwnedName) (row : Child) → IsNamed m k → find_child v m.local_name plan.children ≡ Some row → is_second row.place (field row.field ts) ≡ false
         → read_so_far first plan n.local_name a v d p (xs ⊕ lone k) ≡ (xread k v row.kind (suc p + places_of xs) d >>= λ t. Ok (stored row.place row.field t ts))
     open_read k m row i f g =
         more_node n a s xs v p d ts k h ∙ (named_read k m n.local_name v d (suc p + places_of xs) ts i ∙ row_read (find_child v m.local_name plan.children) row plan.rule (xread k) n.local_name v d (suc p + places_of xs) ts f g)
 
-    open_ok : (k : Node) (m : OwnedName) (row : Child) (t : Tree) → IsNamed m k → find_child v m.local_name plan.children ≡ Some row → is_second row.place (field row.field ts) ≡ false → xread k v row.kind (suc p + places_of xs) d ≡ Ok t
+    pub open_ok : (k : Node) (m : OwnedName) (row : Child) (t : Tree) → IsNamed m k → find_child v m.local_name plan.children ≡ Some row → is_second row.place (field row.field ts) ≡ false → xread k v row.kind (suc p + places_of xs) d ≡ Ok t
         → read_so_far first plan n.local_name a v d p (xs ⊕ lone k) ≡ Ok (stored row.place row.field t ts)
     open_ok k m row t i f g e = open_read k m row i f g ∙ ap (λ r. r >>= λ t. Ok (stored row.place row.field t ts)) e
 
-    open_fails : (k : Node) (m : OwnedName) (row : Child) (e : XmlReadError) → IsNamed m k → find_child v m.local_name plan.children ≡ Some row → is_second row.place (field row.field ts) ≡ false → xread k v row.kind (suc p + places_of xs) d ≡ Err e
-        → xread (element n a s (xs ⊕ lone k)) v kind p d ≡ Err e
+    pub open_fails : (k : Node) (m : OwnedName) (row : Child) (e : XmlReadError) → IsNamed m k → find_child v m.local_name plan.children ≡ Some row → is_second row.place (field row.field ts) ≡ false → xread k v row.kind (suc p + places_of xs) d ≡ Err e
+        → denotes (element n a s (xs ⊕ lone k)) v p d ≡ Err e
     open_fails k m row e i f g is = whole_fails n a s (xs ⊕ lone k) v p d e (open_read k m row i f g ∙ ap (λ r. r >>= λ t. Ok (stored row.place row.field t ts)) is)
 
     -- no fault so far
-    open_quiet : (o : Begun) (m : OwnedName) (row : Child) → IsNamed m (ended_now o) → find_child v m.local_name plan.children ≡ Some row → is_second row.place (field row.field ts) ≡ false → IsQuiet (suc p + places_of xs + count o) (xread (ended_now o) v row.kind (suc p + places_of xs) d)
-        → IsQuiet (p + suc (places_of xs + count o)) (xread (element n a s (xs ⊕ lone (ended_now o))) v kind p d)
+    pub open_quiet : (o : Begun) (m : OwnedName) (row : Child) → IsNamed m (ended_now o) → find_child v m.local_name plan.children ≡ Some row → is_second row.place (field row.field ts) ≡ false → IsQuiet (suc p + places_of xs + count o) (xread (ended_now o) v row.kind (suc p + places_of xs) d)
+        → IsQuiet (p + suc (places_of xs + count o)) (denotes (element n a s (xs ⊕ lone (ended_now o))) v p d)
     open_quiet o m row i f g q = by (xread (ended_now o) v row.kind (suc p + places_of xs) d) refl q
       where
         same : (i k : ℕ) → suc p + i + k ≡ p + suc (i + k)
         same i k = omega arith
 
-        by : (r : Result Tree XmlReadError) → xread (ended_now o) v row.kind (suc p + places_of xs) d ≡ r → IsQuiet (suc p + places_of xs + count o) r → IsQuiet (p + suc (places_of xs + count o)) (xread (element n a s (xs ⊕ lone (ended_now o))) v kind p d)
+        by : (r : Result Tree XmlReadError) → xread (ended_now o) v row.kind (suc p + places_of xs) d ≡ r → IsQuiet (suc p + places_of xs + count o) r → IsQuiet (p + suc (places_of xs + count o)) (denotes (element n a s (xs ⊕ lone (ended_now o))) v p d)
         by (Ok t) e q = quiet_around n a s xs v p d o (stored row.place row.field t ts) (open_ok (ended_now o) m row t i f g e)
         by (Err f') e q = λ x is. subst (λ (z : XmlReadError). p + suc (places_of xs + count o) ≤ fault_place z) (err_same (sym (open_fails (ended_now o) m row f' i f g e) ∙ is)) (subst (λ (z : ℕ). z ≤ fault_place f') (same (places_of xs) (count o)) (q f' refl))
 
     -- a child that is skipped
-    skipped_read : (k : Node) (m : OwnedName) → IsNamed m k → find_child v m.local_name plan.children ≡ None → ((el : List ℕ) (q : ℕ) (ts : Trees) → unknown plan.rule el q ts ≡ Ok ts) → read_so_far first plan n.local_name a v d p (xs ⊕ lone k) ≡ Ok ts
+    pub skipped_read : (k : Node) (m : OwnedName) → IsNamed m k → find_child v m.local_name plan.children ≡ None → ((el : List ℕ) (q : ℕ) (ts : Trees) → unknown plan.rule el q ts ≡ Ok ts) → read_so_far first plan n.local_name a v d p (xs ⊕ lone k) ≡ Ok ts
     skipped_read k m i f g =
         more_node n a s xs v p d ts k h ∙ (named_read k m n.local_name v d (suc p + places_of xs) ts i ∙ (ap (λ o. child_read o plan.rule (xread k) n.local_name v d (suc p + places_of xs) ts) f ∙ g n.local_name (suc p + places_of xs) ts))
 
@@ -114,7 +113,7 @@ module _ (kind : Kind) (plan : Plan) (first : First) (last : Last) (law : IsFram
     Inside_holds ts inside o = holds_inside holds first plan name known ts inside v p d o
 
     abbrev pub Stepped : (Begun → Type 0) → Next → Result (Option X) XmlReadError → Type 0
-    Stepped held o r = Steps held view (λ k. xread k v kind p d) p o r
+    Stepped held o r = Steps held view (λ k. denotes k v p d) p o r
 
     -- Nothing is open.
     module _ (r : R) where
@@ -122,11 +121,11 @@ module _ (kind : Kind) (plan : Plan) (first : First) (last : Last) (law : IsFram
       Own o = holds_inside holds first plan name known (slots r) Nothing v p d o
 
       -- a child's start
-      pub own_enters : (o : Begun) (place : ℕ) (m : OwnedName) (b : List OwnedAttribute) (z : Namespace) (inside : Inside C) → Own o → place ≡ p + count o → Enters holds plan (slots r) known name place (StartElement m b z) m b (Ok inside)
+      pub own_enters : (o : Begun) (place : ℕ) (m : OwnedName) (b : List OwnedAttribute) (z : Namespace) (inside : Inside C) → Own o → place ≡ p + count o → EntersAt holds plan (slots r) known name place d (innermost m b z no_nodes) (Ok inside)
           → Stepped (λ o. frame_holds holds first plan slots name known (Some r) inside v p d o) (next o (StartElement m b z)) (Ok None)
       own_enters (around n a s xs o) place m b z inside h is e = absurd h
       own_enters (innermost n a s xs) place m b z inside h is e =
-          by inside (subst (λ (q : ℕ). EntersAt holds plan (slots r) v name q d (innermost m b z no_nodes) (Ok inside)) (is ∙ moved (places_of xs)) (subst (λ (w : SpecVersion). EntersAt holds plan (slots r) w name place d (innermost m b z no_nodes) (Ok inside)) h.version_is (e refl d z)))
+          by inside (subst (λ (q : ℕ). EntersAt holds plan (slots r) v name q d (innermost m b z no_nodes) (Ok inside)) (is ∙ moved (places_of xs)) (subst (λ (w : SpecVersion). EntersAt holds plan (slots r) w name place d (innermost m b z no_nodes) (Ok inside)) h.version_is e))
         where
           moved : (k : ℕ) → p + suc k ≡ suc p + k
           moved k = omega arith
@@ -136,17 +135,17 @@ module _ (kind : Kind) (plan : Plan) (first : First) (last : Last) (law : IsFram
           by (Read c) e = ((h, e.is_open), open_quiet n a s xs v p d (slots r) h.reads (innermost m b z no_nodes) m e.is_open.row (b, z, no_nodes, refl) e.is_open.found e.is_open.first_one e.quiet)
           by (Skipped k) e = ((h, e), quiet_around n a s xs v p d (innermost m b z no_nodes) (slots r) (skipped_read n a s xs v p d (slots r) h.reads (element m b z no_nodes) m (b, z, no_nodes, refl) e.not_found e.passed))
 
-      pub own_start_fails : (held : Begun → Type 0) (o : Begun) (place : ℕ) (m : OwnedName) (b : List OwnedAttribute) (z : Namespace) (f : XmlReadError) → Own o → place ≡ p + count o → Enters holds plan (slots r) known name place (StartElement m b z) m b (Err f)
+      pub own_start_fails : (held : Begun → Type 0) (o : Begun) (place : ℕ) (m : OwnedName) (b : List OwnedAttribute) (z : Namespace) (f : XmlReadError) → Own o → place ≡ p + count o → EntersAt holds plan (slots r) known name place d (innermost m b z no_nodes) (Err f)
           → Stepped held (next o (StartElement m b z)) (Err f)
       own_start_fails held (around n a s xs o) place m b z f h is e = absurd h
       own_start_fails held (innermost n a s xs) place m b z f h is e =
-          refuses_on f (suc place) (p + suc (places_of xs + 1)) _ (xread (element n a s (xs ⊕ lone (element m b z no_nodes))) v kind p d)
+          refuses_on f (suc place) (p + suc (places_of xs + 1)) _ (denotes (element n a s (xs ⊕ lone (element m b z no_nodes))) v p d)
           (λ g i. whole_fails n a s (xs ⊕ lone (element m b z no_nodes)) v p d g
           (more_node n a s xs v p d (slots r) (element m b z no_nodes) h.reads
           ∙ (ap (λ q. child_read (find_child v m.local_name plan.children) plan.rule (xread (element m b z no_nodes)) n.local_name v d q (slots r)) (sym (is ∙ moved (places_of xs)))
           ∙ (ap (λ (y : OwnedName). child_read (find_child v m.local_name plan.children) plan.rule (xread (element m b z no_nodes)) y.local_name v d place (slots r)) (sym h.name_is)
           ∙ (ap (λ (w : SpecVersion). child_read (find_child w m.local_name plan.children) plan.rule (xread (element m b z no_nodes)) name.local_name w d place (slots r)) (sym h.version_is) ∙ i)))))
-          (ends (places_of xs) is) (e refl d z)
+          (ends (places_of xs) is) e
         where
           moved : (k : ℕ) → p + suc k ≡ suc p + k
           moved k = omega arith
@@ -165,7 +164,7 @@ module _ (kind : Kind) (plan : Plan) (first : First) (last : Last) (law : IsFram
           ends : (k : ℕ) → place ≡ p + suc k → suc place ≡ p + suc (suc k)
           ends k e = omega (arith, e)
 
-          same : xread (element n a s xs) v kind p d ≡ last name.local_name known place (slots r)
+          same : denotes (element n a s xs) v p d ≡ last name.local_name known place (slots r)
           same = whole_read n a s xs v p d (slots r) h.reads ∙ (ap (λ q. last n.local_name v q (slots r)) (sym (is ∙ moved (places_of xs))) ∙ (ap (λ (y : OwnedName). last y.local_name v place (slots r)) (sym h.name_is) ∙ ap (λ (w : SpecVersion). last name.local_name w place (slots r)) (sym h.version_is)))
 
           by : (x : Result X XmlReadError) → Gives view q (last name.local_name known place (slots r)) x → Stepped held (whole (element n a s xs)) (ended_with x)
@@ -214,15 +213,15 @@ module _ (kind : Kind) (plan : Plan) (first : First) (last : Last) (law : IsFram
       own_text_fails held rule (innermost n a s xs) place (CData u) x h is t ru not i j e = text_refused held n a s xs place (cdata u) rule x h is ru not (λ m b z ys q. cc) refl e
 
       -- the same by the event
-      pub own_enters_by : (o : Begun) (place : ℕ) (event : XmlEvent) (m : OwnedName) (b : List OwnedAttribute) (z : Namespace) (inside : Inside C) → event ≡ StartElement m b z → Own o → place ≡ p + count o → Enters holds plan (slots r) known name place event m b (Ok inside)
+      pub own_enters_by : (o : Begun) (place : ℕ) (event : XmlEvent) (m : OwnedName) (b : List OwnedAttribute) (z : Namespace) (inside : Inside C) → event ≡ StartElement m b z → Own o → place ≡ p + count o → EntersAt holds plan (slots r) known name place d (innermost m b z no_nodes) (Ok inside)
           → Stepped (λ o. frame_holds holds first plan slots name known (Some r) inside v p d o) (next o event) (Ok None)
       own_enters_by o place event m b z inside e h is en =
-          subst (λ (x : XmlEvent). Enters holds plan (slots r) known name place x m b (Ok inside) → Stepped (λ o. frame_holds holds first plan slots name known (Some r) inside v p d o) (next o x) (Ok None)) (sym e) (own_enters o place m b z inside h is) en
+          subst (λ (x : XmlEvent). EntersAt holds plan (slots r) known name place d (innermost m b z no_nodes) (Ok inside) → Stepped (λ o. frame_holds holds first plan slots name known (Some r) inside v p d o) (next o x) (Ok None)) (sym e) (own_enters o place m b z inside h is) en
 
-      pub own_start_fails_by : (held : Begun → Type 0) (o : Begun) (place : ℕ) (event : XmlEvent) (m : OwnedName) (b : List OwnedAttribute) (z : Namespace) (f : XmlReadError) → event ≡ StartElement m b z → Own o → place ≡ p + count o → Enters holds plan (slots r) known name place event m b (Err f)
+      pub own_start_fails_by : (held : Begun → Type 0) (o : Begun) (place : ℕ) (event : XmlEvent) (m : OwnedName) (b : List OwnedAttribute) (z : Namespace) (f : XmlReadError) → event ≡ StartElement m b z → Own o → place ≡ p + count o → EntersAt holds plan (slots r) known name place d (innermost m b z no_nodes) (Err f)
           → Stepped held (next o event) (Err f)
       own_start_fails_by held o place event m b z f e h is en =
-          subst (λ (x : XmlEvent). Enters holds plan (slots r) known name place x m b (Err f) → Stepped held (next o x) (Err f)) (sym e) (own_start_fails held o place m b z f h is) en
+          subst (λ (x : XmlEvent). EntersAt holds plan (slots r) known name place d (innermost m b z no_nodes) (Err f) → Stepped held (next o x) (Err f)) (sym e) (own_start_fails held o place m b z f h is) en
 
       pub own_ends_by : (held : Begun → Type 0) (o : Begun) (place : ℕ) (event : XmlEvent) (m : OwnedName) (q : ℕ) (x : Result X XmlReadError) → event ≡ EndElement m → Own o → place ≡ p + count o → Gives view q (last name.local_name known place (slots r)) x → Stepped held (next o event) (ended_with x)
       own_ends_by held o place event m q x e h is g = subst (λ (y : XmlEvent). Stepped held (next o y) (ended_with x)) (sym e) (own_ends held o place m q x h is g)
@@ -281,11 +280,11 @@ module _ (kind : Kind) (plan : Plan) (first : First) (last : Last) (law : IsFram
 
         by : (x : Next) → Keeps (start_name o) x → StepsRow (λ o. holds c' i.row v (suc p + places_of xs) d o) i.row (λ k. xread k v i.row.kind (suc p + places_of xs) d) (suc p + places_of xs) ts us x (Err f) → Stepped held (into n a s xs x) (Err f)
         by (still o') w e =
-            refuses_on f (suc p + places_of xs + count o') (p + suc (places_of xs + count o')) _ (xread (element n a s (xs ⊕ lone (ended_now o'))) v kind p d)
+            refuses_on f (suc p + places_of xs + count o') (p + suc (places_of xs + count o')) _ (denotes (element n a s (xs ⊕ lone (ended_now o'))) v p d)
             (λ g is. open_fails n a s xs v p d ts h.reads (ended_now o') (start_name o') i.row g (ended_named o') (ap (λ (y : OwnedName). find_child v y.local_name plan.children) w ∙ i.found) i.first_one is)
             (ends (places_of xs) (count o') (places_of xs + count o') refl) e
         by (whole k) w e =
-            refuses_on f (suc p + places_of xs + places k) (p + suc (places_of (xs ⊕ lone k))) _ (xread (element n a s (xs ⊕ lone k)) v kind p d)
+            refuses_on f (suc p + places_of xs + places k) (p + suc (places_of (xs ⊕ lone k))) _ (denotes (element n a s (xs ⊕ lone k)) v p d)
             (λ g is. open_fails n a s xs v p d ts h.reads k (start_name o) i.row g w i.found i.first_one is)
             (ends (places_of xs) (places k) (places_of (xs ⊕ lone k)) (places_more xs k)) e
 
@@ -328,13 +327,13 @@ module _ (kind : Kind) (plan : Plan) (first : First) (last : Last) (law : IsFram
 
   -- an element's start
   pub frame_opens : {R C : Type 0} (holds : ChildHolding C) (slots : R → Trees) (r : R) (n : OwnedName) (a : List OwnedAttribute) (s : Namespace) (v : SpecVersion) (p : ℕ) (d : Depth) → first n.local_name a v p ≡ Ok (slots r)
-      → holds_inside holds first plan n v (slots r) Nothing v p d (innermost n a s no_nodes) × IsQuiet (p + 1) (xread (element n a s no_nodes) v kind p d)
+      → holds_inside holds first plan n v (slots r) Nothing v p d (innermost n a s no_nodes) × IsQuiet (p + 1) (denotes (element n a s no_nodes) v p d)
   unfolding xread
   frame_opens holds slots r n a s v p d h =
       let again : read_so_far first plan n.local_name a v d p no_nodes ≡ Ok (slots r) = ap (λ r. r >>= λ ts. nodes_read no_nodes plan n.local_name v d (suc p) ts) h in
       (record { name_is = refl; version_is = refl; reads = again }, quiet_until n a s no_nodes v p d (slots r) (p + 1) again (omega arith))
 
-  pub frame_refuses : (e : XmlReadError) (q : ℕ) (n : OwnedName) (a : List OwnedAttribute) (s : Namespace) (v : SpecVersion) (p : ℕ) (d : Depth) → Fails e q (first n.local_name a v p) → Refuses e (p + 1) (xread (element n a s no_nodes) v kind p d)
+  pub frame_refuses : (e : XmlReadError) (q : ℕ) (n : OwnedName) (a : List OwnedAttribute) (s : Namespace) (v : SpecVersion) (p : ℕ) (d : Depth) → Fails e q (first n.local_name a v p) → Refuses e (p + 1) (denotes (element n a s no_nodes) v p d)
   frame_refuses e q n a s v p d h =
       refuses_along e q (p + 1) (first n.local_name a v p) _ (λ f is. (whole_fails n a s no_nodes v p d f (ap (λ r. r >>= λ ts. nodes_read no_nodes plan n.local_name v d (suc p) ts) is), ap suc (law.first_place n.local_name a v p f is) ∙ one_on p)) h
     where

@@ -7,7 +7,7 @@ use Rattle.cdx_events.specs.declared.event.XmlEvent.{XmlEvent}
 use Rattle.cdx_events.specs.declared.event.XmlEvent.TheVariants.{StartDocument, EndDocument, StartElement, EndElement, Characters, CData}
 use Rattle.cdx_events.specs.declared.event.EventKind.TheVariants as kinds
 use Rattle.cdx_events.specs.Event.{kind_of}
-use Rattle.cdx_events.specs.Nodes.{Nodes, no_nodes, element}
+use Rattle.cdx_events.specs.Nodes.{Node, Nodes, no_nodes, element}
 use Rattle.cdx_models.specs.declared.bom.SpecVersion.{SpecVersion}
 use Rattle.cdx_models.specs.declared.errors.XmlReadError.{XmlReadError}
 use Rattle.cdx_models.specs.Trees.{Tree, Trees, field}
@@ -31,12 +31,20 @@ Last = List ℕ → SpecVersion → ℕ → Trees → Result Tree XmlReadError
 abbrev pub read_so_far : First → Plan → List ℕ → List OwnedAttribute → SpecVersion → Depth → ℕ → Nodes → Result Trees XmlReadError
 read_so_far first plan el a v d p xs = first el a v p >>= λ ts. nodes_read xs plan el v d (suc p) ts
 
--- The kind is what the attributes begin, then the nodes by the plan, then a last step.
-pub record IsFrame (kind : Kind) (plan : Plan) (first : First) (last : Last) : Type 0 where
+-- What an element denotes is what the attributes begin, then the nodes by the plan, then a last step.
+pub record IsForm (denotes : Node → SpecVersion → ℕ → Depth → Result Tree XmlReadError) (plan : Plan) (first : First) (last : Last) : Type 0 where
   pub reads : (n : OwnedName) (a : List OwnedAttribute) (s : Namespace) (xs : Nodes) (v : SpecVersion) (p : ℕ) (d : Depth)
-      → xread (element n a s xs) v kind p d ≡ (read_so_far first plan n.local_name a v d p xs >>= λ ts. last n.local_name v (suc (p + places_of xs)) ts)
+      → denotes (element n a s xs) v p d ≡ (read_so_far first plan n.local_name a v d p xs >>= λ ts. last n.local_name v (suc (p + places_of xs)) ts)
   pub first_place : (el : List ℕ) (a : List OwnedAttribute) (v : SpecVersion) (p : ℕ) (f : XmlReadError) → first el a v p ≡ Err f → fault_place f ≡ p
   pub last_place : (el : List ℕ) (v : SpecVersion) (q : ℕ) (ts : Trees) (f : XmlReadError) → last el v q ts ≡ Err f → fault_place f ≡ q
+
+-- what an element of the kind denotes
+abbrev pub read_as : Kind → Node → SpecVersion → ℕ → Depth → Result Tree XmlReadError
+read_as kind x v p d = xread x v kind p d
+
+-- The kind is read like this.
+abbrev pub IsFrame : Kind → Plan → First → Last → Type 0
+IsFrame kind plan first last = IsForm (read_as kind) plan first last
 
 -- ---- what a frame keeps
 

@@ -1,4 +1,3 @@
-pub mod FormSteps
 pub mod Stacks
 pub mod Entering
 pub mod Machine

@@ -23,7 +23,7 @@ use Rattle.cdx_machine.specs.declared.frame.Inside.{Inside}
 use Rattle.cdx_machine.specs.declared.frame.Inside.TheVariants.{Nothing, Read, Skipped}
 use Rattle.cdx_machine.specs.Begun.{Begun, innermost, around, Next, count, start_name, next, Takes}
 use Rattle.cdx_machine.specs.Machines.{IsQuiet, Steps, StepsChild, CanStepChild, ChildHolding}
-use Rattle.cdx_machine.specs.Frames.{SkipsOne, EntersAt, holds_inside}
+use Rattle.cdx_machine.specs.Frames.{IsForm, SkipsOne, EntersAt, holds_inside}
 use Rattle.cdx_machine.proofs.Contents.{ended_with}
 use Rattle.cdx_machine.proofs.Frames.{keeps_name}
 use Rattle.cdx_machine.specs.Several.{Puts}
@@ -35,7 +35,7 @@ use Rattle.cdx_nest_machine.specs.declared.stack.Open.{Open}
 use Rattle.cdx_nest_machine.specs.declared.stack.Waiting.{Waiting}
 use Rattle.cdx_nest_machine.specs.Frames.{stack_holds}
 use Rattle.cdx_nest_machine.specs.Stacks.{Layer, plug_next, Shape, Stand, Stacked, IsOfRoot}
-use Rattle.cdx_nest_machine.proofs.FormSteps.{IsForm, own_enters_by, own_start_fails_by, own_ends_by, own_text, own_text_fails, child_goes_on, child_ends, child_fails, skip_goes_on, skip_ends, skip_fits}
+use Rattle.cdx_machine.proofs.FrameSteps.{own_enters_by, own_start_fails_by, own_ends_by, own_text, own_text_fails, child_goes_on, child_ends, child_fails, skip_goes_on, skip_ends, skip_fits}
 use Rattle.cdx_nest_machine.proofs.Stacks.{next_plug, takes_plug, form_of, at_place, goes_on, is_refused, is_done, root_is, pops, pushes, begins}
 
 module _ {W L K C X : Type 0} (s : Shape W L K) (law : (k : K) → IsNested (s.as_kind k)) (holds : K → ChildHolding C) (view : X → Tree) (root : K) (ws : List W) (k : K) (name : OwnedName) (inner : Depth) (known : SpecVersion) (v : SpecVersion) (p : ℕ) (d : Depth) (o : Begun) (place : ℕ) (event : XmlEvent) where

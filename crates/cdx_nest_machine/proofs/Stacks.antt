@@ -18,7 +18,7 @@ use Rattle.cdx_machine.specs.declared.frame.Inside.{Inside}
 use Rattle.cdx_machine.specs.declared.frame.Inside.TheVariants.{Nothing}
 use Rattle.cdx_machine.specs.Begun.{Begun, innermost, around, Next, still, whole, count, start_name, ended_now, into, next, Takes, lone}
 use Rattle.cdx_machine.specs.Machines.{Refuses, IsQuiet, Steps, ChildHolding}
-use Rattle.cdx_machine.specs.Frames.{read_so_far, holds_inside}
+use Rattle.cdx_machine.specs.Frames.{IsForm, read_so_far, holds_inside}
 use Rattle.cdx_machine.proofs.Places.{places_more}
 use Rattle.cdx_machine.proofs.Faults.{refuses_on}
 use Rattle.cdx_machine.proofs.Frames.{IsNamed, ended_named, Keeps, keeps_into}
@@ -28,7 +28,7 @@ use Rattle.cdx_machine.proofs.Names.{FindsAt}
 use Rattle.cdx_nest_machine.specs.declared.nested.Reads.TheVariants.{Nested}
 use Rattle.cdx_nest_machine.specs.Forms.{plan_of, first_of, last_of, inner_of, inner_read, IsNested}
 use Rattle.cdx_nest_machine.specs.Stacks.{Layer, plug, plug_next, Shape, Waits, Stand, Stacked}
-use Rattle.cdx_nest_machine.proofs.FormSteps.{IsForm, open_ok, open_fails, open_quiet, quiet_inside, frame_opens, frame_refuses}
+use Rattle.cdx_machine.proofs.FrameSteps.{open_ok, open_fails, open_quiet, quiet_inside, frame_opens, frame_refuses}
 use Rattle.cdx_leaf.specs.Fault.{Fails}
 
 -- ---- events
