@@ -28,6 +28,10 @@ kind_is (c ∷ cs) zero row h = ap (λ (o : Option Child). kinds_at o) h
     kinds_at (Some x) = Some x.kind
 kind_is (c ∷ cs) (suc i) row h = kind_is cs i row h
 
+-- what a field becomes, by the child of the position
+pub puts_row : (cs : List Child) (i : ℕ) (row : Child) (t : Tree) (before now : Trees) → at_position cs i ≡ Some row → Puts cs i t before now → now ≡ stored row.place row.field t before
+puts_row cs i row t before now h puts = subst (λ (o : Option Child). IfSome o (λ (row : Child). now ≡ stored row.place row.field t before)) h puts
+
 module _ {M X : Type 0} (plan : Plan) (kinds : List Kind) (kinds_are : kinds ≡ kinds_of plan.children) (position : M → ℕ) (holds : Holding M) (tree : X → Tree) where
   abbrev Held : ChildHolding M
   Held = reads_child plan position holds
@@ -62,9 +66,6 @@ module _ {M X : Type 0} (plan : Plan) (kinds : List Kind) (kinds_are : kinds ≡
         by (whole k) s = absurd s
     child_waits (Some x) is kept h row v p d b held at t = absurd (let wrong : Some x ≡ None = is in cc)
 
-    puts_row : (i : ℕ) (t : Tree) (row : Child) → at_position plan.children i ≡ Some row → Puts plan.children i t ts us → us ≡ stored row.place row.field t ts
-    puts_row i t row h puts = subst (λ (o : Option Child). IfSome o (λ (row : Child). us ≡ stored row.place row.field t ts)) h puts
-
     -- it has ended
     pub child_put : (o : Option X) (x : X) (source : X → ℕ) → o ≡ Some x → source x ≡ position m → Puts plan.children (source x) (tree x) ts us → ((k : Kind) → at_position kinds (position m) ≡ Some k → StepsAs holds tree k m m' place event (Ok o)) → StepsChild (reads_child plan position holds) ts us m m' place event (Ok true)
     child_put None x source is from puts h row v p d b held at t = absurd (let wrong : None ≡ Some x = is in cc)
@@ -72,7 +73,7 @@ module _ {M X : Type 0} (plan : Plan) (kinds : List Kind) (kinds_are : kinds ≡
       where
         by : (z : Next) → Steps (λ o. holds m' v p d o) tree (λ k. xread k v row.kind p d) p z (Ok (Some x)) → StepsRow (λ o. Held m' row v p d o) row (λ k. xread k v row.kind p d) p ts us z (Ok true)
         by (still o) s = absurd s
-        by (whole k) s = (tree x, s, puts_row (source x) (tree x) row (ap (λ i. at_position plan.children i) from ∙ held.0) puts)
+        by (whole k) s = (tree x, s, puts_row plan.children (source x) row (tree x) ts us (ap (λ i. at_position plan.children i) from ∙ held.0) puts)
 
     -- it is refused
     pub child_refused : (e : XmlReadError) → ((k : Kind) → at_position kinds (position m) ≡ Some k → StepsAs holds tree k m m' place event (Err e)) → StepsChild (reads_child plan position holds) ts us m m' place event (Err e)

@@ -26,7 +26,7 @@ use Rattle.cdx_machine.specs.Begun.{Begun, innermost, around, Next, still, whole
 use Rattle.cdx_machine.specs.Contents.{First, TextLast, IsContent, AreText, Started, content_holds, TakesNew, TakesText}
 use Rattle.cdx_leaf.specs.Attribute.{Gives}
 use Rattle.cdx_machine.specs.Machines.{Refuses, IsQuiet, Steps}
-use Rattle.cdx_machine.proofs.Places.{places_more}
+use Rattle.cdx_machine.proofs.Places.{one_on, places_more}
 use Rattle.cdx_machine.proofs.Faults.{refuses_along, refuses_known, quiet_at}
 
 text_is : (o : Option (List ℕ)) (xs : Nodes) (el : List ℕ) (q : ℕ) → AreText o xs → text_or_none xs el q ≡ Ok o
@@ -49,21 +49,15 @@ second_node u (element n a s ks) el q = refl
 plus_none : (q : ℕ) → q ≡ q + 0
 plus_none q = omega arith
 
-plus_one : (q : ℕ) → suc q ≡ q + 1
-plus_one q = omega arith
-
 stray_text : (o : Option (List ℕ)) (xs : Nodes) (m : Node) (el : List ℕ) (q : ℕ) → AreText o xs → NotFirst o m → text_or_none (xs ⊕ lone m) el q ≡ Err (unexpected (q + places_of xs) el (kind_of_node m))
 stray_text None xs (characters t) el q w i = absurd i
 stray_text None xs (cdata t) el q w i = absurd i
 stray_text None xs (element n a s ks) el q w i = rw w (ap (λ k. Err (unexpected k el kinds.StartElement)) (plus_none q))
-stray_text (Some u) xs m el q (inl w) i = rw w (second_node u m el (suc q) ∙ ap (λ k. Err (unexpected k el (kind_of_node m))) (plus_one q))
-stray_text (Some u) xs m el q (inr w) i = rw w (second_node u m el (suc q) ∙ ap (λ k. Err (unexpected k el (kind_of_node m))) (plus_one q))
+stray_text (Some u) xs m el q (inl w) i = rw w (second_node u m el (suc q) ∙ ap (λ k. Err (unexpected k el (kind_of_node m))) (one_on q))
+stray_text (Some u) xs m el q (inr w) i = rw w (second_node u m el (suc q) ∙ ap (λ k. Err (unexpected k el (kind_of_node m))) (one_on q))
 
 at_end : (p k : ℕ) → p + suc k ≤ suc (p + k)
 at_end p k = omega arith
-
-place_end : (p k : ℕ) → suc (suc (p + k)) ≡ p + suc (suc k)
-place_end p k = omega arith
 
 -- what is answered at an element's end
 abbrev pub ended_with : {X : Type 0} → Result X XmlReadError → Result (Option X) XmlReadError
@@ -99,9 +93,6 @@ module _ {C : Type 0} (kind : Kind) (first : First) (last : TextLast) (start : C
   text_refuses e q n a s v p d h =
       refuses_along e q (p + 1) (first n.local_name a v p) _
       (λ f is. (law.refused n a s no_nodes v p d f is, ap suc (law.first_place n.local_name a v p f is) ∙ one_on p)) h
-    where
-      one_on : (p : ℕ) → suc p ≡ p + 1
-      one_on p = omega arith
 
   -- an event that may not stand there
   text_fails : (e : XmlReadError) (n : OwnedName) (a : List OwnedAttribute) (s : Namespace) (xs : Nodes) (v : SpecVersion) (p q : ℕ) (d : Depth) (c : C) (fault : XmlReadError) → first n.local_name a v p ≡ Ok (start c)

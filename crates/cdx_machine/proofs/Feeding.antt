@@ -26,9 +26,9 @@ use Rattle.cdx_leaf.specs.Reading.{Stands, Reads, after}
 use Rattle.cdx_leaf.proofs.Skip.{length_events}
 use Rattle.cdx_leaf.proofs.Steps.{cursor_is}
 use Rattle.cdx_machine.specs.Begun.{Begun, innermost, around, start_name, so_far, count, lone, ended_now, Next, still, whole, next, Takes}
-use Rattle.cdx_machine.specs.Machines.{Holding, Refuses, Steps, StepsAs, StartsAs}
+use Rattle.cdx_machine.specs.Machines.{Holding, Refuses, Steps, StepsAs}
 use Rattle.cdx_machine.specs.Feeding.{IsNoBill}
-use Rattle.cdx_machine.proofs.Places.{counted, Counted}
+use Rattle.cdx_machine.proofs.Places.{one_on, counted, Counted}
 use Rattle.cdx_machine.proofs.Frames.{Keeps, keeps_name}
 use Rattle.cdx_machine.proofs.Heard.{count_is, EventsAre, events_next, open_names, ended_events, begins_takes}
 
@@ -118,12 +118,10 @@ pub record Feeding {M : Type 0} (holds : Holding M) (v : SpecVersion) (n : Owned
   pub at : c.place ≡ p + count o
   pub ahead : so_far o ++ c.ahead ≡ events_of (element n a s nodes) ++ rest
 
-pub feeds_first : {M : Type 0} (holds : Holding M) (kind : Kind) (v : SpecVersion) (n : OwnedName) (a : List OwnedAttribute) (s : Namespace) (p : ℕ) (nodes : Nodes) (rest : List XmlEvent) (d : Depth) (c : Cursor) (m : M) → Stands c n p nodes rest → StartsAs holds kind v p n a (Ok m) → Feeding holds v n a s p nodes rest d c m
-feeds_first holds kind v n a s p nodes rest d c m st h =
-    record { o = innermost n a s no_nodes; held = (h d s).0; at = st.place ∙ one_on p; ahead = ap (λ es. StartElement n a s ∷ es) (st.at.ahead ∙ sym (append_assoc (events_of_all nodes) (EndElement n ∷ []) rest)) }
-  where
-    one_on : (p : ℕ) → suc p ≡ p + 1
-    one_on p = omega arith
+-- It keeps the element's start.
+pub feeds_first : {M : Type 0} (holds : Holding M) (v : SpecVersion) (n : OwnedName) (a : List OwnedAttribute) (s : Namespace) (p : ℕ) (nodes : Nodes) (rest : List XmlEvent) (d : Depth) (c : Cursor) (m : M) → Stands c n p nodes rest → holds m v p d (innermost n a s no_nodes) → Feeding holds v n a s p nodes rest d c m
+feeds_first holds v n a s p nodes rest d c m st h =
+    record { o = innermost n a s no_nodes; held = h; at = st.place ∙ one_on p; ahead = ap (λ es. StartElement n a s ∷ es) (st.at.ahead ∙ sym (append_assoc (events_of_all nodes) (EndElement n ∷ []) rest)) }
 
 begun_not : (o : Begun) (event : XmlEvent) → so_far o ++ event ∷ [] ≡ [] → ⊥
 begun_not (innermost n a s xs) event e = cc
@@ -180,17 +178,15 @@ pub feed_fails : (kind : Kind) (v : SpecVersion) (p : ℕ) (d : Depth) (e : XmlR
 feed_fails kind v p d (Memory m) es r r' rest rest' x k place nb f g at h = tt
 feed_fails kind v p d e es r r' rest rest' x k place nb f g at h = (element_local es rest rest' r r' x k v kind p d e nb f g (omega (arith, at, h.1)) h.0, within_at e place h.1)
 
-pub feeds_refused : {M X : Type 0} (holds : Holding M) (view : X → Tree) (kind : Kind) (v : SpecVersion) (n : OwnedName) (a : List OwnedAttribute) (s : Namespace) (p : ℕ) (nodes : Nodes) (rest : List XmlEvent) (d : Depth) (c end : Cursor) (e : XmlReadError) → IsNoBill kind → Stands c n p nodes rest → StartsAs holds kind v p n a (Err e)
+-- A start that is refused refuses the element.
+pub feeds_refused : {X : Type 0} (view : X → Tree) (kind : Kind) (v : SpecVersion) (n : OwnedName) (a : List OwnedAttribute) (s : Namespace) (p : ℕ) (nodes : Nodes) (rest : List XmlEvent) (d : Depth) (c end : Cursor) (e : XmlReadError) → IsNoBill kind → Stands c n p nodes rest → Refuses e (p + 1) (xread (element n a s no_nodes) v kind p d)
     → Reads view c c end (xread (element n a s nodes) v kind p d) (Err e)
-feeds_refused holds view kind v n a s p nodes rest d c end e nb st h = (
+feeds_refused view kind v n a s p nodes rest d c end e nb st h = (
   same c.place,
   subst (λ (i : ℕ). Fails e i (xread (element n a s nodes) v kind p d)) (sym (st.place ∙ one_on p))
-      (feed_fails kind v p d e (StartElement n a s ∷ []) [] rest (EndElement n ∷ []) (events_of_all nodes ++ EndElement n ∷ rest) (element n a s no_nodes) (element n a s nodes) (p + 1) nb refl (ap (λ es. StartElement n a s ∷ es) (append_assoc (events_of_all nodes) (EndElement n ∷ []) rest)) refl (h d s)),
+      (feed_fails kind v p d e (StartElement n a s ∷ []) [] rest (EndElement n ∷ []) (events_of_all nodes ++ EndElement n ∷ rest) (element n a s no_nodes) (element n a s nodes) (p + 1) nb refl (ap (λ es. StartElement n a s ∷ es) (append_assoc (events_of_all nodes) (EndElement n ∷ []) rest)) refl h),
 )
   where
-    one_on : (p : ℕ) → suc p ≡ p + 1
-    one_on p = omega arith
-
     same : (i : ℕ) → i ≤ i
     same i = omega arith
 

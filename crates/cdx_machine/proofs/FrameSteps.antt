@@ -30,20 +30,13 @@ use Rattle.cdx_machine.specs.Begun.{Begun, innermost, around, Next, still, whole
 use Rattle.cdx_machine.specs.Contents.{First}
 use Rattle.cdx_machine.specs.Machines.{Refuses, IsQuiet, Steps, StepsRow, StepsChild, ChildHolding}
 use Rattle.cdx_machine.specs.Frames.{Last, read_so_far, IsForm, IsOpen, Stays, holds_inside, frame_holds, EntersAt, Skips, SkipsOne}
-use Rattle.cdx_machine.proofs.Places.{places_more, count_below}
+use Rattle.cdx_machine.proofs.Places.{one_on, places_more, count_below}
 use Rattle.cdx_machine.proofs.Faults.{refuses_along, refuses_on, refuses_known, quiet_at}
 use Rattle.cdx_machine.proofs.Contents.{ended_with}
 use Rattle.cdx_machine.proofs.Frames.{IsNamed, ended_named, Keeps, keeps_name, skips_next, row_read, level_less}
 
 module _ (denotes : Node → SpecVersion → ℕ → Depth → Result Tree XmlReadError) (plan : Plan) (first : First) (last : Last) (law : IsForm denotes plan first last) where
   module _ (n : OwnedName) (a : List OwnedAttribute) (s : Namespace) (xs : Nodes) (v : SpecVersion) (p : ℕ) (d : Depth) where
-    -- what was read up to the end of these nodes
-    read_of : Nodes → Result Trees XmlReadError
-    read_of ys = read_so_far first plan n.local_name a v d p ys
-
-    whole_of : Nodes → Result Tree XmlReadError
-    whole_of ys = denotes (element n a s ys) v p d
-
     -- one node more
     pub more_node : (ts : Trees) (k : Node) → read_so_far first plan n.local_name a v d p xs ≡ Ok ts → read_so_far first plan n.local_name a v d p (xs ⊕ lone k) ≡ node_read k (xread k) plan n.local_name v d (suc p + places_of xs) ts
     more_node ts k h =
@@ -109,9 +102,6 @@ module _ (denotes : Node → SpecVersion → ℕ → Depth → Result Tree XmlRe
         more_node n a s xs v p d ts k h ∙ (named_read k m n.local_name v d (suc p + places_of xs) ts i ∙ (ap (λ o. child_read o plan.rule (xread k) n.local_name v d (suc p + places_of xs) ts) f ∙ g n.local_name (suc p + places_of xs) ts))
 
   module _ {R C X : Type 0} (holds : ChildHolding C) (slots : R → Trees) (view : X → Tree) (v : SpecVersion) (p : ℕ) (d : Depth) (name : OwnedName) (known : SpecVersion) where
-    abbrev pub Inside_holds : Trees → Inside C → Begun → Type 0
-    Inside_holds ts inside o = holds_inside holds first plan name known ts inside v p d o
-
     abbrev pub Stepped : (Begun → Type 0) → Next → Result (Option X) XmlReadError → Type 0
     Stepped held o r = Steps held view (λ k. denotes k v p d) p o r
 
@@ -336,6 +326,3 @@ module _ (denotes : Node → SpecVersion → ℕ → Depth → Result Tree XmlRe
   pub frame_refuses : (e : XmlReadError) (q : ℕ) (n : OwnedName) (a : List OwnedAttribute) (s : Namespace) (v : SpecVersion) (p : ℕ) (d : Depth) → Fails e q (first n.local_name a v p) → Refuses e (p + 1) (denotes (element n a s no_nodes) v p d)
   frame_refuses e q n a s v p d h =
       refuses_along e q (p + 1) (first n.local_name a v p) _ (λ f is. (whole_fails n a s no_nodes v p d f (ap (λ r. r >>= λ ts. nodes_read no_nodes plan n.local_name v d (suc p) ts) is), ap suc (law.first_place n.local_name a v p f is) ∙ one_on p)) h
-    where
-      one_on : (p : ℕ) → suc p ≡ p + 1
-      one_on p = omega arith

@@ -126,9 +126,6 @@ module _ {C : Type 0} (holds : ChildHolding C) (plan : Plan) (ts : Trees) (v : S
   abbrev Start : Begun
   Start = innermost m b s no_nodes
 
-  read_here : Result Trees XmlReadError
-  read_here = child_read (find_child v m.local_name plan.children) plan.rule (xread (element m b s no_nodes)) n.local_name v d q ts
-
   -- the child's own fault
   pub enters_fault : (e : XmlReadError) (i : ℕ) (h : FindsAt plan.children ts v m.local_name i) → Refuses e (q + 1) (xread (element m b s no_nodes) v h.row.kind q d) → EntersAt holds plan ts v n q d (innermost m b s no_nodes) (Err e)
   enters_fault e i h refuses =

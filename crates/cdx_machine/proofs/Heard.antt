@@ -23,7 +23,7 @@ use Rattle.cdx_leaf.proofs.Skip.{length_events, length_all}
 use Rattle.cdx_machine.specs.Begun.{Begun, innermost, around, start_name, so_far, count, lone, ended_now, Next, still, whole, into, next_inside, next, TakesInside, Takes}
 use Rattle.cdx_machine.specs.Machines.{Holding, Refuses, IsQuiet, Steps, StepsAs, CanStep, StartsAs, Opens}
 use Rattle.cdx_machine.specs.Heard.{Hears, IsRead, RefusesSoon, Answers, OpensAs}
-use Rattle.cdx_machine.proofs.Places.{counted, Counted}
+use Rattle.cdx_machine.proofs.Places.{one_on, counted, Counted}
 use Rattle.cdx_machine.proofs.Frames.{IsNamed, ended_named, Keeps, keeps_name}
 
 -- ---- events
@@ -40,9 +40,6 @@ events_more (node j xs) k = ap (λ es. events_of j ++ es) (events_more xs k) ∙
 abbrev pub EventsAre : List XmlEvent → Next → Type 0
 EventsAre es (still o) = so_far o ≡ es
 EventsAre es (whole k) = events_of k ≡ es
-
-start_with : OwnedName → List OwnedAttribute → Namespace → List XmlEvent → List XmlEvent
-start_with n a s es = StartElement n a s ∷ es
 
 inside_events : (n : OwnedName) (a : List OwnedAttribute) (s : Namespace) (xs : Nodes) (event : XmlEvent) → TakesInside n event → EventsAre (StartElement n a s ∷ events_of_all xs ++ event ∷ []) (next_inside n a s xs event)
 inside_events n a s xs StartDocument t = absurd t
@@ -197,15 +194,14 @@ pub can_step : {M : Type 0} (holds : Holding M) (m : M) (place : ℕ) (event : X
 can_step holds m place event v p d heard h is b =
     record { v = v; p = p; d = d; o = h.o; held = h.held; place_is = is ∙ ap (λ i. p + i) (sym (ap length h.events_are) ∙ count_is h.o); takes = begins_takes h.o event (subst (λ es. BeginsElement (es ++ event ∷ [])) (sym h.events_are) b) }
 
-pub answers_start : {M : Type 0} (holds : Holding M) (k : Kind) (v : SpecVersion) (p : ℕ) (d : Depth) (n : OwnedName) (a : List OwnedAttribute) (s : Namespace) (r : Result M XmlReadError) → StartsAs holds k v p n a r → OpensAs (λ m es. Hears (λ o. holds m v p d o) es) v k p d (StartElement n a s ∷ []) r
-answers_start {M = M} holds k v p d n a s r h = by r (h d s)
-  where
-    one_on : (p : ℕ) → suc p ≡ p + 1
-    one_on p = omega arith
+-- an element's start at one depth
+pub answers_open : {M : Type 0} (holds : Holding M) (k : Kind) (v : SpecVersion) (p : ℕ) (d : Depth) (n : OwnedName) (a : List OwnedAttribute) (s : Namespace) (r : Result M XmlReadError) → Opens (λ m o. holds m v p d o) (λ x. xread x v k p d) p (innermost n a s no_nodes) r
+    → OpensAs (λ m es. Hears (λ o. holds m v p d o) es) v k p d (StartElement n a s ∷ []) r
+answers_open holds k v p d n a s (Ok m) h = record { soon = fault_below (p + 1) (xread (element n a s no_nodes) v k p d); is_soon = soon_of v k p d (innermost n a s no_nodes) (StartElement n a s ∷ []) refl; answers = (quiet_none (p + 1) _ h.1, record { o = innermost n a s no_nodes; held = h.0; events_are = refl }) }
+answers_open holds k v p d n a s (Err e) h = record { soon = fault_below (p + 1) (xread (element n a s no_nodes) v k p d); is_soon = soon_of v k p d (innermost n a s no_nodes) (StartElement n a s ∷ []) refl; answers = refuses_soon e (p + 1) p _ (one_on p) h }
 
-    by : (r : Result M XmlReadError) → Opens (λ m o. holds m v p d o) (λ x. xread x v k p d) p (innermost n a s no_nodes) r → OpensAs (λ m es. Hears (λ o. holds m v p d o) es) v k p d (StartElement n a s ∷ []) r
-    by (Ok m) h = record { soon = fault_below (p + 1) (xread (element n a s no_nodes) v k p d); is_soon = soon_of v k p d (innermost n a s no_nodes) (StartElement n a s ∷ []) refl; answers = (quiet_none (p + 1) _ h.1, record { o = innermost n a s no_nodes; held = h.0; events_are = refl }) }
-    by (Err e) h = record { soon = fault_below (p + 1) (xread (element n a s no_nodes) v k p d); is_soon = soon_of v k p d (innermost n a s no_nodes) (StartElement n a s ∷ []) refl; answers = refuses_soon e (p + 1) p _ (one_on p) h }
+pub answers_start : {M : Type 0} (holds : Holding M) (k : Kind) (v : SpecVersion) (p : ℕ) (d : Depth) (n : OwnedName) (a : List OwnedAttribute) (s : Namespace) (r : Result M XmlReadError) → StartsAs holds k v p n a r → OpensAs (λ m es. Hears (λ o. holds m v p d o) es) v k p d (StartElement n a s ∷ []) r
+answers_start holds k v p d n a s r h = answers_open holds k v p d n a s r (h d s)
 
 -- ---- one machine among many
 

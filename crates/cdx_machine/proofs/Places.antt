@@ -9,6 +9,9 @@ use Rattle.cdx_events.specs.Nodes.{Node, characters, cdata, Nodes, no_nodes, nod
 use Rattle.cdx_schema.specs.Nodes.{places, places_of, ◌⊕◌}
 use Rattle.cdx_machine.specs.Begun.{Begun, innermost, around, Next, still, whole, into, next_inside, next, TakesInside, Takes, count, ended_now, lone}
 
+pub one_on : (p : ℕ) → suc p ≡ p + 1
+one_on p = omega arith
+
 pub places_more : (xs : Nodes) (k : Node) → places_of (xs ⊕ lone k) ≡ places_of xs + places k
 places_more no_nodes k = omega arith
 places_more (node x xs) k = let e : places_of (xs ⊕ lone k) ≡ places_of xs + places k = places_more xs k in omega (arith, e)

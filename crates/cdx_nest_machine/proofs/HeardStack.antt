@@ -1,22 +1,19 @@
 -- What the machine promises of each event, promised of all events so far.
-use Rattle.std.proofs.Common.{◌≡◌, ℕ, suc, ◌+◌, List, [], ◌∷◌, ◌++◌, length, Option, Result, Ok, Err, refl, sym, ap, ◌∙◌, subst, arith}
+use Rattle.std.proofs.Common.{◌≡◌, ℕ, ◌+◌, List, [], ◌∷◌, ◌++◌, length, Option, Result}
 use Rattle.cdx_events.specs.declared.name.OwnedName.{OwnedName}
 use Rattle.cdx_events.specs.declared.name.OwnedAttribute.{OwnedAttribute}
 use Rattle.cdx_events.specs.declared.name.Namespace.{Namespace}
 use Rattle.cdx_events.specs.declared.event.XmlEvent.{XmlEvent}
 use Rattle.cdx_events.specs.declared.event.XmlEvent.TheVariants.{StartElement}
-use Rattle.cdx_events.specs.Nodes.{element, no_nodes}
 use Rattle.cdx_models.specs.declared.bom.SpecVersion.{SpecVersion}
 use Rattle.cdx_models.specs.declared.errors.XmlReadError.{XmlReadError}
 use Rattle.cdx_models.specs.Trees.{Tree}
 use Rattle.cdx_schema.specs.Depth.{Depth}
 use Rattle.cdx_schema.specs.Kinds.{Kind}
-use Rattle.cdx_schema.specs.Soon.{BeginsElement, fault_below, IsSoon}
-use Rattle.cdx_schema.specs.XmlReading.{xread}
-use Rattle.cdx_machine.specs.Begun.{innermost}
-use Rattle.cdx_machine.specs.Machines.{Holding, Opens, CanStep}
+use Rattle.cdx_schema.specs.Soon.{BeginsElement}
+use Rattle.cdx_machine.specs.Machines.{Holding, CanStep}
 use Rattle.cdx_machine.specs.Heard.{Hears, Answers, OpensAs}
-use Rattle.cdx_machine.proofs.Heard.{count_is, begins_takes, answers_step, can_step, quiet_none, refuses_soon, soon_of}
+use Rattle.cdx_machine.proofs.Heard.{answers_step, can_step, answers_open}
 use Rattle.cdx_nest_machine.specs.Stacks.{RootHolding, StartsStack, CanStepStack, IsOfRoot, StepsStack}
 
 -- `step`: the answer by the soonest fault of all events
@@ -35,19 +32,10 @@ stack_can holds m place event root v p d heard h is b =
 pub stack_sort : {M X K : Type 0} (holds : RootHolding K M) (as_kind : K → Kind) (view : X → Tree) (sort : X → K) (old new : M) (place : ℕ) (event : XmlEvent) (r : Result (Option X) XmlReadError) (root : K) (v : SpecVersion) (p : ℕ) (d : Depth) (heard : List XmlEvent) → StepsStack holds as_kind view sort old new place event r
     → Hears (λ o. holds root old v p d o) heard → place ≡ p + length heard → BeginsElement (heard ++ event ∷ []) → IsOfRoot sort root r
 stack_sort holds as_kind view sort old new place event r root v p d heard steps h is b =
-    (steps root v p d h.o h.held (is ∙ ap (λ i. p + i) (sym (ap length h.events_are) ∙ count_is h.o)) (begins_takes h.o event (subst (λ es. BeginsElement (es ++ event ∷ [])) (sym h.events_are) b))).1
+    let c : CanStep (holds root) old place event = can_step (holds root) old place event v p d heard h is b in
+    (steps root c.v c.p c.d c.o c.held c.place_is c.takes).1
 
 -- `start`: the answer by the soonest fault of the start alone
 pub stack_opens : {M : Type 0} (holds : Holding M) (k : Kind) (v : SpecVersion) (p : ℕ) (d : Depth) (n : OwnedName) (a : List OwnedAttribute) (s : Namespace) (r : Result M XmlReadError) → StartsStack holds k v p d n a r
     → OpensAs (λ m es. Hears (λ o. holds m v p d o) es) v k p d (StartElement n a s ∷ []) r
-stack_opens {M = M} holds k v p d n a s r h = by r (h s)
-  where
-    one_on : (p : ℕ) → suc p ≡ p + 1
-    one_on p = omega arith
-
-    is_soon : IsSoon v k (StartElement n a s ∷ []) p d (fault_below (p + 1) (xread (element n a s no_nodes) v k p d))
-    is_soon = soon_of v k p d (innermost n a s no_nodes) (StartElement n a s ∷ []) refl
-
-    by : (r : Result M XmlReadError) → Opens (λ m o. holds m v p d o) (λ x. xread x v k p d) p (innermost n a s no_nodes) r → OpensAs (λ m es. Hears (λ o. holds m v p d o) es) v k p d (StartElement n a s ∷ []) r
-    by (Ok m) h = record { soon = fault_below (p + 1) (xread (element n a s no_nodes) v k p d); is_soon = is_soon; answers = (quiet_none (p + 1) _ h.1, record { o = innermost n a s no_nodes; held = h.0; events_are = refl }) }
-    by (Err e) h = record { soon = fault_below (p + 1) (xread (element n a s no_nodes) v k p d); is_soon = is_soon; answers = refuses_soon e (p + 1) p _ (one_on p) h }
+stack_opens holds k v p d n a s r h = answers_open holds k v p d n a s r (h s)

@@ -23,8 +23,9 @@ use Rattle.cdx_machine.specs.declared.frame.Inside.{Inside}
 use Rattle.cdx_machine.specs.declared.frame.Inside.TheVariants.{Nothing, Read, Skipped}
 use Rattle.cdx_machine.specs.Begun.{Begun, innermost, around, Next, count, start_name, next, Takes}
 use Rattle.cdx_machine.specs.Machines.{IsQuiet, Steps, StepsChild, CanStepChild, ChildHolding}
-use Rattle.cdx_machine.specs.Frames.{IsForm, SkipsOne, EntersAt, holds_inside}
+use Rattle.cdx_machine.specs.Frames.{SkipsOne, EntersAt, holds_inside}
 use Rattle.cdx_machine.proofs.Contents.{ended_with}
+use Rattle.cdx_machine.proofs.FrameSteps.{own_enters_by, own_start_fails_by, own_ends_by, own_text, own_text_fails, child_goes_on, child_ends, child_fails, skip_goes_on, skip_ends, skip_fits}
 use Rattle.cdx_machine.proofs.Frames.{keeps_name}
 use Rattle.cdx_machine.specs.Several.{Puts}
 use Rattle.cdx_machine.proofs.Names.{FindsAt}
@@ -35,7 +36,6 @@ use Rattle.cdx_nest_machine.specs.declared.stack.Open.{Open}
 use Rattle.cdx_nest_machine.specs.declared.stack.Waiting.{Waiting}
 use Rattle.cdx_nest_machine.specs.Frames.{stack_holds}
 use Rattle.cdx_nest_machine.specs.Stacks.{Layer, plug_next, Shape, Stand, Stacked, IsOfRoot}
-use Rattle.cdx_machine.proofs.FrameSteps.{own_enters_by, own_start_fails_by, own_ends_by, own_text, own_text_fails, child_goes_on, child_ends, child_fails, skip_goes_on, skip_ends, skip_fits}
 use Rattle.cdx_nest_machine.proofs.Stacks.{next_plug, takes_plug, form_of, at_place, goes_on, is_refused, is_done, root_is, pops, pushes, begins}
 
 module _ {W L K C X : Type 0} (s : Shape W L K) (law : (k : K) → IsNested (s.as_kind k)) (holds : K → ChildHolding C) (view : X → Tree) (root : K) (ws : List W) (k : K) (name : OwnedName) (inner : Depth) (known : SpecVersion) (v : SpecVersion) (p : ℕ) (d : Depth) (o : Begun) (place : ℕ) (event : XmlEvent) where
@@ -82,9 +82,6 @@ module _ {W L K C X : Type 0} (s : Shape W L K) (law : (k : K) → IsNested (s.a
 
   -- ---- an open child of a leaf kind
   module _ (ts us : Trees) (c c' : C) (h : Stacked s holds root ws k name inner ts known (Read c) v p d o) (is : place ≡ p + count o) (t : Takes o event) where
-    law_here : IsForm (inner_read (s.as_kind k)) (plan_of (s.as_kind k)) (first_of (s.as_kind k)) (last_of (s.as_kind k))
-    law_here = form_of (s.as_kind k) (law k)
-
     pub leaf_fails : (held : Begun → Type 0) (f : XmlReadError) → StepsChild (holds k) ts us c c' place event (Err f) → Told held (Err f)
     leaf_fails held f e =
         fails ts (Read c) h held held f

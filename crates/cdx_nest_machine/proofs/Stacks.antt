@@ -8,27 +8,26 @@ use Rattle.cdx_events.specs.declared.event.XmlEvent.TheVariants.{StartElement}
 use Rattle.cdx_events.specs.Nodes.{Node, element, no_nodes}
 use Rattle.cdx_models.specs.declared.bom.SpecVersion.{SpecVersion}
 use Rattle.cdx_models.specs.declared.errors.XmlReadError.{XmlReadError}
-use Rattle.cdx_models.specs.declared.errors.XmlReadError.TheVariants.{Memory}
 use Rattle.cdx_models.specs.Trees.{Tree, Trees}
 use Rattle.cdx_schema.specs.Depth.{Depth, is_too_deep}
 use Rattle.cdx_schema.specs.Kinds.{Kind}
 use Rattle.cdx_schema.specs.Nodes.{places, places_of, ◌⊕◌}
-use Rattle.cdx_schema.specs.XmlReading.{Child, find_child, stored, xread}
+use Rattle.cdx_schema.specs.XmlReading.{find_child, xread}
 use Rattle.cdx_machine.specs.declared.frame.Inside.{Inside}
 use Rattle.cdx_machine.specs.declared.frame.Inside.TheVariants.{Nothing}
 use Rattle.cdx_machine.specs.Begun.{Begun, innermost, around, Next, still, whole, count, start_name, ended_now, into, next, Takes, lone}
 use Rattle.cdx_machine.specs.Machines.{Refuses, IsQuiet, Steps, ChildHolding}
 use Rattle.cdx_machine.specs.Frames.{IsForm, read_so_far, holds_inside}
 use Rattle.cdx_machine.proofs.Places.{places_more}
+use Rattle.cdx_machine.proofs.Children.{puts_row}
 use Rattle.cdx_machine.proofs.Faults.{refuses_on}
+use Rattle.cdx_machine.proofs.FrameSteps.{open_ok, open_fails, open_quiet, quiet_inside, frame_opens, frame_refuses}
 use Rattle.cdx_machine.proofs.Frames.{IsNamed, ended_named, Keeps, keeps_into}
-use Rattle.std.specs.Prelude.{IfSome}
-use Rattle.cdx_machine.specs.Several.{at_position, Puts}
+use Rattle.cdx_machine.specs.Several.{Puts}
 use Rattle.cdx_machine.proofs.Names.{FindsAt}
 use Rattle.cdx_nest_machine.specs.declared.nested.Reads.TheVariants.{Nested}
 use Rattle.cdx_nest_machine.specs.Forms.{plan_of, first_of, last_of, inner_of, inner_read, IsNested}
 use Rattle.cdx_nest_machine.specs.Stacks.{Layer, plug, plug_next, Shape, Waits, Stand, Stacked}
-use Rattle.cdx_machine.proofs.FrameSteps.{open_ok, open_fails, open_quiet, quiet_inside, frame_opens, frame_refuses}
 use Rattle.cdx_leaf.specs.Fault.{Fails}
 
 -- ---- events
@@ -48,21 +47,9 @@ still_plug (l ∷ ls) o = still_plug ls (around l.name l.attributes l.namespace 
 pub form_of : (kind : Kind) → IsNested kind → IsForm (inner_read kind) (plan_of kind) (first_of kind) (last_of kind)
 form_of kind law = record { reads = λ n a s xs v p d. refl; first_place = law.first_place; last_place = law.last_place }
 
--- a refusal for want of memory says nothing
-pub memory_steps : {X T : Type 0} (held : Begun → Type 0) (view : X → T) (read : Node → Result T XmlReadError) (p : ℕ) (x : Next) (m : Rattle.std.specs.declared.alloc.AllocError.AllocError) → Steps held view read p x (Err (Memory m))
-memory_steps held view read p (still o) m = tt
-memory_steps held view read p (whole k) m = tt
-
--- what a field becomes, by the child of the position
-pub puts_row : (cs : List Child) (i : ℕ) (row : Child) (t : Tree) (before now : Trees) → at_position cs i ≡ Some row → Puts cs i t before now → now ≡ stored row.place row.field t before
-puts_row cs i row t before now h puts = subst (λ (o : Option Child). IfSome o (λ (row : Child). now ≡ stored row.place row.field t before)) h puts
-
 module _ {W L K : Type 0} (s : Shape W L K) (law : (k : K) → IsNested (s.as_kind k)) (v : SpecVersion) where
   -- ---- one frame around an open child
   module _ (w : W) (l : Layer) (k : K) (q : ℕ) (e : Depth) (m : OwnedName) (h : Waits s v w l k q e m) where
-    kind_here : Kind
-    kind_here = s.as_kind (s.sort w)
-
     -- what the child denotes, by the child of the plan
     by_row : (x : Node) → xread x v (s.as_kind k) q e ≡ xread x v h.finds.row.kind (suc l.place + places_of l.nodes) (inner_of (s.as_kind (s.sort w)) l.depth)
     by_row x =

@@ -15,15 +15,13 @@ use Rattle.cdx_schema.specs.Locality.{fault_place}
 use Rattle.cdx_schema.specs.Nodes.{places_of}
 use Rattle.cdx_schema.specs.Results.{◌>>=◌}
 use Rattle.cdx_schema.specs.Table.{rows}
-use Rattle.cdx_schema.specs.XmlReading.{Plan, Element, end_of, no_content, content_from, record_plan, plan_of_list, tools_plan, tools_of, tools_object_of, no_plan, attributes_read, in_force, ended, xread, nodes_read}
-use Rattle.cdx_schema.proofs.FaultPlaces.{ok_err, err_same, bind_err, attributes_place, ended_place}
-use Rattle.cdx_leaf.specs.Each.{each, plan_step}
-use Rattle.cdx_leaf.proofs.ChildSteps.{both, each_is}
+use Rattle.cdx_schema.specs.XmlReading.{Plan, Element, end_of, no_content, content_from, record_plan, plan_of_list, tools_plan, tools_of, tools_object_of, no_plan, in_force, xread, nodes_read}
+use Rattle.cdx_schema.proofs.FaultPlaces.{ok_err, err_same, attributes_place}
 use Rattle.cdx_leaf.proofs.Whole.{nested_is}
 use Rattle.cdx_machine.specs.Contents.{First}
 use Rattle.cdx_machine.specs.Frames.{Last, read_so_far}
 use Rattle.cdx_machine.specs.Plain.{attributes_first}
-use Rattle.cdx_machine.specs.Records.{record_end, list_first, list_last}
+use Rattle.cdx_machine.specs.Records.{record_end, record_end_place, record_by_nodes, list_first, list_last, list_frame}
 
 abbrev pub plan_of : Kind → Plan
 plan_of (a_record n) = record_plan n
@@ -73,10 +71,7 @@ unfolding xread
 record_reads name alone (characters t) v p d h = refl
 record_reads name alone (cdata t) v p d h = refl
 record_reads name alone (element n a s xs) v p d h =
-    nested_is name alone v n a s d p xs h
-    ∙ ap (λ r. r >>= λ ts. record_end name n.local_name v (suc (p + places_of xs)) ts)
-    (sym (both (attributes_read (rows name) (in_force name a) v n.local_name p) (λ ts. nodes_read xs (record_plan name) n.local_name v (inside name d) (suc p) ts) (λ ts. each (plan_step (record_plan name) v (inside name d) n.local_name) xs (suc p) ts)
-    (λ ts. each_is xs (record_plan name) n.local_name v (inside name d) (suc p) ts)))
+    nested_is name alone v n a s d p xs h ∙ record_by_nodes name v n a (inside name d) p xs
 
 record_deep : (name : Name) (n : OwnedName) (a : List OwnedAttribute) (s : Namespace) (xs : Nodes) (v : SpecVersion) (p : ℕ) (d : Depth) → is_too_deep (a_record name) d ≡ true → xread (element n a s xs) v (a_record name) p d ≡ Err (nested p)
 unfolding xread
@@ -87,7 +82,7 @@ record_nested name alone = record {
   reads = record_reads name alone;
   deep = record_deep name;
   first_place = λ el a v p f h. attributes_place (rows name) (in_force name a) v el p f h;
-  last_place = λ el v q ts f h. bind_err (ended (rows name) ts v el q) (λ us. Ok (fields name us)) f h (λ e. ended_place (rows name) ts v el q f e) (λ us i j. ok_err j);
+  last_place = record_end_place name;
 }
 
 -- ---- lists
@@ -102,8 +97,8 @@ pub list_nested : (l : Lists) → IsNested (a_list l)
 list_nested l = record {
   reads = list_reads l;
   deep = λ n a s xs v p d h. absurd (let wrong : false ≡ true = h in cc);
-  first_place = λ el a v p f h. ok_err h;
-  last_place = λ el v q ts f h. ok_err h;
+  first_place = (list_frame l).first_place;
+  last_place = (list_frame l).last_place;
 }
 
 -- ---- tools

@@ -1,9 +1,12 @@
-use Rattle.std.proofs.Common.{Ok, Err, None, sym, ◌∙◌, subst}
+use Rattle.std.proofs.Common.{◌+◌, Ok, None, sym, ◌∙◌, subst}
 use Rattle.std.proofs.lemmas.Result.{err_from_is_err_and}
+use Rattle.cdx_events.specs.Nodes.{element, no_nodes}
 use Rattle.cdx_schema.specs.Depth.{top}
+use Rattle.cdx_schema.specs.XmlReading.{xread}
 use Rattle.cdx_leaf.specs.Reading.{after}
 use Rattle.cdx_leaf.proofs.Whole.{start_is}
-use Rattle.cdx_machine.specs.Machines.{StartsAs, StepsAs}
+use Rattle.cdx_machine.specs.Begun.{innermost}
+use Rattle.cdx_machine.specs.Machines.{Refuses, StepsAs}
 use Rattle.cdx_machine.proofs.Feeding.{feeds_first, feeds_takes, feeds_on, feeds_never, feeds_refused, feeds_fails, feeds_done}
 use Rattle.cdx_machine.proofs.reading.read_by_machine.Goals as goal
 
@@ -11,14 +14,14 @@ pub returns-in_err-machine : goal.returns-in_err-machine
 returns-in_err-machine g c = λ d s p nodes rest st.
     let q = err_from_is_err_and c.from_residual.result c.from_residual.ensures.1 in
     let e = c.in_err-machine.field-0.0 in
-    rw (q.1, q.2) (feeds_refused g.M.Machine.holds g.M.Machine.tree g.M.Machine.kind c.args.v c.args.element.now c.args.attributes.now s p nodes rest d c.args.reader.now (after c.args.reader.now nodes rest) e c.requires.kind st
-    (subst (λ i. StartsAs g.M.Machine.holds g.M.Machine.kind c.args.v i c.args.element.now c.args.attributes.now (Err e)) (start_is c.args.reader.now.place c.place.result p (sym c.place.ensures) st.place) c.in_err-machine.ensures))
+    rw (q.1, q.2) (feeds_refused g.M.Machine.tree g.M.Machine.kind c.args.v c.args.element.now c.args.attributes.now s p nodes rest d c.args.reader.now (after c.args.reader.now nodes rest) e c.requires.kind st
+    (subst (λ i. Refuses e (i + 1) (xread (element c.args.element.now c.args.attributes.now s no_nodes) c.args.v g.M.Machine.kind i d)) (start_is c.args.reader.now.place c.place.result p (sym c.place.ensures) st.place) (c.in_err-machine.ensures d s)))
 
 pub events-init : goal.events-init
 events-init g c = record {
   fed = λ d s p nodes rest st.
-      feeds_first g.M.Machine.holds g.M.Machine.kind c.args.v c.args.element.now c.args.attributes.now s p nodes rest d c.args.reader.now c.in_ok-machine.machine st
-      (subst (λ i. StartsAs g.M.Machine.holds g.M.Machine.kind c.args.v i c.args.element.now c.args.attributes.now (Ok c.in_ok-machine.machine)) (start_is c.args.reader.now.place c.place.result p (sym c.place.ensures) st.place) c.in_ok-machine.ensures);
+      feeds_first g.M.Machine.holds c.args.v c.args.element.now c.args.attributes.now s p nodes rest d c.args.reader.now c.in_ok-machine.machine st
+      (subst (λ i. g.M.Machine.holds c.in_ok-machine.machine c.args.v i d (innermost c.args.element.now c.args.attributes.now s no_nodes)) (start_is c.args.reader.now.place c.place.result p (sym c.place.ensures) st.place) (c.in_ok-machine.ensures d s).0);
 }
 
 pub unreachable-requires : goal.unreachable-requires

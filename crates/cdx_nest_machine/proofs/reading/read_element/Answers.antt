@@ -5,12 +5,13 @@ use Rattle.cdx_json.specs.Depths.{depth_of}
 use Rattle.cdx_leaf.specs.Reading.{after}
 use Rattle.cdx_events.specs.Nodes.{element, no_nodes}
 use Rattle.cdx_schema.specs.XmlReading.{xread}
+use Rattle.cdx_machine.specs.Begun.{innermost}
 use Rattle.cdx_machine.specs.Machines.{Refuses}
 use Rattle.cdx_leaf.proofs.Whole.{start_is}
-use Rattle.cdx_machine.proofs.Feeding.{feeds_takes, feeds_on, feeds_never, feeds_fails, feeds_done}
+use Rattle.cdx_machine.proofs.Feeding.{feeds_first, feeds_takes, feeds_on, feeds_never, feeds_refused, feeds_fails, feeds_done}
 use Rattle.cdx_nest_machine.specs.Frames.{leaf_holds, shape_of, stack_holds}
-use Rattle.cdx_nest_machine.specs.Stacks.{StartsStack, StepsStack}
-use Rattle.cdx_nest_machine.proofs.Fed.{stack_first, stack_refused, root_steps, root_value}
+use Rattle.cdx_nest_machine.specs.Stacks.{StepsStack}
+use Rattle.cdx_nest_machine.proofs.Fed.{root_steps, root_value}
 use Rattle.cdx_nest_machine.proofs.reading.read_element.Goals as goal
 
 pub returns-in_err-machine-clause-reads : goal.returns-in_err-machine-clause-reads
@@ -19,7 +20,7 @@ returns-in_err-machine-clause-reads g c = λ d s p nodes rest st.
     let f = g.F.Nested in
     let e = g.F.Leaf.Leaves in
     let x = c.in_err-machine.field-0.0 in
-    rw (q.1, q.2) (stack_refused f.tree (f.as_kind c.args.sort) c.args.v c.args.element.now c.args.attributes.now s p nodes rest (depth_of c.args.depth) c.args.reader.now (after c.args.reader.now nodes rest) x (g.met.F.Nested.no_bill c.args.sort) st
+    rw (q.1, q.2) (feeds_refused f.tree (f.as_kind c.args.sort) c.args.v c.args.element.now c.args.attributes.now s p nodes rest (depth_of c.args.depth) c.args.reader.now (after c.args.reader.now nodes rest) x (g.met.F.Nested.no_bill c.args.sort) st
     (subst (λ i. Refuses x (i + 1) (xread (element c.args.element.now c.args.attributes.now s no_nodes) c.args.v (f.as_kind c.args.sort) i (depth_of c.args.depth))) (start_is c.args.reader.now.place c.place.result p (sym c.place.ensures) st.place) (c.in_err-machine.ensures s)))
 
 pub events-init : goal.events-init
@@ -28,8 +29,8 @@ events-init g c =
     let e = g.F.Leaf.Leaves in
     record {
       fed = λ s p nodes rest st.
-          stack_first (λ m v p d o. stack_holds (shape_of f.as_kind f.sort_of f.fields f.child_of) (leaf_holds f.as_kind f.child_of e.sort_of e.holds) f.sort_of f.fields c.args.sort m.below.items m.top m.v m.inside v p d o) (f.as_kind c.args.sort) c.args.v c.args.element.now c.args.attributes.now s p nodes rest (depth_of c.args.depth) c.args.reader.now c.in_ok-machine.machine st
-          (subst (λ i. StartsStack (λ m v p d o. stack_holds (shape_of f.as_kind f.sort_of f.fields f.child_of) (leaf_holds f.as_kind f.child_of e.sort_of e.holds) f.sort_of f.fields c.args.sort m.below.items m.top m.v m.inside v p d o) (f.as_kind c.args.sort) c.args.v i (depth_of c.args.depth) c.args.element.now c.args.attributes.now (Ok c.in_ok-machine.machine)) (start_is c.args.reader.now.place c.place.result p (sym c.place.ensures) st.place) c.in_ok-machine.ensures);
+          feeds_first (λ m v p d o. stack_holds (shape_of f.as_kind f.sort_of f.fields f.child_of) (leaf_holds f.as_kind f.child_of e.sort_of e.holds) f.sort_of f.fields c.args.sort m.below.items m.top m.v m.inside v p d o) c.args.v c.args.element.now c.args.attributes.now s p nodes rest (depth_of c.args.depth) c.args.reader.now c.in_ok-machine.machine st
+          (subst (λ i. stack_holds (shape_of f.as_kind f.sort_of f.fields f.child_of) (leaf_holds f.as_kind f.child_of e.sort_of e.holds) f.sort_of f.fields c.args.sort c.in_ok-machine.machine.below.items c.in_ok-machine.machine.top c.in_ok-machine.machine.v c.in_ok-machine.machine.inside c.args.v i (depth_of c.args.depth) (innermost c.args.element.now c.args.attributes.now s no_nodes)) (start_is c.args.reader.now.place c.place.result p (sym c.place.ensures) st.place) (c.in_ok-machine.ensures s).0);
     }
 
 pub unreachable-requires : goal.unreachable-requires
