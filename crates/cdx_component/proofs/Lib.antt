@@ -5,5 +5,6 @@ pub mod Fitting
 pub mod Grouped
 pub mod Deep
 pub mod Begun
-pub mod Readers
+pub mod Children
+pub mod Nesting
 pub mod Written

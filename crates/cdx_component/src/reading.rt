@@ -1,9 +1,10 @@
 //! Components, pedigrees and lists of components from XML.
 
-pub(crate) mod begin;
+mod begin;
 mod elements;
-pub(crate) mod finish;
-pub(crate) mod parts;
+mod finish;
+mod parts;
+mod rows;
 
 use crate::component::{Component, Components, Pedigree};
 use crate::reading::elements::{
