@@ -14,8 +14,7 @@ pub mod Fronts
 pub mod Settled
 pub mod Outputs
 pub mod BillStart
-pub mod Readers
-pub mod RootSteps
+pub mod BillRows
 pub mod BillWhole
 pub mod BillWritten
 pub mod EmptyTexts

@@ -1,6 +1,7 @@
-//! Bills from XML events.
+//! Bills from XML.
 
 mod calls;
-pub(crate) mod part;
-pub(crate) mod start;
-mod whole;
+mod part;
+mod rows;
+mod start;
+pub(crate) mod whole;
