@@ -58,7 +58,8 @@ impl PartialEq for AttachedText {
 
     fn eq(&self, other: &AttachedText) -> bool
         ensures test { result ≡ same (attached_text_tree self.now) (attached_text_tree other.now) }
-        ensures equality { IsTrue result ↔ (attached_text_tree self.now ≡ attached_text_tree other.now) }
+        ensures equality { IsTrue result
+            ↔ (attached_text_tree self.now ≡ attached_text_tree other.now) }
     {
         self.same(other)
     }

@@ -4,14 +4,12 @@ use crate::kinds::{LeafKind, LeafValue};
 use cdx_events::{List, OwnedAttribute, OwnedName, XmlEvent};
 use cdx_machine::{FlagMachine, Leaves, Machine, TextMachine};
 use cdx_models::{SpecVersion, XmlReadError};
+use cdx_push_code::{CommitsMachine, PatchesMachine};
 use cdx_push_models::{
     AttachedTextMachine, AuthorsMachine, EndpointsMachine, EntityMachine,
     ExternalReferencesMachine, HashesMachine, PropertiesMachine, ToolMachine,
 };
-use cdx_push_parts::{
-    CommitsMachine, ComponentEvidenceMachine, DataMachine, LicensesMachine, PatchesMachine,
-    SwidMachine,
-};
+use cdx_push_parts::{ComponentEvidenceMachine, DataMachine, LicensesMachine, SwidMachine};
 use cdx_push_relations::{CompositionsMachine, DependenciesMachine, SignatureMachine};
 use std::alloc::Global;
 

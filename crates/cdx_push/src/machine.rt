@@ -64,17 +64,19 @@ impl LeafMachine {
     /// soonest fault, with that fault, which then stands at `place`. The answer is Done exactly where the element has ended
     /// without one, with the value of its tree, and else More. After a refusal and after Done it may only be dropped.
     pub fn step(&mut self, place: usize, event: &XmlEvent) -> Result<LeafStep, XmlReadError>
-        requires { Listens (IsListening self.old.machine) (⟦<LeafMachine as Listener>⟧.heard self.old)
-            self.old.place place event.now }
+        requires { Listens (IsListening self.old.machine)
+            (⟦<LeafMachine as Listener>⟧.heard self.old) self.old.place place event.now }
         ensures kept { (self.new.kind ≡ self.old.kind) × (self.new.v ≡ self.old.v)
             × (self.new.place ≡ self.old.place) }
         ensures kind { IfOk result (IsOfKind self.old.kind) }
-        ensures answers { (events : List XmlEvent) → ⟦<LeafMachine as Listener>⟧.heard self.old events
+        ensures answers { (events : List XmlEvent)
+            → ⟦<LeafMachine as Listener>⟧.heard self.old events
             → place ≡ self.old.place + length events → BeginsElement (events ++ event.now ∷ [])
             → Answers (⟦<LeafMachine as Listener>⟧.heard self.new) value_tree self.old.v
             (kind_of self.old.kind) self.old.place top place (events ++ event.now ∷ [])
             (as_steps result) }
-        ensures heard { (events : List XmlEvent) → ⟦<LeafMachine as Listener>⟧.heard self.old events
+        ensures heard { (events : List XmlEvent)
+            → ⟦<LeafMachine as Listener>⟧.heard self.old events
             → place ≡ self.old.place + length events → BeginsElement (events ++ event.now ∷ [])
             → (IsMemory result → ⊥)
             → ⟦<LeafMachine as Listener>⟧.heard self.new (events ++ event.now ∷ []) }

@@ -1,6 +1,5 @@
 -- Kinds that are read by their element's name: how a license is named, and licenses or expressions.
-use Rattle.std.specs.Prelude.{◌≡◌, refl, List, [], ◌∷◌, codes, if◌then◌else◌, Err}
-use Rattle.std.proofs.Common.{ap, ◌∙◌}
+use Rattle.std.specs.Prelude.{◌≡◌, refl, [], ◌∷◌, codes}
 use Rattle.cdx_models.specs.Trees.{license, expression, spdx_id, license_name}
 use Rattle.cdx_schema.specs.Kinds.{licenses, a_record, a_license_choice, a_license_identifier}
 use Rattle.cdx_schema.specs.Table.{list}

@@ -1,20 +1,8 @@
 -- Of which kind the items of each list are.
 use Rattle.std.specs.Prelude.{◌≡◌, refl}
-use Rattle.cdx_models.specs.Trees.{commit, copyright, issue, patch}
-use Rattle.cdx_schema.specs.Kinds.{a_record, commits, copyright_texts, patches, resolved}
+use Rattle.cdx_models.specs.Trees.{copyright}
+use Rattle.cdx_schema.specs.Kinds.{a_record, copyright_texts}
 use Rattle.cdx_schema.specs.Table.{list}
-
-pub commits_item : a_record commit ≡ (list commits).kind
-unfolding list
-commits_item = refl
-
-pub resolved_item : a_record issue ≡ (list resolved).kind
-unfolding list
-resolved_item = refl
-
-pub patches_item : a_record patch ≡ (list patches).kind
-unfolding list
-patches_item = refl
 
 pub copyright_texts_item : a_record copyright ≡ (list copyright_texts).kind
 unfolding list

@@ -1,34 +1,10 @@
 -- The kinds of the children of each record.
 use Rattle.std.specs.Prelude.{◌≡◌, refl, [], ◌∷◌}
-use Rattle.cdx_models.specs.Trees.{action, attached_text, classification, commit, diff, evidence, issue, license, patch, service_data, source, swid}
-use Rattle.cdx_schema.specs.Kinds.{a_license_identifier, a_list, a_record, a_text, copyright_texts, licenses, links, properties, resolved}
+use Rattle.cdx_models.specs.Trees.{attached_text, classification, evidence, license, service_data, swid}
+use Rattle.cdx_schema.specs.Kinds.{a_license_identifier, a_list, a_record, a_text, copyright_texts, licenses, properties}
 use Rattle.cdx_schema.specs.Table.{rows, list}
 use Rattle.cdx_schema.specs.XmlReading.{record_plan}
 use Rattle.cdx_machine.specs.Several.{kinds_of}
-
-pub action_kinds : a_text ∷ a_text ∷ a_text ∷ [] ≡ kinds_of (record_plan action).children
-unfolding rows list
-action_kinds = refl
-
-pub commit_kinds : a_text ∷ a_text ∷ a_record action ∷ a_record action ∷ a_text ∷ [] ≡ kinds_of (record_plan commit).children
-unfolding rows list
-commit_kinds = refl
-
-pub diff_kinds : a_record attached_text ∷ a_text ∷ [] ≡ kinds_of (record_plan diff).children
-unfolding rows list
-diff_kinds = refl
-
-pub source_kinds : a_text ∷ a_text ∷ [] ≡ kinds_of (record_plan source).children
-unfolding rows list
-source_kinds = refl
-
-pub issue_kinds : a_text ∷ a_text ∷ a_text ∷ a_record source ∷ a_list links ∷ [] ≡ kinds_of (record_plan issue).children
-unfolding rows list
-issue_kinds = refl
-
-pub patch_kinds : a_record diff ∷ a_list resolved ∷ [] ≡ kinds_of (record_plan patch).children
-unfolding rows list
-patch_kinds = refl
 
 pub license_kinds : a_license_identifier ∷ a_license_identifier ∷ a_record attached_text ∷ a_text ∷ a_list properties ∷ [] ≡ kinds_of (record_plan license).children
 unfolding rows list

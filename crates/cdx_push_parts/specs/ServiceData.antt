@@ -1,5 +1,5 @@
 -- The data of a service, and its entries.
-use Rattle.std.specs.Prelude.{◌≡◌, refl, ℕ, suc, ◌+◌, List, Result, Ok, Err}
+use Rattle.std.specs.Prelude.{◌≡◌, refl, suc, ◌+◌, Result, Ok, Err}
 use Rattle.std.proofs.Common.{ap, ◌∙◌}
 use Rattle.cdx_models.specs.declared.errors.XmlReadError.{XmlReadError}
 use Rattle.cdx_models.specs.Entries.{entry_of}

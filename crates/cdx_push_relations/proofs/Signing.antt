@@ -1,10 +1,7 @@
--- The last step of signers and of a chain.
 -- The ends of signers and chains.
-use Rattle.std.proofs.Common.{◌≡◌, ℕ, List, [], ◌∷◌, Result, Ok, Err, refl}
+use Rattle.std.proofs.Common.{◌≡◌, ℕ, List, [], ◌∷◌, Ok, refl}
 use Rattle.cdx_models.specs.declared.bom.SpecVersion.{SpecVersion}
-use Rattle.cdx_models.specs.declared.errors.XmlReadError.{XmlReadError}
 use Rattle.cdx_models.specs.Trees.{signers, chain, Tree, fields, one, list_tree}
-use Rattle.cdx_schema.specs.Results.{◌>>=◌}
 use Rattle.cdx_schema.specs.Table.{rows}
 use Rattle.cdx_schema.specs.XmlReading.{ended}
 use Rattle.cdx_machine.specs.Records.{record_end, items_slots}

@@ -1,13 +1,13 @@
 -- References to other parts of the bill: an attribute, and nothing in the element.
 use Rattle.std.specs.Prelude.{◌≡◌, refl, ℕ, suc, ◌+◌, List, codes, Option, Some, None, Result, Ok, Err}
-use Rattle.std.proofs.Common.{sym, ap, ◌∙◌}
+use Rattle.std.proofs.Common.{sym, ap}
 use Rattle.cdx_events.specs.declared.name.OwnedName.{OwnedName}
 use Rattle.cdx_events.specs.declared.name.OwnedAttribute.{OwnedAttribute}
 use Rattle.cdx_events.specs.declared.name.Namespace.{Namespace}
 use Rattle.cdx_events.specs.Nodes.{characters, cdata, element, Nodes, no_nodes, node}
 use Rattle.cdx_models.specs.declared.bom.SpecVersion.{SpecVersion}
 use Rattle.cdx_models.specs.declared.errors.XmlReadError.{XmlReadError}
-use Rattle.cdx_models.specs.Trees.{Tree, text, Trees, none, one, field}
+use Rattle.cdx_models.specs.Trees.{text, Trees, none, one, field}
 use Rattle.cdx_schema.specs.Depth.{Depth}
 use Rattle.cdx_schema.specs.Faults.{lacking}
 use Rattle.cdx_schema.specs.Kinds.{a_reference}

@@ -1,4 +1,4 @@
-use Rattle.std.proofs.Common.{ap, refl}
+use Rattle.std.proofs.Common.{ap}
 use Rattle.cdx_models.specs.Trees.{text, with_field}
 use Rattle.cdx_models.specs.Records.{contact_tree}
 use Rattle.cdx_leaf.specs.Parts.{entity_slots}

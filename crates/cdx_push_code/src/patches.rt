@@ -51,7 +51,7 @@ impl Machine for DiffMachine {
 
 #[tactic(auto, unfolding(cdx_machine::proofs::OnRows::on_rows), using(cdx_machine::proofs::OnRows::by_rows))]
 impl PushRecord for DiffChildren {
-    ghost use Rattle.cdx_push_parts.specs.RecordKinds.{diff_kinds};
+    ghost use Rattle.cdx_push_code.specs.RecordKinds.{diff_kinds};
 
     type Record = Diff;
 
@@ -121,7 +121,7 @@ impl Machine for SourceMachine {
 
 #[tactic(auto, unfolding(cdx_machine::proofs::OnRows::on_rows), using(cdx_machine::proofs::OnRows::by_rows))]
 impl PushRecord for SourceChildren {
-    ghost use Rattle.cdx_push_parts.specs.RecordKinds.{source_kinds};
+    ghost use Rattle.cdx_push_code.specs.RecordKinds.{source_kinds};
 
     type Record = Source;
 
@@ -187,7 +187,7 @@ impl Machine for IssueMachine {
 
 #[tactic(auto, unfolding(cdx_machine::proofs::OnRows::on_rows), using(cdx_machine::proofs::OnRows::by_rows))]
 impl PushRecord for IssueChildren {
-    ghost use Rattle.cdx_push_parts.specs.RecordKinds.{issue_kinds};
+    ghost use Rattle.cdx_push_code.specs.RecordKinds.{issue_kinds};
 
     type Record = Issue;
 
@@ -273,7 +273,7 @@ impl Machine for IssuesMachine {
 #[tactic(auto, unfolding(cdx_machine::proofs::OnRows::on_rows), using(cdx_machine::proofs::OnRows::by_rows))]
 impl ListOf for IssueList {
     ghost use Rattle.cdx_schema.specs.Kinds.{resolved};
-    ghost use Rattle.cdx_push_parts.specs.ItemKinds.{resolved_item};
+    ghost use Rattle.cdx_push_code.specs.ItemKinds.{resolved_item};
 
     type Item = IssueMachine;
 
@@ -333,7 +333,7 @@ impl Machine for PatchMachine {
 
 #[tactic(auto, unfolding(cdx_machine::proofs::OnRows::on_rows), using(cdx_machine::proofs::OnRows::by_rows))]
 impl PushRecord for PatchChildren {
-    ghost use Rattle.cdx_push_parts.specs.RecordKinds.{patch_kinds};
+    ghost use Rattle.cdx_push_code.specs.RecordKinds.{patch_kinds};
 
     type Record = Patch;
 
@@ -411,7 +411,7 @@ impl Machine for PatchesMachine {
 #[tactic(auto, unfolding(cdx_machine::proofs::OnRows::on_rows), using(cdx_machine::proofs::OnRows::by_rows))]
 impl ListOf for PatchList {
     ghost use Rattle.cdx_schema.specs.Kinds.{patches};
-    ghost use Rattle.cdx_push_parts.specs.ItemKinds.{patches_item};
+    ghost use Rattle.cdx_push_code.specs.ItemKinds.{patches_item};
 
     type Item = PatchMachine;
 

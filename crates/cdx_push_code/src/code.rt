@@ -56,7 +56,7 @@ impl Machine for IdentifiableActionMachine {
 
 #[tactic(auto, unfolding(cdx_machine::proofs::OnRows::on_rows), using(cdx_machine::proofs::OnRows::by_rows))]
 impl PushRecord for IdentifiableActionChildren {
-    ghost use Rattle.cdx_push_parts.specs.RecordKinds.{action_kinds};
+    ghost use Rattle.cdx_push_code.specs.RecordKinds.{action_kinds};
 
     type Record = IdentifiableAction;
 
@@ -128,7 +128,7 @@ impl Machine for CommitMachine {
 
 #[tactic(auto, unfolding(cdx_machine::proofs::OnRows::on_rows), using(cdx_machine::proofs::OnRows::by_rows))]
 impl PushRecord for CommitChildren {
-    ghost use Rattle.cdx_push_parts.specs.RecordKinds.{commit_kinds};
+    ghost use Rattle.cdx_push_code.specs.RecordKinds.{commit_kinds};
 
     type Record = Commit;
 
@@ -220,7 +220,7 @@ impl Machine for CommitsMachine {
 #[tactic(auto, unfolding(cdx_machine::proofs::OnRows::on_rows), using(cdx_machine::proofs::OnRows::by_rows))]
 impl ListOf for CommitList {
     ghost use Rattle.cdx_schema.specs.Kinds.{commits};
-    ghost use Rattle.cdx_push_parts.specs.ItemKinds.{commits_item};
+    ghost use Rattle.cdx_push_code.specs.ItemKinds.{commits_item};
 
     type Item = CommitMachine;
 
