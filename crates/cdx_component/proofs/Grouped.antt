@@ -1,5 +1,5 @@
 -- Components, read, kept and written group by group.
-use Rattle.std.proofs.Common.{◌≡◌, ◌∷◌, ◌++◌, length, Global, BTreeMap, String, refl, sym, ap, ◌∙◌}
+use Rattle.std.proofs.Common.{◌≡◌, ◌++◌, length, Global, BTreeMap, String, refl, sym, ap, ◌∙◌}
 use Rattle.serde_json.specs.Data.{no_members}
 use Rattle.serde_json.specs.View.{view, members_view}
 use Rattle.serde_json.specs.declared.value.Value.{Value, Object as object_of}
@@ -9,7 +9,6 @@ use Rattle.cdx_models.proofs.Lists.{count}
 use Rattle.cdx_schema.specs.Kinds.{a_record}
 use Rattle.cdx_schema.specs.Table.{rows}
 use Rattle.cdx_schema.specs.Depth.{Depth}
-use Rattle.cdx_schema.specs.Results.{◌>>=◌}
 use Rattle.cdx_schema.specs.Keeping.{kept, keep}
 use Rattle.cdx_schema.specs.JsonReading.{Object}
 use Rattle.cdx_schema.specs.JsonSpelling.{jspell}

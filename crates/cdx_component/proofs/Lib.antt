@@ -5,6 +5,5 @@ pub mod Fitting
 pub mod Grouped
 pub mod Deep
 pub mod Begun
-pub mod Children
-pub mod Nesting
+pub mod Readers
 pub mod Written

@@ -1,8 +1,7 @@
 -- Components, read in groups of six rows.
-use Rattle.std.specs.Prelude.{◌*◌, Result}
+use Rattle.std.specs.Prelude.{Result}
 use Rattle.cdx_models.specs.declared.bom.SpecVersion.{SpecVersion}
 use Rattle.cdx_models.specs.Trees.{component, Tree, ◌⧺◌}
-use Rattle.cdx_schema.specs.Table.{rows}
 use Rattle.cdx_schema.specs.Depth.{Depth}
 use Rattle.cdx_schema.specs.Results.{◌>>=◌}
 use Rattle.cdx_schema.specs.Faults.{JsonFault}

@@ -2,8 +2,10 @@
 #![tactic(auto)]
 
 pub mod component;
+mod frames;
 mod json;
 mod reading;
 mod writing;
 
 pub use component::{Component, Components, Pedigree, component_row_has_versions};
+pub use frames::{ComponentFrame, ComponentKind, ComponentValue};

@@ -1,10 +1,9 @@
 //! Components, pedigrees and lists of components from XML.
 
-mod begin;
+pub(crate) mod begin;
 mod elements;
-mod finish;
-mod parts;
-mod rows;
+pub(crate) mod finish;
+pub(crate) mod parts;
 
 use crate::component::{Component, Components, Pedigree};
 use crate::reading::elements::{

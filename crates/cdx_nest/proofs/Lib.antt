@@ -4,4 +4,6 @@ pub mod Grouped
 pub mod ToolValues
 pub mod ReadTools
 pub mod ReadMetadata
+pub mod NestFrames
+pub mod NestHearing
 pub mod WriteTools

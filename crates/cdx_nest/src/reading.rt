@@ -1,5 +1,65 @@
-//! Tools and metadata, read from XML.
+//! Tools and metadata, read from XML by the machine with a stack.
 
-mod metadata;
-pub(crate) mod parts;
-mod tools;
+use crate::frames::{NestFrame, NestKind, NestValue};
+use crate::metadata::Metadata;
+use crate::tools::Tools;
+use cdx_events::{EventReader, List, OwnedAttribute, OwnedName};
+use cdx_json::Depth;
+use cdx_leaf::FromXml;
+use cdx_models::{SpecVersion, XmlReadError};
+use cdx_nest_machine::read_element;
+use std::alloc::Global;
+
+/// The tools where there is one, and else, in 1.5, the object of the services and components that were read last; before
+/// 1.5 the empty list. Any other element and any text is unexpected at its place, and before 1.5 services and components
+/// are too. Where services or components stand beside a tool, `tool array or services & components` is missing at the
+/// element's end.
+impl FromXml for Tools {
+    ghost use Rattle.std.specs.Prelude.{refl};
+    ghost use Rattle.cdx_schema.specs.Depth.{top};
+
+    ghost depth = { λ d. top };
+
+    ghost at_top = { refl };
+
+    fn read_xml_element(
+        alloc: Global,
+        reader: &mut EventReader<'_>,
+        v: SpecVersion,
+        element: &OwnedName,
+        attributes: &List<OwnedAttribute>,
+    ) -> Result<Tools, XmlReadError> {
+        let sort = NestKind::Tools;
+        let depth = Depth::top();
+        match read_element::<NestFrame>(alloc, reader, v, sort, depth, element, attributes)? {
+            NestValue::Tools(tools) => Ok(tools),
+            _ => unreachable!(),
+        }
+    }
+}
+
+/// Each child that CycloneDX names, in any order; a repeated one is read each time, and the last counts. Other elements
+/// are skipped whole, and a text is unexpected at its place.
+impl FromXml for Metadata {
+    ghost use Rattle.std.specs.Prelude.{refl};
+    ghost use Rattle.cdx_schema.specs.Depth.{top};
+
+    ghost depth = { λ d. top };
+
+    ghost at_top = { refl };
+
+    fn read_xml_element(
+        alloc: Global,
+        reader: &mut EventReader<'_>,
+        v: SpecVersion,
+        element: &OwnedName,
+        attributes: &List<OwnedAttribute>,
+    ) -> Result<Metadata, XmlReadError> {
+        let sort = NestKind::Metadata;
+        let depth = Depth::top();
+        match read_element::<NestFrame>(alloc, reader, v, sort, depth, element, attributes)? {
+            NestValue::Metadata(metadata) => Ok(metadata),
+            _ => unreachable!(),
+        }
+    }
+}

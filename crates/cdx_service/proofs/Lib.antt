@@ -3,4 +3,6 @@ pub mod Copied
 pub mod Grouped
 pub mod Deep
 pub mod ReadGroups
+pub mod Found
+pub mod FrameGroups
 pub mod Written

@@ -4,3 +4,5 @@ pub mod PartTrees
 pub mod Groups
 pub mod Stays
 pub mod ReadingParts
+pub mod FrameKinds
+pub mod FrameLaws

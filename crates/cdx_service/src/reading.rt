@@ -1,16 +1,59 @@
-//! Services and lists of services from XML.
+//! Services and lists of services from XML, by the machine with a stack.
 
-mod nested;
-mod parts;
-mod rows;
+ghost use Rattle.cdx_models.specs.Trees.{service};
+ghost use Rattle.cdx_schema.specs.Kinds.{services, a_list, a_record};
+ghost use Rattle.cdx_json.specs.Depths.{depth_of};
+ghost use Rattle.cdx_leaf.specs.Reading.{IsIn, ReadsAs};
+ghost use Rattle.cdx_service.specs.Trees.{service_tree, services_tree};
 
+use crate::frames::{ServiceFrame, ServiceKind, ServiceValue};
 use crate::service::{Service, Services};
 use cdx_events::{EventReader, List, OwnedAttribute, OwnedName};
 use cdx_json::Depth;
 use cdx_leaf::FromXml;
 use cdx_models::{SpecVersion, XmlReadError};
-use nested::{read_service_element, read_services_element};
+use cdx_nest_machine::read_element;
 use std::alloc::Global;
+
+/// The service that the element is. Inside 32 services it is too deep, at the place of its start and whatever it holds.
+fn read_service_element(
+    alloc: Global,
+    reader: &mut EventReader<'_>,
+    v: SpecVersion,
+    element: &OwnedName,
+    attributes: &List<OwnedAttribute>,
+    depth: Depth,
+) -> Result<Service, XmlReadError>
+    requires { IsIn reader.old element.now }
+    ensures { ReadsAs service_tree reader.old reader.new element.now attributes.now v
+        (a_record service) (λ _. depth_of depth) result }
+{
+    let sort = ServiceKind::Service;
+    match read_element::<ServiceFrame>(alloc, reader, v, sort, depth, element, attributes)? {
+        ServiceValue::Service(service) => Ok(service),
+        ServiceValue::Services(_) => unreachable!(),
+    }
+}
+
+/// The services that the element's children of that name are; other children are skipped, and texts are unexpected.
+fn read_services_element(
+    alloc: Global,
+    reader: &mut EventReader<'_>,
+    v: SpecVersion,
+    element: &OwnedName,
+    attributes: &List<OwnedAttribute>,
+    depth: Depth,
+) -> Result<Services, XmlReadError>
+    requires { IsIn reader.old element.now }
+    ensures { ReadsAs services_tree reader.old reader.new element.now attributes.now v
+        (a_list services) (λ _. depth_of depth) result }
+{
+    let sort = ServiceKind::Services;
+    match read_element::<ServiceFrame>(alloc, reader, v, sort, depth, element, attributes)? {
+        ServiceValue::Services(services) => Ok(services),
+        ServiceValue::Service(_) => unreachable!(),
+    }
+}
 
 /// The rows in the schema's order; elements that no row has are skipped, and texts are unexpected. The services that stand
 /// in it are counted from itself on.

@@ -1,18 +1,19 @@
 //! What an element's attributes begin.
 
-ghost use Rattle.std.specs.Prelude.{◌≡◌, ◌+◌};
-ghost use Rattle.cdx_models.specs.Trees.{component, text, present};
+ghost use Rattle.std.specs.Prelude.{◌≡◌, ◌+◌, ℕ, List, Ok};
+ghost use Rattle.cdx_events.specs.declared.name.OwnedAttribute.{OwnedAttribute};
+ghost use Rattle.cdx_models.specs.Trees.{component, pedigree, text, present};
 ghost use Rattle.cdx_models.specs.declared.bom.SpecVersion.{SpecVersion};
-ghost use Rattle.cdx_schema.specs.Table.{rows};
 ghost use Rattle.cdx_schema.specs.XmlReading.{attributes_read};
 ghost use Rattle.cdx_json.specs.Groups.{group};
 ghost use Rattle.cdx_leaf.specs.Attribute.{Gives};
+ghost use Rattle.cdx_machine.specs.Plain.{attributes_first};
 ghost use Rattle.cdx_component_parts.specs.Records.{mime_type_tree};
 ghost use Rattle.cdx_component.specs.PartTrees.{origin_trees};
-ghost use Rattle.cdx_component.specs.ReadingParts.{component_part};
+ghost use Rattle.cdx_component.specs.ReadingParts.{component_part, pedigree_part};
 
 use crate::component::parts::{Contents, Marks, Origin};
-use crate::reading::parts::{ComponentPart, NamingPart};
+use crate::reading::parts::{ComponentPart, NamingPart, PedigreePart};
 use cdx_component_parts::MimeType;
 use cdx_events::{List, OwnedAttribute, OwnedName, Text};
 use cdx_leaf::{attribute_or_error, attribute_or_none};
@@ -61,8 +62,7 @@ pub(crate) fn begin_component(
     attributes: &List<OwnedAttribute>,
 ) -> Result<ComponentPart, XmlReadError>
     ensures { (v : SpecVersion) → Gives component_part (place + 1)
-        (attributes_read (rows component) attributes.now v element.now.local_name place)
-        result }
+        (attributes_first component element.now.local_name attributes.now v place) result }
 {
     let origin = begin_origin(alloc, place, element, attributes)?;
     Ok(ComponentPart {
@@ -92,4 +92,19 @@ pub(crate) fn begin_component(
             signature: None,
         },
     })
+}
+
+/// The pedigree that no attribute tells of.
+pub(crate) fn begin_pedigree() -> PedigreePart
+    ensures { (name : List ℕ) (attributes : List OwnedAttribute) (v : SpecVersion) (place : ℕ)
+        → attributes_first pedigree name attributes v place ≡ Ok (pedigree_part result) }
+{
+    PedigreePart {
+        ancestors: None,
+        descendants: None,
+        variants: None,
+        commits: None,
+        patches: None,
+        notes: None,
+    }
 }

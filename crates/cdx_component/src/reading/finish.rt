@@ -1,13 +1,13 @@
 //! What was read, at an element's end.
 
-ghost use Rattle.std.specs.Prelude.{◌≡◌, ◌+◌};
-ghost use Rattle.cdx_models.specs.Trees.{component, pedigree, fields};
+ghost use Rattle.std.specs.Prelude.{◌≡◌, ◌+◌, ℕ, List, Ok};
+ghost use Rattle.cdx_models.specs.declared.bom.SpecVersion.{SpecVersion};
+ghost use Rattle.cdx_models.specs.Trees.{component, pedigree};
 ghost use Rattle.cdx_schema.specs.Faults.{lacking};
-ghost use Rattle.cdx_schema.specs.Table.{rows};
 ghost use Rattle.cdx_schema.specs.XmlReading.{ended};
 ghost use Rattle.cdx_json.specs.Groups.{group};
 ghost use Rattle.cdx_leaf.specs.Attribute.{Gives};
-ghost use Rattle.cdx_models.specs.Trees.{fields_of};
+ghost use Rattle.cdx_machine.specs.Records.{record_end};
 ghost use Rattle.cdx_component.specs.Trees.{component_tree, pedigree_tree};
 ghost use Rattle.cdx_component.specs.PartTrees.{naming_trees};
 ghost use Rattle.cdx_component.specs.ReadingParts.{naming_part, component_part, pedigree_part, in_first};
@@ -72,8 +72,8 @@ pub(crate) fn finish_component(
     element: &OwnedName,
     part: ComponentPart,
 ) -> Result<Component, XmlReadError>
-    ensures { Gives (λ x. fields_of (component_tree x)) (place + 1)
-        (ended (rows component) (component_part part) v element.now.local_name place) result }
+    ensures { Gives component_tree (place + 1)
+        (record_end component element.now.local_name v place (component_part part)) result }
 {
     let ComponentPart {
         origin,
@@ -94,7 +94,8 @@ pub(crate) fn finish_component(
 
 /// The pedigree that was read.
 pub(crate) fn finish_pedigree(part: PedigreePart) -> Pedigree
-    ensures { pedigree_tree result ≡ fields pedigree (pedigree_part part) }
+    ensures { (name : List ℕ) (v : SpecVersion) (place : ℕ)
+        → record_end pedigree name v place (pedigree_part part) ≡ Ok (pedigree_tree result) }
 {
     Pedigree {
         ancestors: part.ancestors,

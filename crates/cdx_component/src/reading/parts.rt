@@ -18,16 +18,18 @@ pub(crate) struct NamingPart {
     pub(crate) hashes: Option<Hashes>,
 }
 
+/// A component of which children may be missing yet.
 #[derive(Drop)]
-pub(crate) struct ComponentPart {
+pub struct ComponentPart {
     pub(crate) origin: Origin,
     pub(crate) naming: NamingPart,
     pub(crate) marks: Marks,
     pub(crate) contents: Contents,
 }
 
+/// A pedigree with the children so far.
 #[derive(Drop)]
-pub(crate) struct PedigreePart {
+pub struct PedigreePart {
     pub(crate) ancestors: Option<Components>,
     pub(crate) descendants: Option<Components>,
     pub(crate) variants: Option<Components>,

@@ -1,0 +1,115 @@
+//! Which child a name stands for, by its position in the plan.
+
+ghost use Rattle.std.specs.Prelude.{◌≡◌, drop};
+ghost use Rattle.cdx_models.specs.declared.bom.SpecVersion.{SpecVersion};
+ghost use Rattle.cdx_models.specs.Trees.{component, pedigree, Trees};
+ghost use Rattle.cdx_schema.specs.Kinds.{components};
+ghost use Rattle.cdx_schema.specs.Table.{rows};
+ghost use Rattle.cdx_schema.specs.XmlReading.{children_from, record_plan, list_plan};
+ghost use Rattle.cdx_machine.specs.Several.{found_from};
+
+use cdx_events::OwnedName;
+use cdx_machine::Found;
+use cdx_models::SpecVersion;
+
+/// The child of a component that has the name, where `v` knows it. The last of several counts, so none is a second one.
+#[tactic(auto, unfolding(cdx_machine::proofs::OnRows::on_rows), using(cdx_machine::proofs::OnRows::by_rows))]
+pub(crate) fn find_in_component(v: SpecVersion, name: &OwnedName) -> Found
+    ensures { (ts : Trees)
+        → result ≡ found_from 0 (record_plan component).children ts v name.now.local_name }
+{
+    match name.local_name.as_str() {
+        "supplier" => Found::At(0),
+        "author" => Found::At(1),
+        "publisher" => Found::At(2),
+        _ => find_naming(v, name),
+    }
+}
+
+// The same among the children of the rows from the group on.
+#[tactic(auto, unfolding(cdx_machine::proofs::OnRows::on_rows), using(cdx_machine::proofs::OnRows::by_rows))]
+fn find_naming(v: SpecVersion, name: &OwnedName) -> Found
+    ensures { (ts : Trees) → result
+        ≡ found_from 3 (children_from 6 (drop 6 (rows component))) ts v
+        name.now.local_name }
+{
+    match name.local_name.as_str() {
+        "group" => Found::At(3),
+        "name" => Found::At(4),
+        "version" => Found::At(5),
+        "description" => Found::At(6),
+        "scope" => Found::At(7),
+        "hashes" => Found::At(8),
+        _ => find_marks(v, name),
+    }
+}
+
+// The same among the children of the rows from the licenses on.
+#[tactic(auto, unfolding(cdx_machine::proofs::OnRows::on_rows), using(cdx_machine::proofs::OnRows::by_rows))]
+fn find_marks(v: SpecVersion, name: &OwnedName) -> Found
+    ensures { (ts : Trees) → result
+        ≡ found_from 9 (children_from 12 (drop 12 (rows component))) ts v
+        name.now.local_name }
+{
+    match name.local_name.as_str() {
+        "licenses" => Found::At(9),
+        "copyright" => Found::At(10),
+        "cpe" => Found::At(11),
+        "purl" => Found::At(12),
+        "swid" => Found::At(13),
+        "modified" => Found::At(14),
+        _ => find_contents(v, name),
+    }
+}
+
+// The same among the children of the rows from the pedigree on.
+#[tactic(auto, unfolding(cdx_machine::proofs::OnRows::on_rows), using(cdx_machine::proofs::OnRows::by_rows))]
+fn find_contents(v: SpecVersion, name: &OwnedName) -> Found
+    ensures { (ts : Trees) → result
+        ≡ found_from 15 (children_from 18 (drop 18 (rows component))) ts v
+        name.now.local_name }
+{
+    match name.local_name.as_str() {
+        "pedigree" => Found::At(15),
+        "externalReferences" => Found::At(16),
+        "properties" => Found::At(17),
+        "components" => Found::At(18),
+        "evidence" => Found::At(19),
+        "signature" => {
+            if !SpecVersion::V1_4.is_known_to(v) {
+                return Found::Unknown;
+            }
+            Found::At(20)
+        }
+        _ => Found::Unknown,
+    }
+}
+
+/// The child of a pedigree that has the name.
+#[tactic(auto, unfolding(cdx_machine::proofs::OnRows::on_rows), using(cdx_machine::proofs::OnRows::by_rows))]
+pub(crate) fn find_in_pedigree(name: &OwnedName) -> Found
+    ensures { (v : SpecVersion) (ts : Trees)
+        → result ≡ found_from 0 (record_plan pedigree).children ts v name.now.local_name }
+{
+    match name.local_name.as_str() {
+        "ancestors" => Found::At(0),
+        "descendants" => Found::At(1),
+        "variants" => Found::At(2),
+        "commits" => Found::At(3),
+        "patches" => Found::At(4),
+        "notes" => Found::At(5),
+        _ => Found::Unknown,
+    }
+}
+
+/// The child of a list of components that has the name: a component alone.
+#[tactic(auto, unfolding(cdx_machine::proofs::OnRows::on_rows), using(cdx_machine::proofs::OnRows::by_rows))]
+pub(crate) fn find_in_list(name: &OwnedName) -> Found
+    ensures { (v : SpecVersion) (ts : Trees)
+        → result ≡ found_from 0 (list_plan components).children ts v name.now.local_name }
+{
+    if name.local_name.is("component") {
+        return Found::At(0);
+    }
+    Found::Unknown
+}

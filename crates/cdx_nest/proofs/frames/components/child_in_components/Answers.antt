@@ -1,0 +1,16 @@
+use Rattle.std.proofs.Common.{Some, sym, ap, ◌∙◌}
+use Rattle.cdx_nest_machine.specs.declared.nested.Reads.TheVariants.{Leaf, Nested}
+use Rattle.cdx_component.specs.Frames.{frame_kind}
+use Rattle.cdx_nest.proofs.NestFrames.{component_has, component_child}
+use Rattle.cdx_nest.proofs.frames.components.child_in_components.Goals as goal
+
+pub child-requires : goal.child-requires
+child-requires c = component_has (frame_kind c.args.frame.now) c.args.position c.requires
+
+pub returns-in-Leaf : goal.returns-in-Leaf
+returns-in-Leaf c = component_child (frame_kind c.args.frame.now) c.args.position (Leaf c.in-Leaf.kind) (c.child.ensures ∙ ap (λ r. Some r) c.in-Leaf.is)
+
+pub returns-in-Nested : goal.returns-in-Nested
+returns-in-Nested c =
+    component_child (frame_kind c.args.frame.now) c.args.position (Nested c.in-Nested.kind) (c.child.ensures ∙ ap (λ r. Some r) c.in-Nested.is)
+    ∙ ap (λ k. Some (Nested k)) (sym c.kind_among.ensures)

@@ -1,0 +1,111 @@
+//! Components, lists of components and pedigrees, by their own frames.
+
+ghost use Rattle.std.specs.Prelude.{◌≡◌, ◌+◌, Some, IfOk, OnOk};
+ghost use Rattle.cdx_leaf.specs.Attribute.{Gives};
+ghost use Rattle.cdx_machine.specs.Several.{Puts};
+ghost use Rattle.cdx_nest_machine.specs.declared.nested.Reads.TheVariants.{Nested};
+ghost use Rattle.cdx_nest_machine.specs.Children.{HasReader};
+ghost use Rattle.cdx_nest_machine.specs.Forms.{plan_of, first_of, last_of};
+ghost use Rattle.cdx_component.specs.declared.frames.ComponentKind.{ComponentKind as Kinds};
+ghost use Rattle.cdx_component.specs.Frames.{kind_of, frame_kind as component_frame_kind, frame_fields as component_fields, value_kind as component_value_kind, value_tree as component_value_tree};
+ghost use Rattle.cdx_nest.specs.Frames.{of_component, nest_kind, frame_kind, frame_fields, value_kind, value_tree, reader_of};
+
+use crate::frames::{NestFrame, NestKind, NestValue};
+use cdx_component::{ComponentFrame, ComponentKind, ComponentValue};
+use cdx_events::{List, OwnedAttribute, OwnedName};
+use cdx_models::{SpecVersion, XmlReadError};
+use cdx_nest_machine::{Nested, Reads};
+use cdx_push::LeafKind;
+use std::alloc::{AllocError, Global};
+
+/// What the attributes begin, or their first fault, at `place`, that of the element's start.
+pub(crate) fn begin_in_components(
+    alloc: Global,
+    kind: ComponentKind,
+    place: usize,
+    v: SpecVersion,
+    element: &OwnedName,
+    attributes: &List<OwnedAttribute>,
+) -> Result<NestFrame, XmlReadError>
+    ensures sort { IfOk result (λ x. frame_kind x ≡ of_component kind) }
+    ensures gives { Gives frame_fields (place + 1)
+        (first_of (kind_of kind) element.now.local_name attributes.now v place) result }
+{
+    let frame = ComponentFrame::begin(alloc, kind, place, v, element, attributes)?;
+    Ok(NestFrame::Component(frame))
+}
+
+fn kind_among(kind: ComponentKind) -> NestKind
+    ensures { result ≡ of_component kind }
+{
+    match kind {
+        ComponentKind::Component => NestKind::Component,
+        ComponentKind::Components => NestKind::Components,
+        ComponentKind::Pedigree => NestKind::Pedigree,
+    }
+}
+
+/// What reads the child of the position.
+pub(crate) fn child_in_components(
+    frame: &ComponentFrame,
+    position: usize,
+) -> Reads<LeafKind, NestKind>
+    requires { HasReader (reader_of (of_component (component_frame_kind frame.now))) position }
+    ensures { reader_of (of_component (component_frame_kind frame.now)) position ≡ Some result }
+{
+    match frame.child(position) {
+        Reads::Leaf(kind) => Reads::Leaf(kind),
+        Reads::Nested(kind) => Reads::Nested(kind_among(kind)),
+    }
+}
+
+// The value, where it is read by the frames of components.
+fn value_within(value: NestValue) -> ComponentValue
+    requires { (k : Kinds) × (value_kind value ≡ of_component k) }
+    ensures sort { of_component (component_value_kind result) ≡ value_kind value }
+    ensures tree { component_value_tree result ≡ value_tree value }
+{
+    match value {
+        NestValue::Component(component) => ComponentValue::Component(component),
+        NestValue::Components(components) => ComponentValue::Components(components),
+        NestValue::Pedigree(pedigree) => ComponentValue::Pedigree(pedigree),
+        _ => unreachable!(),
+    }
+}
+
+/// Puts what the child of the position was read as into its field.
+pub(crate) fn put_in_components(
+    frame: &mut ComponentFrame,
+    position: usize,
+    alloc: Global,
+    value: NestValue,
+) -> Result<(), AllocError>
+    requires { reader_of (of_component (component_frame_kind frame.old)) position
+        ≡ Some (Nested (value_kind value)) }
+    ensures sort { component_frame_kind frame.new ≡ component_frame_kind frame.old }
+    ensures puts { OnOk result (Puts
+        (plan_of (nest_kind (of_component (component_frame_kind frame.old)))).children position
+        (value_tree value) (component_fields frame.old) (component_fields frame.new)) }
+{
+    frame.put(position, alloc, value_within(value))
+}
+
+/// The value, or the fault of the first required child that is missing, at `place`, that of the element's end.
+pub(crate) fn finish_in_components(
+    frame: ComponentFrame,
+    alloc: Global,
+    place: usize,
+    v: SpecVersion,
+    element: &OwnedName,
+) -> Result<NestValue, XmlReadError>
+    ensures sort { IfOk result (λ x. value_kind x ≡ of_component (component_frame_kind frame)) }
+    ensures gives { Gives value_tree (place + 1)
+        (last_of (nest_kind (of_component (component_frame_kind frame))) element.now.local_name
+        v place (component_fields frame)) result }
+{
+    match frame.finish(alloc, place, v, element)? {
+        ComponentValue::Component(component) => Ok(NestValue::Component(component)),
+        ComponentValue::Components(components) => Ok(NestValue::Components(components)),
+        ComponentValue::Pedigree(pedigree) => Ok(NestValue::Pedigree(pedigree)),
+    }
+}

@@ -1,0 +1,105 @@
+//! Services and lists of services, by their own frames.
+
+ghost use Rattle.std.specs.Prelude.{◌≡◌, ◌+◌, Some, IfOk, OnOk};
+ghost use Rattle.cdx_leaf.specs.Attribute.{Gives};
+ghost use Rattle.cdx_machine.specs.Several.{Puts};
+ghost use Rattle.cdx_nest_machine.specs.declared.nested.Reads.TheVariants.{Nested};
+ghost use Rattle.cdx_nest_machine.specs.Children.{HasReader};
+ghost use Rattle.cdx_nest_machine.specs.Forms.{plan_of, first_of, last_of};
+ghost use Rattle.cdx_service.specs.declared.frames.ServiceKind.{ServiceKind as Kinds};
+ghost use Rattle.cdx_service.specs.FrameKinds.{service_kind, frame_sort as service_frame_kind, frame_fields as service_fields, service_value_sort, service_value_tree};
+ghost use Rattle.cdx_nest.specs.Frames.{of_service, nest_kind, frame_kind, frame_fields, value_kind, value_tree, reader_of};
+
+use crate::frames::{NestFrame, NestKind, NestValue};
+use cdx_events::{List, OwnedAttribute, OwnedName};
+use cdx_models::{SpecVersion, XmlReadError};
+use cdx_nest_machine::{Nested, Reads};
+use cdx_push::LeafKind;
+use cdx_service::{ServiceFrame, ServiceKind, ServiceValue};
+use std::alloc::{AllocError, Global};
+
+/// What the attributes begin, or their first fault, at `place`, that of the element's start.
+pub(crate) fn begin_in_services(
+    alloc: Global,
+    kind: ServiceKind,
+    place: usize,
+    v: SpecVersion,
+    element: &OwnedName,
+    attributes: &List<OwnedAttribute>,
+) -> Result<NestFrame, XmlReadError>
+    ensures sort { IfOk result (λ x. frame_kind x ≡ of_service kind) }
+    ensures gives { Gives frame_fields (place + 1)
+        (first_of (service_kind kind) element.now.local_name attributes.now v place) result }
+{
+    let frame = ServiceFrame::begin(alloc, kind, place, v, element, attributes)?;
+    Ok(NestFrame::Service(frame))
+}
+
+fn kind_among(kind: ServiceKind) -> NestKind
+    ensures { result ≡ of_service kind }
+{
+    match kind {
+        ServiceKind::Service => NestKind::Service,
+        ServiceKind::Services => NestKind::Services,
+    }
+}
+
+/// What reads the child of the position.
+pub(crate) fn child_in_services(frame: &ServiceFrame, position: usize) -> Reads<LeafKind, NestKind>
+    requires { HasReader (reader_of (of_service (service_frame_kind frame.now))) position }
+    ensures { reader_of (of_service (service_frame_kind frame.now)) position ≡ Some result }
+{
+    match frame.child(position) {
+        Reads::Leaf(kind) => Reads::Leaf(kind),
+        Reads::Nested(kind) => Reads::Nested(kind_among(kind)),
+    }
+}
+
+// The value, where it is read by the frames of services.
+fn value_within(value: NestValue) -> ServiceValue
+    requires { (k : Kinds) × (value_kind value ≡ of_service k) }
+    ensures sort { of_service (service_value_sort result) ≡ value_kind value }
+    ensures tree { service_value_tree result ≡ value_tree value }
+{
+    match value {
+        NestValue::Service(service) => ServiceValue::Service(service),
+        NestValue::Services(services) => ServiceValue::Services(services),
+        _ => unreachable!(),
+    }
+}
+
+/// Puts what the child of the position was read as into its field.
+pub(crate) fn put_in_services(
+    frame: &mut ServiceFrame,
+    position: usize,
+    alloc: Global,
+    value: NestValue,
+) -> Result<(), AllocError>
+    requires { reader_of (of_service (service_frame_kind frame.old)) position
+        ≡ Some (Nested (value_kind value)) }
+    ensures sort { service_frame_kind frame.new ≡ service_frame_kind frame.old }
+    ensures puts { OnOk result (Puts
+        (plan_of (nest_kind (of_service (service_frame_kind frame.old)))).children position
+        (value_tree value) (service_fields frame.old) (service_fields frame.new)) }
+{
+    frame.put(position, alloc, value_within(value))
+}
+
+/// The value, or the fault of the first required child that is missing, at `place`, that of the element's end.
+pub(crate) fn finish_in_services(
+    frame: ServiceFrame,
+    alloc: Global,
+    place: usize,
+    v: SpecVersion,
+    element: &OwnedName,
+) -> Result<NestValue, XmlReadError>
+    ensures sort { IfOk result (λ x. value_kind x ≡ of_service (service_frame_kind frame)) }
+    ensures gives { Gives value_tree (place + 1)
+        (last_of (nest_kind (of_service (service_frame_kind frame))) element.now.local_name v place
+        (service_fields frame)) result }
+{
+    match frame.finish(alloc, place, v, element)? {
+        ServiceValue::Service(service) => Ok(NestValue::Service(service)),
+        ServiceValue::Services(services) => Ok(NestValue::Services(services)),
+    }
+}

@@ -1,0 +1,162 @@
+//! Tools while their children are read.
+
+ghost use Rattle.std.specs.Prelude.{◌≡◌, ◌+◌, ◌||◌, not, Some, OnOk};
+ghost use Rattle.cdx_models.specs.Trees.{Trees, absent, more, two, present, is_absent};
+ghost use Rattle.cdx_schema.specs.XmlReading.{tools_object_of, tools_plan};
+ghost use Rattle.cdx_leaf.specs.Attribute.{Gives};
+ghost use Rattle.cdx_machine.specs.Several.{at_position, found_from, Puts};
+ghost use Rattle.cdx_nest_machine.specs.declared.nested.Reads.TheVariants.{Leaf, Nested};
+ghost use Rattle.cdx_nest_machine.specs.Children.{HasReader};
+ghost use Rattle.cdx_nest_machine.specs.Forms.{tools_last};
+ghost use Rattle.cdx_push.specs.Leaf.{value_kind as leaf_value_kind, value_tree as leaf_value_tree};
+ghost use Rattle.cdx_component.specs.Trees.{components_tree};
+ghost use Rattle.cdx_service.specs.Trees.{services_tree};
+ghost use Rattle.cdx_nest.specs.Trees.{tools_tree};
+ghost use Rattle.cdx_nest.specs.Frames.{value_kind, value_tree, tools_reads};
+ghost use Rattle.cdx_nest.specs.Reading.{tools_part, object_slots};
+
+use crate::frames::{NestKind, NestValue};
+use crate::tools::Tools;
+use cdx_component::Components;
+use cdx_events::{List, OwnedName};
+use cdx_machine::Found;
+use cdx_models::{SpecVersion, Tool, XmlReadError};
+use cdx_nest_machine::Reads;
+use cdx_push::{LeafKind, LeafValue};
+use cdx_service::Services;
+use cdx_write::is_there;
+use std::alloc::{AllocError, Global};
+
+/// The tools that were met so far, and the services and the components that were read last.
+#[derive(Drop)]
+pub struct ToolsPart {
+    pub(crate) tools: List<Tool>,
+    pub(crate) services: Option<Services>,
+    pub(crate) components: Option<Components>,
+}
+
+/// Tools before their children.
+pub(crate) fn begin_tools(alloc: Global) -> ToolsPart
+    ensures { tools_part result ≡ more absent (two absent absent) }
+{
+    ToolsPart {
+        tools: List::new(alloc),
+        services: None,
+        components: None,
+    }
+}
+
+/// The child of tools that `v` knows by the name: services and components are known from 1.5 on.
+#[tactic(auto, unfolding(cdx_machine::proofs::OnRows::on_rows), using(cdx_machine::proofs::OnRows::by_rows))]
+pub(crate) fn find_in_tools(v: SpecVersion, name: &OwnedName) -> Found
+    ensures { (ts : Trees) → result ≡ found_from 0 tools_plan.children ts v name.now.local_name }
+{
+    match name.local_name.as_str() {
+        "tool" => Found::At(0),
+        "services" => {
+            if !SpecVersion::V1_5.is_known_to(v) {
+                return Found::Unknown;
+            }
+            Found::At(1)
+        }
+        "components" => {
+            if !SpecVersion::V1_5.is_known_to(v) {
+                return Found::Unknown;
+            }
+            Found::At(2)
+        }
+        _ => Found::Unknown,
+    }
+}
+
+/// What reads the child of the position in tools.
+pub(crate) fn child_in_tools(position: usize) -> Reads<LeafKind, NestKind>
+    requires { HasReader (at_position tools_reads) position }
+    ensures { at_position tools_reads position ≡ Some result }
+{
+    match position {
+        0 => Reads::Leaf(LeafKind::Tool),
+        1 => Reads::Nested(NestKind::Services),
+        2 => Reads::Nested(NestKind::Components),
+        _ => unreachable!(),
+    }
+}
+
+/// Puts the tool that the child of the position was read as to the end of the list. Only want of memory refuses.
+pub(crate) fn put_tool(
+    part: &mut ToolsPart,
+    position: usize,
+    value: LeafValue,
+) -> Result<(), AllocError>
+    requires { at_position tools_reads position ≡ Some (Leaf (leaf_value_kind value)) }
+    ensures { OnOk result (Puts tools_plan.children position (leaf_value_tree value)
+        (tools_part part.old) (tools_part part.new)) }
+{
+    match (position, value) {
+        (0, LeafValue::Tool(tool)) => part.tools.push(tool),
+        _ => unreachable!(),
+    }
+}
+
+/// Puts the services or the components into their field.
+pub(crate) fn put_tools_part(part: &mut ToolsPart, position: usize, value: NestValue)
+    requires { at_position tools_reads position ≡ Some (Nested (value_kind value)) }
+    ensures { Puts tools_plan.children position (value_tree value) (tools_part part.old)
+        (tools_part part.new) }
+{
+    match (position, value) {
+        (1, NestValue::Services(services)) => part.services = Some(services),
+        (2, NestValue::Components(components)) => part.components = Some(components),
+        _ => unreachable!(),
+    }
+}
+
+// The services and components, and before 1.5 the empty list.
+fn object_in(
+    alloc: Global,
+    v: SpecVersion,
+    services: Option<Services>,
+    components: Option<Components>,
+) -> Tools
+    ensures { tools_tree result ≡ tools_object_of v (object_slots services components) }
+{
+    match v {
+        SpecVersion::V1_3 => Tools::List(List::new(alloc)),
+        SpecVersion::V1_4 => Tools::List(List::new(alloc)),
+        SpecVersion::V1_5 => Tools::Object {
+            services,
+            components,
+        },
+    }
+}
+
+// Whether services or components stand there.
+fn has_object(part: &ToolsPart) -> bool
+    ensures { result ≡ (not (is_absent (present services_tree part.now.services))
+        || not (is_absent (present components_tree part.now.components))) }
+{
+    is_there(&part.services) || is_there(&part.components)
+}
+
+/// The tools where there is one, else the services and components, and before 1.5 the empty list. `RequiredDataMissing` of
+/// `tool array or services & components` at `place`, that of the element's end, exactly where services or components stand
+/// beside a tool.
+pub(crate) fn finish_tools(
+    alloc: Global,
+    place: usize,
+    v: SpecVersion,
+    element: &OwnedName,
+    part: ToolsPart,
+) -> Result<Tools, XmlReadError>
+    ensures { Gives tools_tree (place + 1)
+        (tools_last element.now.local_name v place (tools_part part)) result }
+{
+    if part.tools.len() == 0 {
+        return Ok(object_in(alloc, v, part.services, part.components));
+    }
+    if has_object(&part) {
+        let missing = "tool array or services & components";
+        return Err(XmlReadError::required_data_missing(alloc, place, missing, element)?);
+    }
+    Ok(Tools::List(part.tools))
+}

@@ -1,0 +1,178 @@
+//! Services and lists of services as frames of the machine with a stack.
+
+mod children;
+mod names;
+mod part;
+mod values;
+
+use crate::service::{Service, Services};
+use cdx_events::{List, OwnedAttribute, OwnedName};
+use cdx_json::Depth;
+use cdx_leaf::Rule;
+use cdx_machine::Found;
+use cdx_models::{SpecVersion, XmlReadError};
+use cdx_nest_machine::{Nested, Reads};
+use cdx_push::{Leaf, LeafKind, LeafValue};
+use children::service_child;
+use names::find_service_child;
+use part::{ServicePart, begin_service, finish_service};
+use std::alloc::{AllocError, Global};
+use values::{push_service, put_service_child, put_services};
+
+/// What an element of services is read as.
+#[derive(Clone, Copy, Debug)]
+pub enum ServiceKind {
+    /// A service.
+    Service,
+    /// A list of services.
+    Services,
+}
+
+/// What an element was read as, in the variant that has the name of its kind.
+#[derive(Drop)]
+pub enum ServiceValue {
+    /// A service.
+    Service(Service),
+    /// A list of services.
+    Services(Services),
+}
+
+/// What was read so far of an element that is a service or a list of services.
+#[derive(Drop)]
+pub enum ServiceFrame {
+    /// The rows of a service. Its own services stand one level deeper.
+    Service(ServicePart),
+    /// The services of a list.
+    Services(Services),
+}
+
+/// The rows in the schema's order; elements that no row has are skipped, and texts are unexpected. A service inside 32
+/// services is too deep, at the place of its start and whatever it holds, and a list of services is as deep as the services
+/// around it.
+#[tactic(auto, unfolding(cdx_machine::proofs::OnRows::on_rows), using(cdx_machine::proofs::OnRows::by_rows))]
+impl Nested for ServiceFrame {
+    ghost use Rattle.cdx_service.specs.FrameKinds.{service_kind, frame_sort, frame_fields, service_value_sort, service_value_tree, child_reader};
+    ghost use Rattle.cdx_service.specs.FrameLaws.{readers_fit, services_nested, services_no_bill};
+
+    type Sort = ServiceKind;
+
+    type Value = ServiceValue;
+
+    type Leaf = Leaf;
+
+    ghost as_kind = { service_kind };
+
+    ghost sort_of = { frame_sort };
+
+    ghost fields = { frame_fields };
+
+    ghost value_sort = { service_value_sort };
+
+    ghost tree = { service_value_tree };
+
+    ghost child_of = { child_reader };
+
+    ghost children = { readers_fit };
+
+    ghost nested = { services_nested };
+
+    ghost no_bill = { services_no_bill };
+
+    fn rule(&self) -> Rule {
+        match self {
+            ServiceFrame::Service(_) => Rule::Lax,
+            ServiceFrame::Services(_) => Rule::Lax,
+        }
+    }
+
+    fn deeper(sort: &ServiceKind, depth: Depth) -> Option<Depth> {
+        match sort {
+            ServiceKind::Service => {
+                if depth.services >= 32 {
+                    return None;
+                }
+                Some(Depth {
+                    components: depth.components,
+                    services: depth.services + 1,
+                })
+            }
+            ServiceKind::Services => Some(depth),
+        }
+    }
+
+    fn begin(
+        alloc: Global,
+        sort: ServiceKind,
+        _place: usize,
+        _v: SpecVersion,
+        _element: &OwnedName,
+        attributes: &List<OwnedAttribute>,
+    ) -> Result<ServiceFrame, XmlReadError> {
+        match sort {
+            ServiceKind::Service => Ok(ServiceFrame::Service(begin_service(alloc, attributes)?)),
+            ServiceKind::Services => Ok(ServiceFrame::Services(Services::new(alloc))),
+        }
+    }
+
+    fn find(&self, v: SpecVersion, name: &OwnedName) -> Found {
+        match self {
+            ServiceFrame::Service(_) => find_service_child(v, name),
+            ServiceFrame::Services(_) => {
+                if !name.local_name.is("service") {
+                    return Found::Unknown;
+                }
+                Found::At(0)
+            }
+        }
+    }
+
+    fn child(&self, position: usize) -> Reads<LeafKind, ServiceKind> {
+        match self {
+            ServiceFrame::Service(_) => service_child(position),
+            ServiceFrame::Services(_) => Reads::Nested(ServiceKind::Service),
+        }
+    }
+
+    fn put(
+        &mut self,
+        position: usize,
+        _alloc: Global,
+        value: ServiceValue,
+    ) -> Result<(), AllocError> {
+        match self {
+            ServiceFrame::Service(part) => {
+                put_services(part, position, value);
+                Ok(())
+            }
+            ServiceFrame::Services(list) => push_service(list, position, value),
+        }
+    }
+
+    fn put_leaf(
+        &mut self,
+        position: usize,
+        _alloc: Global,
+        value: LeafValue,
+    ) -> Result<(), AllocError> {
+        let ServiceFrame::Service(part) = self else {
+            unreachable!()
+        };
+        put_service_child(part, position, value);
+        Ok(())
+    }
+
+    fn finish(
+        self,
+        alloc: Global,
+        place: usize,
+        _v: SpecVersion,
+        element: &OwnedName,
+    ) -> Result<ServiceValue, XmlReadError> {
+        match self {
+            ServiceFrame::Service(part) => Ok(ServiceValue::Service(finish_service(
+                alloc, place, element, part,
+            )?)),
+            ServiceFrame::Services(list) => Ok(ServiceValue::Services(list)),
+        }
+    }
+}
