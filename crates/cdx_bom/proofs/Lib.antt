@@ -14,7 +14,8 @@ pub mod Fronts
 pub mod Settled
 pub mod Outputs
 pub mod BillStart
-pub mod BillRows
+pub mod Readers
+pub mod RootSteps
 pub mod BillWhole
 pub mod BillWritten
 pub mod EmptyTexts

@@ -10,6 +10,8 @@ pub mod Floats
 pub mod Outputs
 pub mod SettledBills
 pub mod Reading
+pub mod Frames
+pub mod FrameLaws
 pub mod RootChecks
 pub mod BillReading
 pub mod BillWriting

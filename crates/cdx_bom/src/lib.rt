@@ -1,10 +1,11 @@
-//! Whole bills: their type and tree, copies, `==`, the versions that they fit, and JSON; documents and the laws of roads
-//! and of documents without their empty texts; texts into sinks.
+//! Whole bills: their type and tree, copies, `==`, the versions that they fit, and JSON; a reader of bills that is fed events
+//! as they arrive; documents and the laws of roads and of documents without their empty texts; texts into sinks.
 #![tactic(auto)]
 
 pub mod bom;
 mod doc;
 mod laws;
+mod push;
 pub mod putting;
 mod reading;
 mod refused;
@@ -15,6 +16,7 @@ pub use bom::Bom;
 pub use bom::settled::same;
 pub use doc::{Doc, Form, Hop, RoadError};
 pub use laws::{reads_without_empty_texts, roads_join, roads_settle};
+pub use push::{PushError, PushReader};
 pub use putting::{PutError, put_text};
 pub use roads::{
     fits_all, into_bill, into_road, is_document, one_document, recode, road, version_missing,

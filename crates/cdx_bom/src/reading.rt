@@ -1,7 +1,6 @@
-//! Bills from XML.
+//! Bills from XML events.
 
 mod calls;
-mod part;
-mod rows;
-mod start;
-pub(crate) mod whole;
+pub(crate) mod part;
+pub(crate) mod start;
+mod whole;

@@ -4,3 +4,5 @@ pub mod Stands
 pub mod Pieces
 pub mod Readers
 pub mod Documents
+pub mod Gathered
+pub mod Sources

@@ -3,3 +3,5 @@ pub mod Pushed
 pub mod PushSteps
 pub mod PushAnswers
 pub mod Documents
+pub mod Sources
+pub mod Gathered

@@ -29,7 +29,7 @@ pub(crate) enum Stage<M, X> {
 pub(crate) struct Hearing<M: RootMachine> {
     alloc: Global,
     version: SpecVersion,
-    balance: Balance,
+    pub(crate) balance: Balance,
     stage: Stage<M, M::Value>,
 }
 
@@ -47,7 +47,7 @@ impl<M: RootMachine> Hearing<M> {
     }
 
     // Goes on with an event that is in balance.
-    fn go_on(&mut self, place: usize, event: &XmlEvent) -> Result<(), XmlReadError>
+    pub(crate) fn go_on(&mut self, place: usize, event: &XmlEvent) -> Result<(), XmlReadError>
         requires { CanGoOn M.holds M.tree self.old.version self.old.stage place event.now }
         ensures moves { Moves M.holds M.tree self.old.version self.old.stage place event.now
             (λ events _. Stands M.holds M.tree self.new.version self.new.stage events) result }

@@ -3,13 +3,16 @@
 //! reads the root stands above.
 #![tactic(auto)]
 
+mod gathering;
 mod hearing;
 mod machine;
 mod places;
 mod reader;
 mod start;
+mod texts;
 mod whole;
 
+pub use gathering::read_gathered;
 pub use machine::RootMachine;
 pub use reader::{DocumentReader, PushError};
 pub use whole::read_fed;

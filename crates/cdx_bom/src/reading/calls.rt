@@ -4,33 +4,15 @@ ghost use Rattle.std.specs.Prelude.{◌≡◌, IfOk, IfErr, OnOk};
 ghost use Rattle.cdx_models.specs.declared.bom.SpecVersion.TheVariants.{V1_3, V1_4, V1_5};
 ghost use Rattle.cdx_schema.specs.Laws.{IsShallow};
 ghost use Rattle.cdx_bom.specs.Trees.{bom_tree};
-ghost use Rattle.cdx_bom.specs.BillReading.{ReadsBill, ReadsSource, IsRefusal, gathering_error};
+ghost use Rattle.cdx_bom.specs.BillReading.{ReadsBill, ReadsSource, IsRefusal};
 
 use crate::bom::Bom;
+use crate::push::BillMachine;
 use crate::reading::whole::read_document;
-use cdx_events::{EventSource, Events, GatherError, gather};
-use cdx_models::{ReadKind, SpecVersion, XmlReadError};
+use cdx_events::{EventSource, Events};
+use cdx_models::{SpecVersion, XmlReadError};
+use cdx_push_reader::read_gathered;
 use std::alloc::Global;
-
-fn gathering_error(error: GatherError) -> XmlReadError
-    ensures { result ≡ gathering_error error }
-{
-    match error {
-        GatherError::Fault { taken } => XmlReadError::ElementReadError {
-            kind: ReadKind::Fault,
-            place: taken,
-        },
-        GatherError::Unbalanced { place } => XmlReadError::ElementReadError {
-            kind: ReadKind::Unbalanced,
-            place,
-        },
-        GatherError::Budget { taken } => XmlReadError::ElementReadError {
-            kind: ReadKind::Budget,
-            place: taken,
-        },
-        GatherError::Memory(error) => XmlReadError::Memory(error),
-    }
-}
 
 impl Bom {
     /// The bill that the events denote in CycloneDX 1.3, which is shallow: no component stands inside 32 components, and
@@ -63,12 +45,14 @@ impl Bom {
         read_document(alloc, events, SpecVersion::V1_5)
     }
 
-    /// Gathers the events of a source, at most `budget` of them, and reads the bill that they denote in `version`.
+    /// Takes the events of a source one at a time, at most `budget` of them, and reads the bill that they denote in
+    /// `version`. It holds no event.
     ///
-    /// `ElementReadError` comes where they can't be gathered: of kind `Fault`, only where the count of the source rose,
-    /// and of kind `Budget`, exactly where `budget` events were taken and none of them is a document end, each with the
-    /// number of events taken; of kind `Unbalanced`, exactly where neither of these comes and what was taken isn't
-    /// balanced, with the place where it breaks. Then come the faults of `parse_from_xml_v1_3`, for `version`.
+    /// `ElementReadError` comes where they are no document, whatever faults the bill has: of kind `Fault`, only where the
+    /// count of the source rose, and of kind `Budget`, exactly where `budget` events were taken and none of them is a
+    /// document end, each with the number of events taken; of kind `Unbalanced`, exactly where neither of these comes
+    /// and what was taken isn't balanced, with the place where it breaks. Then come the faults of `parse_from_xml_v1_3`,
+    /// for `version`.
     pub fn parse_from_xml_source<E: EventSource>(
         alloc: Global,
         source: &mut E,
@@ -80,9 +64,6 @@ impl Bom {
         ensures shallow { IfOk result (λ b. IsShallow (bom_tree b)) }
         ensures sound { OnOk result (E.faults source.new ≡ E.faults source.old) }
     {
-        match gather(alloc, source, budget) {
-            Ok(events) => read_document(alloc, &events, version),
-            Err(error) => Err(gathering_error(error)),
-        }
+        read_gathered::<BillMachine, E>(alloc, source, version, budget)
     }
 }

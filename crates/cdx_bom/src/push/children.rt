@@ -1,0 +1,85 @@
+//! The children of a bill: which one a name stands for, by its position in the plan, and what reads it.
+
+ghost use Rattle.std.specs.Prelude.{◌≡◌, Some, drop};
+ghost use Rattle.cdx_models.specs.Trees.{bill, Trees};
+ghost use Rattle.cdx_schema.specs.Table.{rows};
+ghost use Rattle.cdx_schema.specs.XmlReading.{children_from, record_plan};
+ghost use Rattle.cdx_machine.specs.Several.{at_position, found_from};
+ghost use Rattle.cdx_nest_machine.specs.Children.{HasReader};
+ghost use Rattle.cdx_bom.specs.Frames.{nest_reads, bill_reads};
+
+use crate::push::frame::BillKind;
+use cdx_events::OwnedName;
+use cdx_machine::Found;
+use cdx_models::SpecVersion;
+use cdx_nest::NestKind;
+use cdx_nest_machine::Reads;
+use cdx_push::LeafKind;
+
+/// The child of a bill that has the name, where `v` knows it. The last of several counts, so none is a second one.
+#[tactic(auto, unfolding(cdx_machine::proofs::OnRows::on_rows), using(cdx_machine::proofs::OnRows::by_rows))]
+pub(crate) fn find_in_bill(v: SpecVersion, name: &OwnedName) -> Found
+    ensures { (ts : Trees)
+        → result ≡ found_from 0 (record_plan bill).children ts v name.now.local_name }
+{
+    match name.local_name.as_str() {
+        "metadata" => Found::At(0),
+        "components" => Found::At(1),
+        "services" => Found::At(2),
+        _ => find_relation(v, name),
+    }
+}
+
+// The same among the children of the rows from the references on.
+#[tactic(auto, unfolding(cdx_machine::proofs::OnRows::on_rows), using(cdx_machine::proofs::OnRows::by_rows))]
+fn find_relation(v: SpecVersion, name: &OwnedName) -> Found
+    ensures { (ts : Trees)
+        → result ≡ found_from 3 (children_from 6 (drop 6 (rows bill))) ts v name.now.local_name }
+{
+    match name.local_name.as_str() {
+        "externalReferences" => Found::At(3),
+        "dependencies" => Found::At(4),
+        "compositions" => Found::At(5),
+        "properties" => {
+            if !SpecVersion::V1_5.is_known_to(v) {
+                return Found::Unknown;
+            }
+            Found::At(6)
+        }
+        "signature" => {
+            if !SpecVersion::V1_4.is_known_to(v) {
+                return Found::Unknown;
+            }
+            Found::At(7)
+        }
+        _ => Found::Unknown,
+    }
+}
+
+/// What reads the child of the position in a bill.
+pub(crate) fn bill_child(position: usize) -> Reads<LeafKind, BillKind>
+    requires { HasReader (at_position bill_reads) position }
+    ensures { at_position bill_reads position ≡ Some result }
+{
+    match position {
+        0 => Reads::Nested(BillKind::Nest(NestKind::Metadata)),
+        1 => Reads::Nested(BillKind::Nest(NestKind::Components)),
+        2 => Reads::Nested(BillKind::Nest(NestKind::Services)),
+        3 => Reads::Leaf(LeafKind::ExternalReferences),
+        4 => Reads::Leaf(LeafKind::Dependencies),
+        5 => Reads::Leaf(LeafKind::Compositions),
+        6 => Reads::Leaf(LeafKind::Properties),
+        7 => Reads::Leaf(LeafKind::Signature),
+        _ => unreachable!(),
+    }
+}
+
+/// What reads a child of what stands in a bill.
+pub(crate) fn nest_reads(reads: Reads<LeafKind, NestKind>) -> Reads<LeafKind, BillKind>
+    ensures { result ≡ nest_reads reads }
+{
+    match reads {
+        Reads::Leaf(kind) => Reads::Leaf(kind),
+        Reads::Nested(kind) => Reads::Nested(BillKind::Nest(kind)),
+    }
+}

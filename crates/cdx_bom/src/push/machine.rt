@@ -1,0 +1,59 @@
+//! The machine of a document's root.
+
+use crate::bom::Bom;
+use crate::push::frame::{BillFrame, BillKind, bill_of};
+use cdx_events::{List, OwnedAttribute, OwnedName, XmlEvent};
+use cdx_json::Depth;
+use cdx_models::{SpecVersion, XmlReadError};
+use cdx_nest_machine::{Keeps, StackMachine};
+use cdx_push_reader::RootMachine;
+use std::alloc::Global;
+
+/// Reads a bill, whatever its root's name and namespace are. The frames of the open elements wait in a stack, so depth
+/// takes memory and no recursion.
+#[derive(Drop)]
+pub(crate) struct BillMachine {
+    stack: StackMachine<BillFrame>,
+}
+
+impl RootMachine for BillMachine {
+    ghost use Rattle.cdx_bom.specs.Trees.{bom_tree};
+    ghost use Rattle.cdx_bom.specs.declared.push.frame.BillKind.TheVariants.{Bill};
+
+    type Value = Bom;
+
+    ghost tree = { bom_tree };
+
+    ghost holds = { λ m v p d o.
+        ⟦<StackMachine<BillFrame> as Keeps>⟧.holds Bill m.stack v p d o };
+
+    fn start(
+        alloc: Global,
+        place: usize,
+        v: SpecVersion,
+        element: &OwnedName,
+        attributes: &List<OwnedAttribute>,
+    ) -> Result<BillMachine, XmlReadError> {
+        let depth = Depth {
+            components: 0,
+            services: 0,
+        };
+        let stack = StackMachine::<BillFrame>::start(
+            alloc,
+            BillKind::Bill,
+            place,
+            v,
+            depth,
+            element,
+            attributes,
+        )?;
+        Ok(BillMachine { stack })
+    }
+
+    fn step(&mut self, place: usize, event: &XmlEvent) -> Result<Option<Bom>, XmlReadError> {
+        match self.stack.step(place, event)? {
+            None => Ok(None),
+            Some(value) => Ok(Some(bill_of(value))),
+        }
+    }
+}
