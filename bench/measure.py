@@ -100,3 +100,23 @@ def run(program, words, data):
             taken.seek(0)
             written = taken.read()
     return min(seconds for seconds, _ in runs), max(peak for _, peak in runs), written
+
+
+# How many parts of a document of `cdx_feed` make a million events, and in which ways it is read.
+FED = {
+    "hashes": (333_333, ["reader", "machine"]),
+    "dependencies": (500_000, ["reader", "machine"]),
+    "text": (500_000, ["reader", "machine"]),
+    "components": (125_000, ["reader", "machine"]),
+    "bill": (125_000, ["reader", "machine", "pieces"]),
+}
+
+
+def fed(program, name, events):
+    """For each way of reading a document of about so many events: seconds and peak megabytes, less what making it takes."""
+    parts, ways = FED[name]
+    count = str(parts * events // 1_000_000)
+    alone, held, _ = run(program, [name, "make", count], b"")
+    for way in ways:
+        seconds, peak, _ = run(program, [name, way, count], b"")
+        yield way, max(seconds - alone, 1e-6), peak - held

@@ -11,3 +11,8 @@ pub fn row_is(rt: &impl Abort, row: &str, found: &str, wanted: &str) {
 pub fn row_holds(rt: &impl Abort, row: &str, is_so: bool) {
     assert!(rt; is_so, "{row}");
 }
+
+/// Ends the test where what comes of a row's first `count` events isn't what is wanted.
+pub fn beginning_is(rt: &impl Abort, row: &str, count: usize, found: &str, wanted: &str) {
+    assert_eq!(rt; found, wanted, "the first {count} events of {row}");
+}

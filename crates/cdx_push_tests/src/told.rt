@@ -1,4 +1,4 @@
-//! Elements as lines, and what comes of them in one word or as a fault.
+//! What comes of elements in one word or as a fault.
 
 use crate::feeding::{Heard, feed};
 use crate::kinds::kind_named;
@@ -6,16 +6,9 @@ use cdx_events::Events;
 use cdx_leaf::{Root, root_of};
 use cdx_models::SpecVersion;
 use cdx_push::LeafKind;
-use cdx_test_cases::documents::document;
 use cdx_test_cases::faults::of_xml;
 use std::alloc::{AllocError, Global};
 use std::test::Fail;
-
-/// The document of the element.
-pub fn around(alloc: Global, element: &str) -> Result<Events, Fail> {
-    let whole = format!(in alloc; "start|{element}|end")?;
-    document(alloc, whole.as_str())
-}
 
 /// The kind of this name.
 pub fn kind_of(name: &str) -> Result<LeafKind, Fail> {

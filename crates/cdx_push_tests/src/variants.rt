@@ -2,8 +2,9 @@
 
 use crate::expect::row_is;
 use crate::feeding::Heard;
+use crate::pieces::around;
 use crate::readers::read;
-use crate::told::{around, fed, kind_of};
+use crate::told::{fed, kind_of};
 use cdx_events::List;
 use cdx_models::{ExternalReferences, Uri};
 use cdx_push::LeafValue;

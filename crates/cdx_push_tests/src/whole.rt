@@ -3,10 +3,11 @@
 use crate::expect::{row_holds, row_is};
 use crate::feeding::Heard;
 use crate::kinds::name_of;
+use crate::pieces::around;
 use crate::readers::read;
 use crate::same::same;
 use crate::samples::{GOOD, MISSING, PASSED, STRAY, UNKNOWN, UNPARSED};
-use crate::told::{around, fed, kind_of, told};
+use crate::told::{fed, kind_of, told};
 use cdx_events::Events;
 use cdx_models::{Hashes, SpecVersion};
 use cdx_push::{LeafKind, LeafValue};

@@ -1,0 +1,39 @@
+//! The readers of the kinds, outside all components and services.
+
+use cdx_events::Events;
+use cdx_leaf::read_root;
+use cdx_models::{SpecVersion, XmlReadError};
+use cdx_nest::{NestKind, NestValue};
+use cdx_test_cases::faults::of_xml;
+use std::alloc::{AllocError, Global};
+
+/// What the root is read as, as the kind in the version, by the kind's reader, or its first fault.
+pub fn read(
+    alloc: Global,
+    events: &Events,
+    kind: NestKind,
+    v: SpecVersion,
+) -> Result<NestValue, XmlReadError> {
+    match kind {
+        NestKind::Tools => Ok(NestValue::Tools(read_root(alloc, events, v)?)),
+        NestKind::Component => Ok(NestValue::Component(read_root(alloc, events, v)?)),
+        NestKind::Components => Ok(NestValue::Components(read_root(alloc, events, v)?)),
+        NestKind::Pedigree => Ok(NestValue::Pedigree(read_root(alloc, events, v)?)),
+        NestKind::Service => Ok(NestValue::Service(read_root(alloc, events, v)?)),
+        NestKind::Services => Ok(NestValue::Services(read_root(alloc, events, v)?)),
+        NestKind::Metadata => Ok(NestValue::Metadata(read_root(alloc, events, v)?)),
+    }
+}
+
+/// `done`, or the fault in one line, by the kind's reader.
+pub fn answered(
+    alloc: Global,
+    events: &Events,
+    kind: NestKind,
+    v: SpecVersion,
+) -> Result<String, AllocError> {
+    match read(alloc, events, kind, v) {
+        Ok(_) => String::from_str(alloc, "done"),
+        Err(fault) => of_xml(alloc, &fault),
+    }
+}

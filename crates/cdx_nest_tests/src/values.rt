@@ -1,0 +1,39 @@
+//! Values that are compared, and as texts.
+
+use cdx_json::ToJson;
+use cdx_models::HasTree;
+use cdx_nest::NestValue;
+use cdx_test_cases::forms::V5;
+use std::alloc::Global;
+use std::test::Fail;
+
+/// Whether the values stand in the same variant and are the same.
+pub fn same(one: &NestValue, other: &NestValue) -> bool {
+    match (one, other) {
+        (NestValue::Tools(one), NestValue::Tools(other)) => one.same(other),
+        (NestValue::Component(one), NestValue::Component(other)) => one.same(other),
+        (NestValue::Components(one), NestValue::Components(other)) => one.same(other),
+        (NestValue::Pedigree(one), NestValue::Pedigree(other)) => one.same(other),
+        (NestValue::Service(one), NestValue::Service(other)) => one.same(other),
+        (NestValue::Services(one), NestValue::Services(other)) => one.same(other),
+        (NestValue::Metadata(one), NestValue::Metadata(other)) => one.same(other),
+        _ => false,
+    }
+}
+
+fn text<T: ToJson>(alloc: Global, value: &T) -> Result<String, Fail> {
+    Ok(value.to_json(alloc, V5)?.to_string(alloc)?)
+}
+
+/// The value as JSON of 1.5.
+pub fn as_text(alloc: Global, value: &NestValue) -> Result<String, Fail> {
+    match value {
+        NestValue::Tools(tools) => text(alloc, tools),
+        NestValue::Component(component) => text(alloc, component),
+        NestValue::Components(components) => text(alloc, components),
+        NestValue::Pedigree(pedigree) => text(alloc, pedigree),
+        NestValue::Service(service) => text(alloc, service),
+        NestValue::Services(services) => text(alloc, services),
+        NestValue::Metadata(metadata) => text(alloc, metadata),
+    }
+}
