@@ -10,5 +10,5 @@ feed-requires c = let h = c.pieces.invariant.heard in (h.0, h.1, omega (arith, h
 pub pieces-preserved : goal.pieces-preserved
 pieces-preserved c =
     let h = c.pieces.invariant.heard in
-    let piece = c.piece-item.result.now in
+    let piece = c.in-Some.piece.now in
     record { heard = (h.0 ++ piece, c.feed.ensures.heard h.0 h.1, omega (arith, length-append h.0 piece, h.2)) }
