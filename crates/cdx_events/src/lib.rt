@@ -39,4 +39,5 @@ pub use reader::EventReader;
 pub use sending::{SendError, send};
 pub use stream::{Failed, Sink, Source};
 pub use text::Text;
+pub use utf8::InUtf8;
 pub use writer::EventWriter;

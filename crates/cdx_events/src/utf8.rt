@@ -1,5 +1,5 @@
-//! Texts are in UTF-8, since they are strings. Contracts see a text as its bytes alone, so a list of events is gone through
-//! once to tell them.
+//! Texts are in UTF-8, since they are strings. Contracts see a text as its bytes alone, so they are told of it where they
+//! need it.
 
 ghost use Rattle.std.specs.Prelude.{IsTrue};
 ghost use Rattle.std.specs.List.{list_all};
@@ -9,9 +9,10 @@ use crate::name::OwnedAttribute;
 use crate::text::Text;
 
 /// A value whose texts are in UTF-8.
-pub(crate) trait InUtf8 {
+pub trait InUtf8 {
     ghost use Rattle.std.specs.Prelude.{Bool, IsTrue};
 
+    /// Whether they are.
     ghost in_utf8: { Self → Bool };
 
     /// Tells contracts that its texts are in UTF-8. It does nothing else.

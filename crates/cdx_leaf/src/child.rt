@@ -18,20 +18,20 @@ use cdx_events::{EventKind, EventReader, List, OwnedAttribute, OwnedName, XmlEve
 use cdx_models::XmlReadError;
 use std::alloc::Global;
 
-/// A child element whose start was taken.
+// A child element whose start was taken.
 #[derive(Drop)]
-pub struct Child<'a> {
-    /// The place of its start.
+pub(crate) struct Child<'a> {
+    // The place of its start.
     pub place: usize,
-    /// Its name.
+    // Its name.
     pub name: &'a OwnedName,
-    /// Its attributes, in their order.
+    // Its attributes, in their order.
     pub attributes: &'a List<OwnedAttribute>,
 }
 
-/// The next child of the element, whose start is taken, or None where the element's end was taken. The rule says whether
-/// texts before it are passed over; else a text is unexpected at its place.
-pub fn next_child<'a>(
+// The next child of the element, whose start is taken, or None where the element's end was taken. The rule says whether
+// texts before it are passed over; else a text is unexpected at its place.
+pub(crate) fn next_child<'a>(
     alloc: Global,
     reader: &mut EventReader<'a>,
     element: &OwnedName,
@@ -79,9 +79,9 @@ fn refuse_child(alloc: Global, place: usize, element: &OwnedName) -> Result<(), 
     })
 }
 
-/// Leaves a child that was offered to what is read: nothing is left of one that was read. An unknown one is skipped whole
-/// where the rule skips, and else unexpected at its place, as is a second one where one may stand.
-pub fn after_child(
+// Leaves a child that was offered to what is read: nothing is left of one that was read. An unknown one is skipped whole
+// where the rule skips, and else unexpected at its place, as is a second one where one may stand.
+pub(crate) fn after_child(
     alloc: Global,
     reader: &mut EventReader<'_>,
     element: &OwnedName,

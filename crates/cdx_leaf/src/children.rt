@@ -1,21 +1,8 @@
 //! What is read child by child: one loop for records and lists alike, over the trait `Children`.
 //!
-//! What is read may hold in its state what its children need, as a depth: `depth` tells contracts of it. A reader that
-//! leads back to itself can't be such a target, though: the checker gives a cycle of calls through a bound no proof. A
-//! crate of records that stand in themselves writes the loop of `read_children` once more, in the cycle and over its own
-//! reader of a child:
-//!
-//! ```text
-//! 'nodes: while let Some(child) = next_child(alloc, reader, element, Rule::Lax)? {
-//!     let taken = read_part_child(alloc, reader, version, child.name, child.attributes, part, depth)?;
-//!     after_child(alloc, reader, element, Rule::Lax, &child, taken)?;
-//! }
-//! ```
-//!
-//! The loop's invariant is `InLoop` of `proofs/Loop.antt`, for every `nodes` and `rest` that the reader may have been at;
-//! the length of what is ahead is its measure, by `nearer`. Each of its goals is one lemma of `proofs/NextChild.antt`, over
-//! the plan, the depth and what was read so far: `next_fails`, `is_in`, `child_fails`, `still_open`, `leaving_fails`,
-//! `nearer`, `goes_on` and at the end `no_child_left`, as `proofs/children/read_children/Answers.antt` shows.
+//! What is read may hold in its state what its children need, as a depth: `depth` tells contracts of it. Records that stand
+//! in themselves aren't read here, since the checker gives a cycle of calls through a bound no proof: machines with a stack
+//! of their own read them.
 
 ghost use Rattle.cdx_events.specs.Nodes.{Nodes};
 ghost use Rattle.cdx_events.specs.declared.event.XmlEvent.{XmlEvent};

@@ -23,7 +23,6 @@ pub use attribute::{
     attribute_or_error, attribute_or_none, attribute_since, child_or_error, last_attribute,
     optional_attribute,
 };
-pub use child::{Child, after_child, next_child};
 pub use children::{Children, read_record};
 pub use content::{read_content, read_exact_content};
 pub use error::{invalid_parse_error, refuse, refuse_missing, unexpected_element_error};

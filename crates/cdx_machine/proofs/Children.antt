@@ -1,6 +1,7 @@
 -- The children of a plan, read by several machines in a row.
-use Rattle.std.proofs.Common.{◌≡◌, ℕ, zero, suc, ◌+◌, List, [], ◌∷◌, true, false, Option, Some, None, Ok, Err, ap, ◌∙◌, subst}
-use Rattle.std.specs.Prelude.{IfSome}
+use Rattle.std.proofs.Common.{◌≡◌, ℕ, zero, suc, ◌+◌, List, [], ◌∷◌, true, false, Option, Some, None, Ok, Err, sym, ap, ◌∙◌, subst}
+use Rattle.std.specs.Prelude.{IfSome, Box}
+use Rattle.std.specs.declared.alloc.Global.{Global}
 use Rattle.cdx_events.specs.declared.event.XmlEvent.{XmlEvent}
 use Rattle.cdx_models.specs.declared.bom.SpecVersion.{SpecVersion}
 use Rattle.cdx_models.specs.declared.errors.XmlReadError.{XmlReadError}
@@ -16,7 +17,7 @@ use Rattle.cdx_machine.specs.Begun.{innermost, Next, still, whole, next}
 use Rattle.cdx_machine.specs.Machines.{Holding, ChildHolding, CanStep, CanStepChild, IsQuiet, StartsAs, Steps, StepsAs, StepsRow, StepsChild}
 use Rattle.cdx_machine.specs.Frames.{OpensChild}
 use Rattle.cdx_machine.proofs.Names.{FindsAt}
-use Rattle.cdx_machine.specs.Several.{at_position, IsThere, kinds_of, reads_child, Puts}
+use Rattle.cdx_machine.specs.Several.{at_position, IsThere, kinds_of, reads_child, reads_boxed, Puts}
 
 -- the kind of the child of a position
 pub kind_is : (cs : List Child) (i : ℕ) (row : Child) → at_position cs i ≡ Some row → at_position (kinds_of cs) i ≡ Some row.kind
@@ -47,11 +48,14 @@ module _ {M X : Type 0} (plan : Plan) (kinds : List Kind) (kinds_are : kinds ≡
   there_is i row h = (row.kind, runs_kind i row h)
 
   -- a child's start
-  pub child_starts : (ts : Trees) (v : SpecVersion) (q : ℕ) (d : Depth) (n : OwnedName) (a : List OwnedAttribute) (s : Namespace) (i : ℕ) (m : M) (h : FindsAt plan.children ts v n.local_name i) → position m ≡ i → ((k : Kind) → at_position kinds i ≡ Some k → StartsAs holds k v q n a (Ok m))
-      → OpensChild (reads_child plan position holds) plan ts v q d (innermost n a s no_nodes) m
-  child_starts ts v q d n a s i m h runs starts =
+  pub child_starts : (ts : Trees) (v : SpecVersion) (q : ℕ) (d : Depth) (n : OwnedName) (a : List OwnedAttribute) (s : Namespace) (i : ℕ) (m : M) (b : Box M Global) (h : FindsAt plan.children ts v n.local_name i) → b.value ≡ m → position m ≡ i → ((k : Kind) → at_position kinds i ≡ Some k → StartsAs holds k v q n a (Ok m))
+      → OpensChild (reads_boxed plan position holds) plan ts v q d (innermost n a s no_nodes) b
+  child_starts ts v q d n a s i m b h put runs starts =
       let x : holds m v q d (innermost n a s no_nodes) × IsQuiet (q + 1) (xread (element n a s no_nodes) v h.row.kind q d) = starts h.row.kind (runs_kind i h.row h.is_at) d s in
-      record { is_open = record { row = h.row; found = h.found; first_one = h.first_one; held = (ap (λ j. at_position plan.children j) runs ∙ h.is_at, x.0) }; quiet = x.1 }
+      record {
+        is_open = record { row = h.row; found = h.found; first_one = h.first_one; held = subst (λ (m : M). reads_child plan position holds m h.row v q d (innermost n a s no_nodes)) (sym put) (ap (λ j. at_position plan.children j) runs ∙ h.is_at, x.0) };
+        quiet = x.1;
+      }
 
   module _ (m m' : M) (same : position m' ≡ position m) (place : ℕ) (event : XmlEvent) (ts us : Trees) where
     at_new : (row : Child) → at_position plan.children (position m) ≡ Some row → at_position plan.children (position m') ≡ Some row

@@ -23,9 +23,9 @@ use Rattle.cdx_leaf.specs.Fault.{Fails, Refused}
 use Rattle.cdx_leaf.specs.Tags.{text_or_none}
 use Rattle.cdx_leaf.specs.Reading.{kind_of_node}
 use Rattle.cdx_machine.specs.Begun.{Begun, innermost, around, Next, still, whole, count, ended_now, next_inside, next, TakesInside, Takes, lone}
-use Rattle.cdx_machine.specs.Contents.{First, TextLast, IsContent, AreText, Started, content_holds, TakesNew, TakesText}
+use Rattle.cdx_machine.specs.Contents.{First, TextLast, IsContent, AreText, content_holds, TakesNew, TakesText}
 use Rattle.cdx_leaf.specs.Attribute.{Gives}
-use Rattle.cdx_machine.specs.Machines.{Refuses, IsQuiet, Steps}
+use Rattle.cdx_machine.specs.Machines.{Refuses, IsQuiet, Proceeds, Yields}
 use Rattle.cdx_machine.proofs.Places.{one_on, places_more}
 use Rattle.cdx_machine.proofs.Faults.{refuses_along, refuses_known, quiet_at}
 
@@ -59,20 +59,6 @@ stray_text (Some u) xs m el q (inr w) i = rw w (second_node u m el (suc q) ∙ a
 at_end : (p k : ℕ) → p + suc k ≤ suc (p + k)
 at_end p k = omega arith
 
--- what is answered at an element's end
-abbrev pub ended_with : {X : Type 0} → Result X XmlReadError → Result (Option X) XmlReadError
-ended_with (Ok x) = Ok (Some x)
-ended_with (Err e) = Err e
-
--- What a step comes to.
-abbrev pub TextStepped : {C : Type 0} → (Node → Result Tree XmlReadError) → First → (C → Trees) → (List ℕ → ℕ → Trees → Option (List ℕ) → Result Tree XmlReadError) → OwnedName → Option C → Option (List ℕ) → Option (List ℕ) → SpecVersion → ℕ → ℕ → Next → Result Bool XmlReadError → Type 0
-TextStepped read first start last name content old new v p place (still o) (Ok false) = content_holds first start name content new v p o × IsQuiet (p + count o) (read (ended_now o))
-TextStepped read first start last name content old new v p place (still o) (Ok true) = ⊥
-TextStepped read first start last name content old new v p place (still o) (Err e) = Refuses e (p + count o) (read (ended_now o))
-TextStepped {C} read first start last name content old new v p place (whole k) (Ok true) = (c : C) × (content ≡ Some c) × (read k ≡ last name.local_name place (start c) old) × (suc place ≡ p + places k) × (new ≡ old)
-TextStepped read first start last name content old new v p place (whole k) (Ok false) = ⊥
-TextStepped read first start last name content old new v p place (whole k) (Err e) = ⊥
-
 module _ {C : Type 0} (kind : Kind) (first : First) (last : TextLast) (start : C → Trees) (law : IsContent kind first last start) where
   reads_last : (c : C) (o : Option (List ℕ)) (n : OwnedName) (a : List OwnedAttribute) (s : Namespace) (xs : Nodes) (v : SpecVersion) (p : ℕ) (d : Depth) → first n.local_name a v p ≡ Ok (start c) → AreText o xs
       → xread (element n a s xs) v kind p d ≡ last n.local_name (suc (p + places_of xs)) (start c) o
@@ -86,7 +72,7 @@ module _ {C : Type 0} (kind : Kind) (first : First) (last : TextLast) (start : C
 
   -- an element's start
   pub text_opens : (c : C) (n : OwnedName) (a : List OwnedAttribute) (s : Namespace) (v : SpecVersion) (p : ℕ) (d : Depth) → first n.local_name a v p ≡ Ok (start c)
-      → content_holds first start n (Some c) None v p (innermost n a s no_nodes) × IsQuiet (p + 1) (xread (element n a s no_nodes) v kind p d)
+      → content_holds first start n.local_name c None v p (innermost n a s no_nodes) × IsQuiet (p + 1) (xread (element n a s no_nodes) v kind p d)
   text_opens c n a s v p d h = ((refl, h, refl), is_quiet c None n a s no_nodes v p d h refl)
 
   pub text_refuses : (e : XmlReadError) (q : ℕ) (n : OwnedName) (a : List OwnedAttribute) (s : Namespace) (v : SpecVersion) (p : ℕ) (d : Depth) → Fails e q (first n.local_name a v p) → Refuses e (p + 1) (xread (element n a s no_nodes) v kind p d)
@@ -111,31 +97,34 @@ module _ {C : Type 0} (kind : Kind) (first : First) (last : TextLast) (start : C
       moved : (k : ℕ) → place ≡ p + suc k → suc p + k ≡ place
       moved k e = omega (arith, e)
 
-  new_text : (v : SpecVersion) (p place : ℕ) (d : Depth) (name : OwnedName) (content : Option C) (old new : Option (List ℕ)) (n : OwnedName) (a : List OwnedAttribute) (s : Namespace) (xs : Nodes) (m : Node) (event : XmlEvent) (u : List ℕ) (r : Result Bool XmlReadError) (c : C)
-      → name ≡ n → content ≡ Some c → first n.local_name a v p ≡ Ok (start c) → AreText old xs → place ≡ p + suc (places_of xs) → kind_of event ≡ kind_of_node m → places m ≡ 1 → AreText (Some u) (lone m)
-      → TakesNew old new n.local_name place event u r → TextStepped (λ k. xread k v kind p d) first start last name content old new v p place (still (innermost n a s (xs ⊕ lone m))) r
-  new_text v p place d name content None new n a s xs m event u (Ok true) c ni ci h w is ke one t k = absurd (let wrong : true ≡ false = k.0 in cc)
-  new_text v p place d name content None new n a s xs m event u (Ok false) c ni ci h w is ke one t k =
-      ((ni, subst (λ (o : Option C). Started start (first n.local_name a v p) o) (sym ci) h, rw (k.1, w) t), is_quiet c (Some u) n a s (xs ⊕ lone m) v p d h (rw w t))
-  new_text v p place d name content None new n a s xs m event u (Err (Memory z)) c ni ci h w is ke one t k = tt
-  new_text v p place d name content None new n a s xs m event u (Err e) c ni ci h w is ke one t k = absurd k
-  new_text v p place d name content (Some x) new n a s xs m event u (Ok b) c ni ci h w is ke one t k = absurd k
-  new_text v p place d name content (Some x) new n a s xs m event u (Err e) c ni ci h w is ke one t k =
-      refused (Some x) v p place d n a s xs m (p + suc (places_of (xs ⊕ lone m))) c e h w tt is (more_place is (places_more xs m) one) (subst (λ (f : kinds.the_data). Refused {X = Bool} (Err e) (unexpected place n.local_name f)) ke k)
-    where
-      more_place : place ≡ p + suc (places_of xs) → places_of (xs ⊕ lone m) ≡ places_of xs + places m → places m ≡ 1 → suc place ≡ p + suc (places_of (xs ⊕ lone m))
-      more_place e f i = omega (arith, e, f, i)
+  module _ (v : SpecVersion) (p place : ℕ) (d : Depth) (name : List ℕ) (c : C) (new : Option (List ℕ)) where
+    abbrev Held : Begun → Type 0
+    Held o = content_holds first start name c new v p o
 
-  module _ (v : SpecVersion) (p place : ℕ) (d : Depth) (name : OwnedName) (content : Option C) (old new : Option (List ℕ)) where
-    abbrev Stepped : Next → Result Bool XmlReadError → Type 0
-    Stepped o r = TextStepped (λ k. xread k v kind p d) first start last name content old new v p place o r
+    -- What a step comes to, where so much is kept with the end.
+    abbrev Stepped : Type 0 → Next → Result Bool XmlReadError → Type 0
+    Stepped kept o r = Proceeds Held kept (λ k. xread k v kind p d) p o r
 
-    stepped : (n : OwnedName) (a : List OwnedAttribute) (s : Namespace) (xs : Nodes) (event : XmlEvent) (r : Result Bool XmlReadError) (c : C) → name ≡ n → content ≡ Some c → first n.local_name a v p ≡ Ok (start c) → AreText old xs → place ≡ p + suc (places_of xs)
-        → TakesInside n event → TakesText old new n.local_name place event r → Stepped (next_inside n a s xs event) r
-    stepped n a s xs StartDocument r c ni ci h w is t k = absurd t
-    stepped n a s xs EndDocument r c ni ci h w is t k = absurd t
-    stepped n a s xs (StartElement m b z) (Ok x) c ni ci h w is t k = absurd k
-    stepped n a s xs (StartElement m b z) (Err e) c ni ci h w is t k = refused old v p place d n a s xs (element m b z no_nodes) (p + suc (places_of xs + 1)) c e h w (not_first old m b z) is (sums (places_of xs) is) k
+    -- a text
+    new_text : (kept : Type 0) (old : Option (List ℕ)) (n : OwnedName) (a : List OwnedAttribute) (s : Namespace) (xs : Nodes) (m : Node) (event : XmlEvent) (u : List ℕ) (r : Result Bool XmlReadError) → content_holds first start name c old v p (innermost n a s xs) → place ≡ p + suc (places_of xs) → kind_of event ≡ kind_of_node m → places m ≡ 1 → AreText (Some u) (lone m)
+        → TakesNew old new n.local_name place event u r → Stepped kept (still (innermost n a s (xs ⊕ lone m))) r
+    new_text kept None n a s xs m event u (Ok true) h is ke one t k = absurd (let wrong : true ≡ false = k.0 in cc)
+    new_text kept None n a s xs m event u (Ok false) (ni, h, w) is ke one t k = ((ni, h, rw (k.1, w) t), is_quiet c (Some u) n a s (xs ⊕ lone m) v p d h (rw w t))
+    new_text kept None n a s xs m event u (Err (Memory z)) h is ke one t k = tt
+    new_text kept None n a s xs m event u (Err e) h is ke one t k = absurd k
+    new_text kept (Some x) n a s xs m event u (Ok b) h is ke one t k = absurd k
+    new_text kept (Some x) n a s xs m event u (Err e) (ni, h, w) is ke one t k =
+        refused (Some x) v p place d n a s xs m (p + suc (places_of (xs ⊕ lone m))) c e h w tt is (more_place is (places_more xs m) one) (subst (λ (f : kinds.the_data). Refused {X = Bool} (Err e) (unexpected place n.local_name f)) ke k)
+      where
+        more_place : place ≡ p + suc (places_of xs) → places_of (xs ⊕ lone m) ≡ places_of xs + places m → places m ≡ 1 → suc place ≡ p + suc (places_of (xs ⊕ lone m))
+        more_place e f i = omega (arith, e, f, i)
+
+    stepped : (old : Option (List ℕ)) (n : OwnedName) (a : List OwnedAttribute) (s : Namespace) (xs : Nodes) (event : XmlEvent) (r : Result Bool XmlReadError) → content_holds first start name c old v p (innermost n a s xs) → place ≡ p + suc (places_of xs) → TakesInside n event → TakesText old new n.local_name place event r
+        → Stepped (Held (innermost n a s xs)) (next_inside n a s xs event) r
+    stepped old n a s xs StartDocument r h is t k = absurd t
+    stepped old n a s xs EndDocument r h is t k = absurd t
+    stepped old n a s xs (StartElement m b z) (Ok x) h is t k = absurd k
+    stepped old n a s xs (StartElement m b z) (Err e) (ni, h, w) is t k = refused old v p place d n a s xs (element m b z no_nodes) (p + suc (places_of xs + 1)) c e h w (not_first old m b z) is (sums (places_of xs) is) k
       where
         sums : (k : ℕ) → place ≡ p + suc k → suc place ≡ p + suc (k + 1)
         sums k e = omega (arith, e)
@@ -143,52 +132,36 @@ module _ {C : Type 0} (kind : Kind) (first : First) (last : TextLast) (start : C
         not_first : (o : Option (List ℕ)) (m : OwnedName) (b : List OwnedAttribute) (z : Namespace) → NotFirst o (element m b z no_nodes)
         not_first None m b z = tt
         not_first (Some u) m b z = tt
-    stepped n a s xs (EndElement m) (Ok true) c ni ci h w is t k =
-        (c, ci, reads_last c old n a s xs v p d h w ∙ (ap (λ q. last n.local_name q (start c) old) (sym (is ∙ swap p (places_of xs))) ∙ ap (λ (z : OwnedName). last z.local_name place (start c) old) (sym ni)), ap suc is ∙ ends p (places_of xs), k.1)
-      where
-        swap : (p k : ℕ) → p + suc k ≡ suc (p + k)
-        swap p k = omega arith
-
-        ends : (p k : ℕ) → suc (p + suc k) ≡ p + suc (suc k)
-        ends p k = omega arith
-    stepped n a s xs (EndElement m) (Ok false) c ni ci h w is t k = absurd (let wrong : Ok false ≡ Ok true = k.0 in cc)
-    stepped n a s xs (EndElement m) (Err e) c ni ci h w is t k = absurd (let wrong : Err e ≡ Ok true = k.0 in cc)
-    stepped n a s xs (Characters u) r c ni ci h w is t k = new_text v p place d name content old new n a s xs (characters u) (Characters u) u r c ni ci h w is refl refl (inl refl) k
-    stepped n a s xs (CData u) r c ni ci h w is t k = new_text v p place d name content old new n a s xs (cdata u) (CData u) u r c ni ci h w is refl refl (inr refl) k
+    stepped old n a s xs (EndElement m) (Ok true) (ni, h, w) is t k = (ni, h, rw k.1 w)
+    stepped old n a s xs (EndElement m) (Ok false) h is t k = absurd (let wrong : Ok false ≡ Ok true = k.0 in cc)
+    stepped old n a s xs (EndElement m) (Err e) h is t k = absurd (let wrong : Err e ≡ Ok true = k.0 in cc)
+    stepped old n a s xs (Characters u) r h is t k = new_text (Held (innermost n a s xs)) old n a s xs (characters u) (Characters u) u r h is refl refl (inl refl) k
+    stepped old n a s xs (CData u) r h is t k = new_text (Held (innermost n a s xs)) old n a s xs (cdata u) (CData u) u r h is refl refl (inr refl) k
 
     -- One event of an element that holds one text at most.
-    pub text_steps : (o : Begun) (event : XmlEvent) (r : Result Bool XmlReadError) → content_holds first start name content old v p o → place ≡ p + count o → Takes o event → TakesText old new name.local_name place event r → Stepped (next o event) r
-    text_steps (around n a s xs o) event r h is t k = absurd h
-    text_steps (innermost n a s xs) event r h is t k =
-        let b : (c : C) × (content ≡ Some c) × (first n.local_name a v p ≡ Ok (start c)) = begun (first n.local_name a v p) content h.1 in
-        stepped n a s xs event r b.0 h.0 b.1 b.2 h.2 is t (subst (λ (z : OwnedName). TakesText old new z.local_name place event r) h.0 k)
-      where
-        begun : (f : Result Trees XmlReadError) (o : Option C) → Started start f o → (c : C) × (o ≡ Some c) × (f ≡ Ok (start c))
-        begun f None h = absurd h
-        begun f (Some c) h = (c, refl, h)
+    pub text_steps : (old : Option (List ℕ)) (o : Begun) (event : XmlEvent) (r : Result Bool XmlReadError) → content_holds first start name c old v p o → place ≡ p + count o → Takes o event → TakesText old new name place event r → Stepped (Held o) (next o event) r
+    text_steps old (around n a s xs o) event r h is t k = absurd h
+    text_steps old (innermost n a s xs) event r h is t k = stepped old n a s xs event r h is t (subst (λ el. TakesText old new el place event r) h.0 k)
 
-    -- a refusal
-    pub text_refused : {X : Type 0} (held : Begun → Type 0) (view : X → Tree) (e : XmlReadError) (o : Next) → Stepped o (Err e) → Steps held view (λ k. xread k v kind p d) p o (Err e)
-    text_refused held view e (still o) h = h
-    text_refused held view e (whole k) h = absurd h
+    -- What it is read as.
+    module _ {X : Type 0} (view : X → Tree) (q : ℕ) (r : Result X XmlReadError) where
+      pub text_yields : (o : Begun) (event : XmlEvent) (m : OwnedName) (k : Node) → Held o → place ≡ p + count o → event ≡ EndElement m → Takes o event → next o event ≡ whole k → Gives view q (last m.local_name place (start c) new) r → Yields view (p + places k) (xread k v kind p d) r
+      text_yields (around n a s xs o) event m k h is e t w g = absurd h
+      text_yields (innermost n a s xs) event m k (ni, h, x) is e t w g =
+          let ended : next (innermost n a s xs) (EndElement m) ≡ whole k = ap (next (innermost n a s xs)) (sym e) ∙ w in
+          let k_is : element n a s xs ≡ k = cc in
+          let same : n ≡ m = subst (λ (y : XmlEvent). TakesInside n y) e t in
+          subst (λ (y : Node). Yields view (p + places y) (xread y v kind p d) r) k_is (by r (reads same) g)
+        where
+          swap : p + suc (places_of xs) ≡ suc (p + places_of xs)
+          swap = omega arith
 
-    -- a text was heard
-    pub text_goes_on : {X : Type 0} (held : Begun → Type 0) (view : X → Tree) (b : Bool) (o : Next) → b ≡ false → ((o : Begun) → content_holds first start name content new v p o → held o) → Stepped o (Ok b) → Steps held view (λ k. xread k v kind p d) p o (Ok None)
-    text_goes_on held view false (still o) e f h = (f o h.0, h.1)
-    text_goes_on held view false (whole k) e f h = absurd h
-    text_goes_on held view true o e f h = absurd (let wrong : true ≡ false = e in cc)
+          ends : suc place ≡ p + suc (suc (places_of xs))
+          ends = let is : place ≡ p + suc (places_of xs) = is in omega (arith, is)
 
-    -- the element has ended
-    pub text_ends : {X : Type 0} (held : Begun → Type 0) (view : X → Tree) (b : Bool) (c : C) (text : Option (List ℕ)) (q : ℕ) (r : Result X XmlReadError) (o : Next) → b ≡ true → content ≡ Some c → text ≡ new → Gives view q (last name.local_name place (start c) text) r
-        → Stepped o (Ok b) → Steps held view (λ k. xread k v kind p d) p o (ended_with r)
-    text_ends held view false c text q r o e ci ti g h = absurd (let wrong : false ≡ true = e in cc)
-    text_ends held view true c text q r (still o) e ci ti g h = absurd h
-    text_ends {X = X} held view true c text q r (whole k) e ci ti g (c', ci', reads, is, kept) =
-        by r g
-      where
-        same : last name.local_name place (start c) text ≡ last name.local_name place (start c') old
-        same = let x : Some c ≡ Some c' = sym ci ∙ ci' in let y : c ≡ c' = cc in rw (y, ti ∙ kept) refl
+          reads : n ≡ m → xread (element n a s xs) v kind p d ≡ last m.local_name place (start c) new
+          reads same = reads_last c new n a s xs v p d h x ∙ (ap (λ q. last n.local_name q (start c) new) (sym (is ∙ swap)) ∙ ap (λ (z : OwnedName). last z.local_name place (start c) new) same)
 
-        by : (r : Result X XmlReadError) → Gives view q (last name.local_name place (start c) text) r → Steps held view (λ k. xread k v kind p d) p (whole k) (ended_with r)
-        by (Ok x) g = reads ∙ (sym same ∙ g)
-        by (Err f) g = refuses_along f q (p + places k) (last name.local_name place (start c) text) (xread k v kind p d) (λ f i. (reads ∙ (sym same ∙ i), ap suc (law.last_place name.local_name place c text f i) ∙ is)) g
+          by : (r : Result X XmlReadError) → xread (element n a s xs) v kind p d ≡ last m.local_name place (start c) new → Gives view q (last m.local_name place (start c) new) r → Yields view (p + suc (suc (places_of xs))) (xread (element n a s xs) v kind p d) r
+          by (Ok x) reads g = reads ∙ g
+          by (Err f) reads g = refuses_along f q (p + suc (suc (places_of xs))) (last m.local_name place (start c) new) (xread (element n a s xs) v kind p d) (λ f i. (reads ∙ i, ap suc (law.last_place m.local_name place c new f i) ∙ ends)) g

@@ -26,14 +26,13 @@ use Rattle.cdx_leaf.specs.Rules.{passes, as_rule}
 use Rattle.cdx_leaf.proofs.ChildSteps.{stray_fails, text_passes, cdata_passes}
 use Rattle.cdx_machine.specs.declared.frame.Inside.{Inside}
 use Rattle.cdx_machine.specs.declared.frame.Inside.TheVariants.{Nothing, Read, Skipped}
-use Rattle.cdx_machine.specs.Begun.{Begun, innermost, around, Next, still, whole, count, levels, start_name, ended_now, into, next, Takes, lone}
+use Rattle.cdx_machine.specs.Begun.{Begun, innermost, around, Next, still, whole, count, levels, start_name, ended_now, into, next, TakesInside, Takes, lone}
 use Rattle.cdx_machine.specs.Contents.{First}
-use Rattle.cdx_machine.specs.Machines.{Refuses, IsQuiet, Steps, StepsRow, StepsChild, ChildHolding}
-use Rattle.cdx_machine.specs.Frames.{Last, read_so_far, IsForm, IsOpen, Stays, holds_inside, frame_holds, EntersAt, Skips, SkipsOne}
+use Rattle.cdx_machine.specs.Machines.{Refuses, IsQuiet, Proceeds, Yields, StepsRow, StepsChild, ChildHolding}
+use Rattle.cdx_machine.specs.Frames.{Last, read_so_far, IsForm, IsOpen, Stays, holds_inside, EntersAt, FeedsChild, skipped}
 use Rattle.cdx_machine.proofs.Places.{one_on, places_more, count_below}
 use Rattle.cdx_machine.proofs.Faults.{refuses_along, refuses_on, refuses_known, quiet_at}
-use Rattle.cdx_machine.proofs.Contents.{ended_with}
-use Rattle.cdx_machine.proofs.Frames.{IsNamed, ended_named, Keeps, keeps_name, skips_next, row_read, level_less}
+use Rattle.cdx_machine.proofs.Frames.{IsNamed, ended_named, Keeps, keeps_name, Skips, skips_next, row_read, level_less}
 
 module _ (denotes : Node → SpecVersion → ℕ → Depth → Result Tree XmlReadError) (plan : Plan) (first : First) (last : Last) (law : IsForm denotes plan first last) where
   module _ (n : OwnedName) (a : List OwnedAttribute) (s : Namespace) (xs : Nodes) (v : SpecVersion) (p : ℕ) (d : Depth) where
@@ -101,9 +100,9 @@ module _ (denotes : Node → SpecVersion → ℕ → Depth → Result Tree XmlRe
     skipped_read k m i f g =
         more_node n a s xs v p d ts k h ∙ (named_read k m n.local_name v d (suc p + places_of xs) ts i ∙ (ap (λ o. child_read o plan.rule (xread k) n.local_name v d (suc p + places_of xs) ts) f ∙ g n.local_name (suc p + places_of xs) ts))
 
-  module _ {R C X : Type 0} (holds : ChildHolding C) (slots : R → Trees) (view : X → Tree) (v : SpecVersion) (p : ℕ) (d : Depth) (name : OwnedName) (known : SpecVersion) where
-    abbrev pub Stepped : (Begun → Type 0) → Next → Result (Option X) XmlReadError → Type 0
-    Stepped held o r = Steps held view (λ k. denotes k v p d) p o r
+  module _ {R C : Type 0} (holds : ChildHolding C) (slots : R → Trees) (kept : Type 0) (v : SpecVersion) (p : ℕ) (d : Depth) (name : List ℕ) (known : SpecVersion) where
+    abbrev pub Stepped : (Begun → Type 0) → Next → Result Bool XmlReadError → Type 0
+    Stepped held o r = Proceeds held kept (λ k. denotes k v p d) p o r
 
     -- Nothing is open.
     module _ (r : R) where
@@ -112,7 +111,7 @@ module _ (denotes : Node → SpecVersion → ℕ → Depth → Result Tree XmlRe
 
       -- a child's start
       pub own_enters : (o : Begun) (place : ℕ) (m : OwnedName) (b : List OwnedAttribute) (z : Namespace) (inside : Inside C) → Own o → place ≡ p + count o → EntersAt holds plan (slots r) known name place d (innermost m b z no_nodes) (Ok inside)
-          → Stepped (λ o. frame_holds holds first plan slots name known (Some r) inside v p d o) (next o (StartElement m b z)) (Ok None)
+          → Stepped (λ o. holds_inside holds first plan name known (slots r) inside v p d o) (next o (StartElement m b z)) (Ok false)
       own_enters (around n a s xs o) place m b z inside h is e = absurd h
       own_enters (innermost n a s xs) place m b z inside h is e =
           by inside (subst (λ (q : ℕ). EntersAt holds plan (slots r) v name q d (innermost m b z no_nodes) (Ok inside)) (is ∙ moved (places_of xs)) (subst (λ (w : SpecVersion). EntersAt holds plan (slots r) w name place d (innermost m b z no_nodes) (Ok inside)) h.version_is e))
@@ -120,7 +119,7 @@ module _ (denotes : Node → SpecVersion → ℕ → Depth → Result Tree XmlRe
           moved : (k : ℕ) → p + suc k ≡ suc p + k
           moved k = omega arith
 
-          by : (inside : Inside C) → EntersAt holds plan (slots r) v name (suc p + places_of xs) d (innermost m b z no_nodes) (Ok inside) → Stepped (λ o. frame_holds holds first plan slots name known (Some r) inside v p d o) (still (around n a s xs (innermost m b z no_nodes))) (Ok None)
+          by : (inside : Inside C) → EntersAt holds plan (slots r) v name (suc p + places_of xs) d (innermost m b z no_nodes) (Ok inside) → Stepped (λ o. holds_inside holds first plan name known (slots r) inside v p d o) (still (around n a s xs (innermost m b z no_nodes))) (Ok false)
           by Nothing e = absurd e
           by (Read c) e = ((h, e.is_open), open_quiet n a s xs v p d (slots r) h.reads (innermost m b z no_nodes) m e.is_open.row (b, z, no_nodes, refl) e.is_open.found e.is_open.first_one e.quiet)
           by (Skipped k) e = ((h, e), quiet_around n a s xs v p d (innermost m b z no_nodes) (slots r) (skipped_read n a s xs v p d (slots r) h.reads (element m b z no_nodes) m (b, z, no_nodes, refl) e.not_found e.passed))
@@ -133,8 +132,8 @@ module _ (denotes : Node → SpecVersion → ℕ → Depth → Result Tree XmlRe
           (λ g i. whole_fails n a s (xs ⊕ lone (element m b z no_nodes)) v p d g
           (more_node n a s xs v p d (slots r) (element m b z no_nodes) h.reads
           ∙ (ap (λ q. child_read (find_child v m.local_name plan.children) plan.rule (xread (element m b z no_nodes)) n.local_name v d q (slots r)) (sym (is ∙ moved (places_of xs)))
-          ∙ (ap (λ (y : OwnedName). child_read (find_child v m.local_name plan.children) plan.rule (xread (element m b z no_nodes)) y.local_name v d place (slots r)) (sym h.name_is)
-          ∙ (ap (λ (w : SpecVersion). child_read (find_child w m.local_name plan.children) plan.rule (xread (element m b z no_nodes)) name.local_name w d place (slots r)) (sym h.version_is) ∙ i)))))
+          ∙ (ap (λ el. child_read (find_child v m.local_name plan.children) plan.rule (xread (element m b z no_nodes)) el v d place (slots r)) (sym h.name_is)
+          ∙ (ap (λ (w : SpecVersion). child_read (find_child w m.local_name plan.children) plan.rule (xread (element m b z no_nodes)) name w d place (slots r)) (sym h.version_is) ∙ i)))))
           (ends (places_of xs) is) e
         where
           moved : (k : ℕ) → p + suc k ≡ suc p + k
@@ -143,27 +142,9 @@ module _ (denotes : Node → SpecVersion → ℕ → Depth → Result Tree XmlRe
           ends : (k : ℕ) → place ≡ p + suc k → suc place ≡ p + suc (k + 1)
           ends k e = omega (arith, e)
 
-      -- the element's own end
-      pub own_ends : (held : Begun → Type 0) (o : Begun) (place : ℕ) (m : OwnedName) (q : ℕ) (x : Result X XmlReadError) → Own o → place ≡ p + count o → Gives view q (last name.local_name known place (slots r)) x → Stepped held (next o (EndElement m)) (ended_with x)
-      own_ends held (around n a s xs o) place m q x h is g = absurd h
-      own_ends held (innermost n a s xs) place m q x h is g = by x g
-        where
-          moved : (k : ℕ) → p + suc k ≡ suc (p + k)
-          moved k = omega arith
-
-          ends : (k : ℕ) → place ≡ p + suc k → suc place ≡ p + suc (suc k)
-          ends k e = omega (arith, e)
-
-          same : denotes (element n a s xs) v p d ≡ last name.local_name known place (slots r)
-          same = whole_read n a s xs v p d (slots r) h.reads ∙ (ap (λ q. last n.local_name v q (slots r)) (sym (is ∙ moved (places_of xs))) ∙ (ap (λ (y : OwnedName). last y.local_name v place (slots r)) (sym h.name_is) ∙ ap (λ (w : SpecVersion). last name.local_name w place (slots r)) (sym h.version_is)))
-
-          by : (x : Result X XmlReadError) → Gives view q (last name.local_name known place (slots r)) x → Stepped held (whole (element n a s xs)) (ended_with x)
-          by (Ok y) g = same ∙ g
-          by (Err f) g = refuses_along f q (p + suc (suc (places_of xs))) (last name.local_name known place (slots r)) _ (λ e i. (same ∙ i, ap suc (law.last_place name.local_name known place (slots r) e i) ∙ ends (places_of xs) is)) g
-
       -- a text
       pub own_text : (inside : Inside C) (rule : Rule) (o : Begun) (place : ℕ) (event : XmlEvent) → Own o → Takes o event → plan.rule ≡ as_rule rule → passes rule ≡ true → ((m : OwnedName) (b : List OwnedAttribute) (z : Namespace) → event ≡ StartElement m b z → ⊥) → ((m : OwnedName) → event ≡ EndElement m → ⊥)
-          → inside ≡ Nothing → Stepped (λ o. frame_holds holds first plan slots name known (Some r) inside v p d o) (next o event) (Ok None)
+          → inside ≡ Nothing → Stepped (λ o. holds_inside holds first plan name known (slots r) inside v p d o) (next o event) (Ok false)
       own_text inside rule (around n a s xs o) place event h t is does i j e = absurd h
       own_text inside rule (innermost n a s xs) place StartDocument h t is does i j e = absurd t
       own_text inside rule (innermost n a s xs) place EndDocument h t is does i j e = absurd t
@@ -176,14 +157,14 @@ module _ (denotes : Node → SpecVersion → ℕ → Depth → Result Tree XmlRe
           let again : read_so_far first plan n.local_name a v d p (xs ⊕ lone (cdata u)) ≡ Ok (slots r) = more_node n a s xs v p d (slots r) (cdata u) h.reads ∙ cdata_passes plan v d n.local_name rule u (suc p + places_of xs) (slots r) is does in
           (subst (λ (x : Inside C). holds_inside holds first plan name known (slots r) x v p d (innermost n a s (xs ⊕ lone (cdata u)))) (sym e) (record { name_is = h.name_is; version_is = h.version_is; reads = again }), quiet_inside n a s (xs ⊕ lone (cdata u)) v p d (slots r) again)
 
-      text_refused : (held : Begun → Type 0) (n : OwnedName) (a : List OwnedAttribute) (s : Namespace) (xs : Nodes) (place : ℕ) (k : Node) (rule : Rule) (x : Result (Option X) XmlReadError) → Stays first plan name known (slots r) v p d n a xs → place ≡ p + suc (places_of xs) → plan.rule ≡ as_rule rule → passes rule ≡ false
-          → ((m : OwnedName) (b : List OwnedAttribute) (z : Namespace) (ys : Nodes) → k ≡ element m b z ys → ⊥) → places k ≡ 1 → Refused x (unexpected place name.local_name (kind_of_node k)) → Stepped held (still (innermost n a s (xs ⊕ lone k))) x
+      text_refused : (held : Begun → Type 0) (n : OwnedName) (a : List OwnedAttribute) (s : Namespace) (xs : Nodes) (place : ℕ) (k : Node) (rule : Rule) (x : Result Bool XmlReadError) → Stays first plan name known (slots r) v p d n a xs → place ≡ p + suc (places_of xs) → plan.rule ≡ as_rule rule → passes rule ≡ false
+          → ((m : OwnedName) (b : List OwnedAttribute) (z : Namespace) (ys : Nodes) → k ≡ element m b z ys → ⊥) → places k ≡ 1 → Refused x (unexpected place name (kind_of_node k)) → Stepped held (still (innermost n a s (xs ⊕ lone k))) x
       text_refused held n a s xs place k rule (Ok y) h is ru not other one e = absurd e
       text_refused held n a s xs place k rule (Err f) h is ru not other one e =
-          refuses_known (Option X) f (unexpected place name.local_name (kind_of_node k)) (p + suc (places_of (xs ⊕ lone k))) _ e
-          (whole_fails n a s (xs ⊕ lone k) v p d (unexpected place name.local_name (kind_of_node k))
+          refuses_known Bool f (unexpected place name (kind_of_node k)) (p + suc (places_of (xs ⊕ lone k))) _ e
+          (whole_fails n a s (xs ⊕ lone k) v p d (unexpected place name (kind_of_node k))
           (more_node n a s xs v p d (slots r) k h.reads ∙ (stray_fails plan v d n.local_name rule k (suc p + places_of xs) (slots r) ru not other
-          ∙ (ap (λ q. Err (unexpected q n.local_name (kind_of_node k))) (sym (is ∙ moved (places_of xs))) ∙ ap (λ (y : OwnedName). Err (unexpected place y.local_name (kind_of_node k))) (sym h.name_is)))))
+          ∙ (ap (λ q. Err (unexpected q n.local_name (kind_of_node k))) (sym (is ∙ moved (places_of xs))) ∙ ap (λ el. Err (unexpected place el (kind_of_node k))) (sym h.name_is)))))
           (ends (places_of xs) (places_of (xs ⊕ lone k)) is (places_more xs k) one)
         where
           moved : (k : ℕ) → p + suc k ≡ suc p + k
@@ -192,8 +173,8 @@ module _ (denotes : Node → SpecVersion → ℕ → Depth → Result Tree XmlRe
           ends : (i j : ℕ) → place ≡ p + suc i → j ≡ i + places k → places k ≡ 1 → suc place ≡ p + suc j
           ends i j e f g = omega (arith, e, f, g)
 
-      pub own_text_fails : (held : Begun → Type 0) (rule : Rule) (o : Begun) (place : ℕ) (event : XmlEvent) (x : Result (Option X) XmlReadError) → Own o → place ≡ p + count o → Takes o event → plan.rule ≡ as_rule rule → passes rule ≡ false → ((m : OwnedName) (b : List OwnedAttribute) (z : Namespace) → event ≡ StartElement m b z → ⊥)
-          → ((m : OwnedName) → event ≡ EndElement m → ⊥) → Refused x (unexpected place name.local_name (kind_of event)) → Stepped held (next o event) x
+      pub own_text_fails : (held : Begun → Type 0) (rule : Rule) (o : Begun) (place : ℕ) (event : XmlEvent) (x : Result Bool XmlReadError) → Own o → place ≡ p + count o → Takes o event → plan.rule ≡ as_rule rule → passes rule ≡ false → ((m : OwnedName) (b : List OwnedAttribute) (z : Namespace) → event ≡ StartElement m b z → ⊥)
+          → ((m : OwnedName) → event ≡ EndElement m → ⊥) → Refused x (unexpected place name (kind_of event)) → Stepped held (next o event) x
       own_text_fails held rule (around n a s xs o) place event x h is t ru not i j e = absurd h
       own_text_fails held rule (innermost n a s xs) place StartDocument x h is t ru not i j e = absurd t
       own_text_fails held rule (innermost n a s xs) place EndDocument x h is t ru not i j e = absurd t
@@ -204,23 +185,20 @@ module _ (denotes : Node → SpecVersion → ℕ → Depth → Result Tree XmlRe
 
       -- the same by the event
       pub own_enters_by : (o : Begun) (place : ℕ) (event : XmlEvent) (m : OwnedName) (b : List OwnedAttribute) (z : Namespace) (inside : Inside C) → event ≡ StartElement m b z → Own o → place ≡ p + count o → EntersAt holds plan (slots r) known name place d (innermost m b z no_nodes) (Ok inside)
-          → Stepped (λ o. frame_holds holds first plan slots name known (Some r) inside v p d o) (next o event) (Ok None)
+          → Stepped (λ o. holds_inside holds first plan name known (slots r) inside v p d o) (next o event) (Ok false)
       own_enters_by o place event m b z inside e h is en =
-          subst (λ (x : XmlEvent). EntersAt holds plan (slots r) known name place d (innermost m b z no_nodes) (Ok inside) → Stepped (λ o. frame_holds holds first plan slots name known (Some r) inside v p d o) (next o x) (Ok None)) (sym e) (own_enters o place m b z inside h is) en
+          subst (λ (x : XmlEvent). EntersAt holds plan (slots r) known name place d (innermost m b z no_nodes) (Ok inside) → Stepped (λ o. holds_inside holds first plan name known (slots r) inside v p d o) (next o x) (Ok false)) (sym e) (own_enters o place m b z inside h is) en
 
       pub own_start_fails_by : (held : Begun → Type 0) (o : Begun) (place : ℕ) (event : XmlEvent) (m : OwnedName) (b : List OwnedAttribute) (z : Namespace) (f : XmlReadError) → event ≡ StartElement m b z → Own o → place ≡ p + count o → EntersAt holds plan (slots r) known name place d (innermost m b z no_nodes) (Err f)
           → Stepped held (next o event) (Err f)
       own_start_fails_by held o place event m b z f e h is en =
           subst (λ (x : XmlEvent). EntersAt holds plan (slots r) known name place d (innermost m b z no_nodes) (Err f) → Stepped held (next o x) (Err f)) (sym e) (own_start_fails held o place m b z f h is) en
 
-      pub own_ends_by : (held : Begun → Type 0) (o : Begun) (place : ℕ) (event : XmlEvent) (m : OwnedName) (q : ℕ) (x : Result X XmlReadError) → event ≡ EndElement m → Own o → place ≡ p + count o → Gives view q (last name.local_name known place (slots r)) x → Stepped held (next o event) (ended_with x)
-      own_ends_by held o place event m q x e h is g = subst (λ (y : XmlEvent). Stepped held (next o y) (ended_with x)) (sym e) (own_ends held o place m q x h is g)
-
     -- A child is open.
     module _ (r r' : R) (c c' : C) where
       -- it stays open
       pub child_goes_on : (o : Begun) (place : ℕ) (event : XmlEvent) (b : Bool) → b ≡ false → holds_inside holds first plan name known (slots r) (Read c) v p d o → place ≡ p + count o → Takes o event → StepsChild holds (slots r) (slots r') c c' place event (Ok b)
-          → Stepped (λ o. frame_holds holds first plan slots name known (Some r') (Read c') v p d o) (next o event) (Ok None)
+          → Stepped (λ o. holds_inside holds first plan name known (slots r') (Read c') v p d o) (next o event) (Ok false)
       child_goes_on (innermost n a s xs) place event b nay h is t e = absurd h
       child_goes_on (around n a s xs o) place event true nay h is t e = absurd (let wrong : true ≡ false = nay in cc)
       child_goes_on (around n a s xs o) place event false nay (h, i) is t e =
@@ -230,7 +208,7 @@ module _ (denotes : Node → SpecVersion → ℕ → Depth → Result Tree XmlRe
           moved j k = omega arith
 
           by : (x : Next) → Keeps (start_name o) x → StepsRow (λ o. holds c' i.row v (suc p + places_of xs) d o) i.row (λ k. xread k v i.row.kind (suc p + places_of xs) d) (suc p + places_of xs) (slots r) (slots r') x (Ok false)
-              → Stepped (λ o. frame_holds holds first plan slots name known (Some r') (Read c') v p d o) (into n a s xs x) (Ok None)
+              → Stepped (λ o. holds_inside holds first plan name known (slots r') (Read c') v p d o) (into n a s xs x) (Ok false)
           by (whole k) w e = absurd e
           by (still o') w (held, quiet, same) =
               let found : find_child v (start_name o').local_name plan.children ≡ Some i.row = ap (λ (y : OwnedName). find_child v y.local_name plan.children) w ∙ i.found in (
@@ -240,7 +218,7 @@ module _ (denotes : Node → SpecVersion → ℕ → Depth → Result Tree XmlRe
 
       -- it ends
       pub child_ends : (o : Begun) (place : ℕ) (event : XmlEvent) (b : Bool) → b ≡ true → holds_inside holds first plan name known (slots r) (Read c) v p d o → place ≡ p + count o → Takes o event → StepsChild holds (slots r) (slots r') c c' place event (Ok b)
-          → Stepped (λ o. frame_holds holds first plan slots name known (Some r') Nothing v p d o) (next o event) (Ok None)
+          → Stepped (λ o. holds_inside holds first plan name known (slots r') Nothing v p d o) (next o event) (Ok false)
       child_ends (innermost n a s xs) place event b yea h is t e = absurd h
       child_ends (around n a s xs o) place event false yea h is t e = absurd (let wrong : false ≡ true = yea in cc)
       child_ends (around n a s xs o) place event true yea (h, i) is t e =
@@ -250,7 +228,7 @@ module _ (denotes : Node → SpecVersion → ℕ → Depth → Result Tree XmlRe
           moved j k = omega arith
 
           by : (x : Next) → Keeps (start_name o) x → StepsRow (λ o. holds c' i.row v (suc p + places_of xs) d o) i.row (λ k. xread k v i.row.kind (suc p + places_of xs) d) (suc p + places_of xs) (slots r) (slots r') x (Ok true)
-              → Stepped (λ o. frame_holds holds first plan slots name known (Some r') Nothing v p d o) (into n a s xs x) (Ok None)
+              → Stepped (λ o. holds_inside holds first plan name known (slots r') Nothing v p d o) (into n a s xs x) (Ok false)
           by (still o') w e = absurd e
           by (whole k) w (u, reads, same) =
               let again : read_so_far first plan n.local_name a v d p (xs ⊕ lone k) ≡ Ok (slots r') = open_ok n a s xs v p d (slots r) h.reads k (start_name o) i.row u w i.found i.first_one reads ∙ ap (λ (ts : Trees). Ok ts) (sym same) in
@@ -278,29 +256,30 @@ module _ (denotes : Node → SpecVersion → ℕ → Depth → Result Tree XmlRe
             (λ g is. open_fails n a s xs v p d ts h.reads k (start_name o) i.row g w i.found i.first_one is)
             (ends (places_of xs) (places k) (places_of (xs ⊕ lone k)) (places_more xs k)) e
 
-    -- A child is skipped.
-    module _ (r : R) (depth depth' : ℕ) where
-      pub skip_goes_on : (o : Begun) (event : XmlEvent) (b : Bool) → b ≡ false → holds_inside holds first plan name known (slots r) (Skipped depth) v p d o → Takes o event → SkipsOne depth depth' event b
-          → Stepped (λ o. frame_holds holds first plan slots name known (Some r) (Skipped depth') v p d o) (next o event) (Ok None)
-      skip_goes_on (innermost n a s xs) event b nay h t e = absurd h
-      skip_goes_on (around n a s xs o) event b nay (h, i) t e = by (next o event) (keeps_name o event) (skips_next o event depth depth' b t i.depth_is e)
-        where
-          by : (x : Next) → Keeps (start_name o) x → Skips depth depth' x b → Stepped (λ o. frame_holds holds first plan slots name known (Some r) (Skipped depth') v p d o) (into n a s xs x) (Ok None)
-          by (whole k) w e = absurd (let wrong : true ≡ false = sym e ∙ nay in cc)
-          by (still o') w e =
-              let unknown : find_child v (start_name o').local_name plan.children ≡ None = ap (λ (y : OwnedName). find_child v y.local_name plan.children) w ∙ i.not_found in
-              ((h, record { not_found = unknown; passed = i.passed; depth_is = e.1 }), quiet_around n a s xs v p d o' (slots r) (skipped_read n a s xs v p d (slots r) h.reads (ended_now o') (start_name o') (ended_named o') unknown i.passed))
+    -- An open child took an event.
+    pub child_fed : (r r' : R) (c : C) (inside : Inside C) (o : Begun) (place : ℕ) (event : XmlEvent) → holds_inside holds first plan name known (slots r) (Read c) v p d o → place ≡ p + count o → Takes o event → FeedsChild holds (slots r) (slots r') c place event (Ok inside)
+        → Stepped (λ o. holds_inside holds first plan name known (slots r') inside v p d o) (next o event) (Ok false)
+    child_fed r r' c Nothing o place event h is t e = child_ends r r' c c o place event true refl h is t e
+    child_fed r r' c (Read c') o place event h is t e = child_goes_on r r' c c' o place event false refl h is t e
+    child_fed r r' c (Skipped depth) o place event h is t e = absurd e
 
-      pub skip_ends : (o : Begun) (event : XmlEvent) (b : Bool) → b ≡ true → holds_inside holds first plan name known (slots r) (Skipped depth) v p d o → Takes o event → SkipsOne depth depth' event b
-          → Stepped (λ o. frame_holds holds first plan slots name known (Some r) Nothing v p d o) (next o event) (Ok None)
-      skip_ends (innermost n a s xs) event b yea h t e = absurd h
-      skip_ends (around n a s xs o) event b yea (h, i) t e = by (next o event) (keeps_name o event) (skips_next o event depth depth' b t i.depth_is e)
-        where
-          by : (x : Next) → Keeps (start_name o) x → Skips depth depth' x b → Stepped (λ o. frame_holds holds first plan slots name known (Some r) Nothing v p d o) (into n a s xs x) (Ok None)
-          by (still o') w e = absurd (let wrong : false ≡ true = sym e.0 ∙ yea in cc)
-          by (whole k) w e =
-              let again : read_so_far first plan n.local_name a v d p (xs ⊕ lone k) ≡ Ok (slots r) = skipped_read n a s xs v p d (slots r) h.reads k (start_name o) w i.not_found i.passed in
-              (record { name_is = h.name_is; version_is = h.version_is; reads = again }, quiet_inside n a s (xs ⊕ lone k) v p d (slots r) again)
+    -- A child is skipped.
+    pub child_skipped : (ts : Trees) (depth : ℕ) (o : Begun) (event : XmlEvent) → holds_inside holds first plan name known ts (Skipped depth) v p d o → Takes o event → Stepped (λ o. holds_inside holds first plan name known ts (skipped depth event) v p d o) (next o event) (Ok false)
+    child_skipped ts depth (innermost n a s xs) event h t = absurd h
+    child_skipped ts depth (around n a s xs o) event (h, i) t =
+        by (next o event) (keeps_name o event) (subst (λ k. Skips C (next o event) (skipped k event)) i.depth_is (skips_next C o event t))
+      where
+        by : (x : Next) → Keeps (start_name o) x → Skips C x (skipped depth event) → Stepped (λ o. holds_inside holds first plan name known ts (skipped depth event) v p d o) (into n a s xs x) (Ok false)
+        by (still o') w e =
+            let unknown : find_child v (start_name o').local_name plan.children ≡ None = ap (λ (y : OwnedName). find_child v y.local_name plan.children) w ∙ i.not_found in (
+              subst (λ (x : Inside C). holds_inside holds first plan name known ts x v p d (around n a s xs o')) (sym e) (h, record { not_found = unknown; passed = i.passed; depth_is = refl }),
+              quiet_around n a s xs v p d o' ts (skipped_read n a s xs v p d ts h.reads (ended_now o') (start_name o') (ended_named o') unknown i.passed),
+            )
+        by (whole k) w e =
+            let again : read_so_far first plan n.local_name a v d p (xs ⊕ lone k) ≡ Ok ts = skipped_read n a s xs v p d ts h.reads k (start_name o) w i.not_found i.passed in (
+              subst (λ (x : Inside C). holds_inside holds first plan name known ts x v p d (innermost n a s (xs ⊕ lone k))) (sym e) (record { name_is = h.name_is; version_is = h.version_is; reads = again }),
+              quiet_inside n a s (xs ⊕ lone k) v p d ts again,
+            )
 
     -- a place after all the levels of a skipped child
     pub skip_fits : (ts : Trees) (depth place : ℕ) (o : Begun) → holds_inside holds first plan name known ts (Skipped depth) v p d o → place ≡ p + count o → suc depth ≤ place
@@ -310,14 +289,49 @@ module _ (denotes : Node → SpecVersion → ℕ → Depth → Result Tree XmlRe
         fits : (l k j : ℕ) → l ≤ k → l ≡ depth → place ≡ p + suc (j + k) → suc depth ≤ place
         fits l k j e f g = omega (arith, e, f, g)
 
-    -- what is held of a part that is there
-    pub part_is : (part : Option R) (inside : Inside C) (r : R) (x : Inside C) (o : Begun) → frame_holds holds first plan slots name known part inside v p d o → part ≡ Some r → inside ≡ x → holds_inside holds first plan name known (slots r) x v p d o
-    part_is part inside r x o h e f =
-        subst (λ (y : Inside C). holds_inside holds first plan name known (slots r) y v p d o) f (subst (λ (q : Option R). frame_holds holds first plan slots name known q inside v p d o) e h)
+    -- what stands open
+    pub inside_is : (ts : Trees) (inside x : Inside C) (o : Begun) → holds_inside holds first plan name known ts inside v p d o → inside ≡ x → holds_inside holds first plan name known ts x v p d o
+    inside_is ts inside x o h e = subst (λ (y : Inside C). holds_inside holds first plan name known ts y v p d o) e h
+
+    -- the element's end
+    pub own_end : (held : Begun → Type 0) (ts : Trees) (o : Begun) (event : XmlEvent) (m : OwnedName) → event ≡ EndElement m → holds_inside holds first plan name known ts Nothing v p d o → kept → Stepped held (next o event) (Ok true)
+    own_end held ts (around n a s xs o) event m e h k = absurd h
+    own_end held ts (innermost n a s xs) event m e h k = subst (λ (x : XmlEvent). Stepped held (next (innermost n a s xs) x) (Ok true)) (sym e) k
+
+    -- what the element is read as
+    module _ {X : Type 0} (view : X → Tree) (ts : Trees) (place q : ℕ) (x : Result X XmlReadError) where
+      own_yields : (n m : OwnedName) (a : List OwnedAttribute) (s : Namespace) (xs : Nodes) → Stays first plan name known ts v p d n a xs → place ≡ p + suc (places_of xs) → n ≡ m → Gives view q (last m.local_name known place ts) x → Yields view (p + suc (suc (places_of xs))) (denotes (element n a s xs) v p d) x
+      own_yields n m a s xs h is same g = by x g
+        where
+          moved : (k : ℕ) → p + suc k ≡ suc (p + k)
+          moved k = omega arith
+
+          ends : (k : ℕ) → place ≡ p + suc k → suc place ≡ p + suc (suc k)
+          ends k e = omega (arith, e)
+
+          read : denotes (element n a s xs) v p d ≡ last m.local_name known place ts
+          read = whole_read n a s xs v p d ts h.reads ∙ (ap (λ q. last n.local_name v q ts) (sym (is ∙ moved (places_of xs))) ∙ (ap (λ (y : OwnedName). last y.local_name v place ts) same ∙ ap (λ (w : SpecVersion). last m.local_name w place ts) (sym h.version_is)))
+
+          by : (x : Result X XmlReadError) → Gives view q (last m.local_name known place ts) x → Yields view (p + suc (suc (places_of xs))) (denotes (element n a s xs) v p d) x
+          by (Ok y) g = read ∙ g
+          by (Err f) g = refuses_along f q (p + suc (suc (places_of xs))) (last m.local_name known place ts) _ (λ e i. (read ∙ i, ap suc (law.last_place m.local_name known place ts e i) ∙ ends (places_of xs) is)) g
+
+      pub frame_yields : (inside : Inside C) (o : Begun) (event : XmlEvent) (m : OwnedName) (k : Node) → holds_inside holds first plan name known ts inside v p d o → place ≡ p + count o → event ≡ EndElement m → Takes o event → next o event ≡ whole k → Gives view q (last m.local_name known place ts) x → Yields view (p + places k) (denotes k v p d) x
+      frame_yields inside (around n a s xs o) event m k h is e t w g = absurd (never_whole (next o event) w)
+        where
+          never_whole : (y : Next) → into n a s xs y ≡ whole k → ⊥
+          never_whole (still z) i = cc
+          never_whole (whole z) i = cc
+      frame_yields Nothing (innermost n a s xs) event m k h is e t w g =
+          let ended : next (innermost n a s xs) (EndElement m) ≡ whole k = ap (next (innermost n a s xs)) (sym e) ∙ w in
+          let k_is : element n a s xs ≡ k = cc in
+          subst (λ (y : Node). Yields view (p + places y) (denotes y v p d) x) k_is (own_yields n m a s xs h is (subst (λ (y : XmlEvent). TakesInside n y) e t) g)
+      frame_yields (Read c) (innermost n a s xs) event m k h is e t w g = absurd h
+      frame_yields (Skipped depth) (innermost n a s xs) event m k h is e t w g = absurd h
 
   -- an element's start
   pub frame_opens : {R C : Type 0} (holds : ChildHolding C) (slots : R → Trees) (r : R) (n : OwnedName) (a : List OwnedAttribute) (s : Namespace) (v : SpecVersion) (p : ℕ) (d : Depth) → first n.local_name a v p ≡ Ok (slots r)
-      → holds_inside holds first plan n v (slots r) Nothing v p d (innermost n a s no_nodes) × IsQuiet (p + 1) (denotes (element n a s no_nodes) v p d)
+      → holds_inside holds first plan n.local_name v (slots r) Nothing v p d (innermost n a s no_nodes) × IsQuiet (p + 1) (denotes (element n a s no_nodes) v p d)
   unfolding xread
   frame_opens holds slots r n a s v p d h =
       let again : read_so_far first plan n.local_name a v d p no_nodes ≡ Ok (slots r) = ap (λ r. r >>= λ ts. nodes_read no_nodes plan n.local_name v d (suc p) ts) h in

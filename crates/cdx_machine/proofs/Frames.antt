@@ -1,5 +1,5 @@
 -- Elements that are read child by child, event by event.
-use Rattle.std.proofs.Common.{◌≡◌, ℕ, zero, suc, ◌+◌, ◌≤◌, List, Bool, true, false, Option, Some, None, Result, Ok, Err, refl, sym, ap, ◌∙◌, arith}
+use Rattle.std.proofs.Common.{◌≡◌, ℕ, zero, suc, ◌+◌, ◌≤◌, List, Bool, true, false, Option, Some, None, Result, Ok, Err, refl, sym, ap, ◌∙◌, subst, arith}
 use Rattle.std.specs.Prelude.{if◌then◌else◌}
 use Rattle.cdx_events.specs.declared.name.OwnedName.{OwnedName}
 use Rattle.cdx_events.specs.declared.name.OwnedAttribute.{OwnedAttribute}
@@ -21,9 +21,10 @@ use Rattle.cdx_leaf.specs.declared.rule.Rule.{Rule}
 use Rattle.cdx_leaf.specs.Fault.{Refused}
 use Rattle.cdx_leaf.specs.Rules.{skips, as_rule}
 use Rattle.cdx_machine.specs.declared.frame.Inside.{Inside}
+use Rattle.cdx_machine.specs.declared.frame.Inside.TheVariants.{Nothing, Read, Skipped}
 use Rattle.cdx_machine.specs.Begun.{Begun, innermost, around, Next, still, whole, count, levels, start_name, ended_now, into, next_inside, next, TakesInside, Takes, lone}
 use Rattle.cdx_machine.specs.Machines.{Refuses, ChildHolding}
-use Rattle.cdx_machine.specs.Frames.{IsSkipped, EntersAt, Skips, SkipsOne}
+use Rattle.cdx_machine.specs.Frames.{IsSkipped, EntersAt, skipped}
 use Rattle.cdx_machine.proofs.Names.{FindsAt, FindsSecond}
 use Rattle.cdx_machine.proofs.Faults.{refuses_on, refuses_known}
 
@@ -59,42 +60,46 @@ keeps_name (around n a s xs o) event = keeps_into n a s xs (next o event)
 
 -- ---- levels
 
-skips_inside : (n : OwnedName) (a : List OwnedAttribute) (s : Namespace) (xs : Nodes) (event : XmlEvent) (old new : ℕ) (b : Bool) → TakesInside n event → zero ≡ old → SkipsOne old new event b → Skips old new (next_inside n a s xs event) b
-skips_inside n a s xs StartDocument old new b t e h = absurd t
-skips_inside n a s xs EndDocument old new b t e h = absurd t
-skips_inside n a s xs (StartElement m c r) old new b t e h = (h.0, ap suc e ∙ sym h.1)
-skips_inside n a s xs (EndElement m) zero new b t e h = h
-skips_inside n a s xs (EndElement m) (suc k) new b t e h = absurd (omega (arith, e))
-skips_inside n a s xs (Characters u) old new b t e h = (h.0, e ∙ sym h.1)
-skips_inside n a s xs (CData u) old new b t e h = (h.0, e ∙ sym h.1)
+module _ (C : Type 0) where
+  -- What is open agrees with what stands open in the element.
+  abbrev pub Skips : Next → Inside C → Type 0
+  Skips (still o) inside = inside ≡ Skipped (levels o)
+  Skips (whole k) inside = inside ≡ Nothing
+
+  skips_inside : (n : OwnedName) (a : List OwnedAttribute) (s : Namespace) (xs : Nodes) (event : XmlEvent) → TakesInside n event → Skips (next_inside n a s xs event) (skipped {C = C} zero event)
+  skips_inside n a s xs StartDocument t = absurd t
+  skips_inside n a s xs EndDocument t = absurd t
+  skips_inside n a s xs (StartElement m c r) t = refl
+  skips_inside n a s xs (EndElement m) t = refl
+  skips_inside n a s xs (Characters u) t = refl
+  skips_inside n a s xs (CData u) t = refl
+
+  -- one element more around it
+  abbrev within_one : Inside C → Inside C
+  within_one Nothing = Skipped zero
+  within_one (Read c) = Read c
+  within_one (Skipped k) = Skipped (suc k)
+
+  skipped_within : (k : ℕ) (event : XmlEvent) → within_one (skipped k event) ≡ skipped (suc k) event
+  skipped_within k StartDocument = refl
+  skipped_within k EndDocument = refl
+  skipped_within k (StartElement n a s) = refl
+  skipped_within zero (EndElement n) = refl
+  skipped_within (suc k) (EndElement n) = refl
+  skipped_within k (Characters t) = refl
+  skipped_within k (CData t) = refl
+
+  skips_into : (n : OwnedName) (a : List OwnedAttribute) (s : Namespace) (xs : Nodes) (o : Next) (inside : Inside C) → Skips o inside → Skips (into n a s xs o) (within_one inside)
+  skips_into n a s xs (still o) inside h = ap within_one h
+  skips_into n a s xs (whole k) inside h = ap within_one h
+
+  pub skips_next : (o : Begun) (event : XmlEvent) → Takes o event → Skips (next o event) (skipped {C = C} (levels o) event)
+  skips_next (innermost n a s xs) event t = skips_inside n a s xs event t
+  skips_next (around n a s xs o) event t = subst (λ (x : Inside C). Skips (into n a s xs (next o event)) x) (skipped_within (levels o) event) (skips_into n a s xs (next o event) (skipped (levels o) event) (skips_next o event t))
 
 pub level_less : (o : Begun) → levels o ≤ count o
 level_less (innermost n a s xs) = omega arith
 level_less (around n a s xs o) = let e : levels o ≤ count o = level_less o in omega (arith, e)
-
--- one level above
-lower : (k new : ℕ) (event : XmlEvent) (b : Bool) → SkipsOne (suc k) new event b → (new' : ℕ) × (c : Bool) × SkipsOne k new' event c × ((c ≡ true) → (b ≡ false) × (new ≡ zero)) × ((c ≡ false) → (b ≡ false) × (new ≡ suc new'))
-lower k new StartDocument b h = (k, false, (refl, refl), (λ e. absurd (let wrong : false ≡ true = e in cc)), (λ e. h))
-lower k new EndDocument b h = (k, false, (refl, refl), (λ e. absurd (let wrong : false ≡ true = e in cc)), (λ e. h))
-lower k new (StartElement n a s) b h = (suc k, false, (refl, refl), (λ e. absurd (let wrong : false ≡ true = e in cc)), (λ e. h))
-lower zero new (EndElement n) b h = (zero, true, refl, (λ e. h), (λ e. absurd (let wrong : true ≡ false = e in cc)))
-lower (suc j) new (EndElement n) b h = (j, false, (refl, refl), (λ e. absurd (let wrong : false ≡ true = e in cc)), (λ e. h))
-lower k new (Characters t) b h = (k, false, (refl, refl), (λ e. absurd (let wrong : false ≡ true = e in cc)), (λ e. h))
-lower k new (CData t) b h = (k, false, (refl, refl), (λ e. absurd (let wrong : false ≡ true = e in cc)), (λ e. h))
-
-skips_into : (n : OwnedName) (a : List OwnedAttribute) (s : Namespace) (xs : Nodes) (k new new' : ℕ) (b c : Bool) (o : Next) → ((c ≡ true) → (b ≡ false) × (new ≡ zero)) → ((c ≡ false) → (b ≡ false) × (new ≡ suc new')) → Skips k new' o c → Skips (suc k) new (into n a s xs o) b
-skips_into n a s xs k new new' b c (still o) f g h = let e : (b ≡ false) × (new ≡ suc new') = g h.0 in (e.0, ap suc h.1 ∙ sym e.1)
-skips_into n a s xs k new new' b c (whole x) f g h = let e : (b ≡ false) × (new ≡ zero) = f h in (e.0, sym e.1)
-
-pub skips_next : (o : Begun) (event : XmlEvent) (old new : ℕ) (b : Bool) → Takes o event → levels o ≡ old → SkipsOne old new event b → Skips old new (next o event) b
-skips_next (innermost n a s xs) event old new b t e h = skips_inside n a s xs event old new b t e h
-skips_next (around n a s xs o) event zero new b t e h = absurd (omega (arith, e))
-skips_next (around n a s xs o) event (suc k) new b t e h =
-    let x : (new' : ℕ) × (c : Bool) × SkipsOne k new' event c × ((c ≡ true) → (b ≡ false) × (new ≡ zero)) × ((c ≡ false) → (b ≡ false) × (new ≡ suc new')) = lower k new event b h in
-    skips_into n a s xs k new x.0 b x.1 (next o event) x.3 x.4 (skips_next o event k x.0 x.1 t (suc_same e) x.2)
-  where
-    suc_same : {i j : ℕ} → suc i ≡ suc j → i ≡ j
-    suc_same e = omega (arith, e)
 
 -- ---- a child's start
 
@@ -122,7 +127,7 @@ unknown_not Rattle.cdx_leaf.specs.declared.rule.Rule.TheVariants.Lax el q ts h =
 unknown_not Rattle.cdx_leaf.specs.declared.rule.Rule.TheVariants.Strict el q ts h = refl
 unknown_not Rattle.cdx_leaf.specs.declared.rule.Rule.TheVariants.Passing el q ts h = absurd (let wrong : true ≡ false = h in cc)
 
-module _ {C : Type 0} (holds : ChildHolding C) (plan : Plan) (ts : Trees) (v : SpecVersion) (n : OwnedName) (q : ℕ) (d : Depth) (m : OwnedName) (b : List OwnedAttribute) (s : Namespace) where
+module _ {C : Type 0} (holds : ChildHolding C) (plan : Plan) (ts : Trees) (v : SpecVersion) (n : List ℕ) (q : ℕ) (d : Depth) (m : OwnedName) (b : List OwnedAttribute) (s : Namespace) where
   abbrev Start : Begun
   Start = innermost m b s no_nodes
 
@@ -130,24 +135,24 @@ module _ {C : Type 0} (holds : ChildHolding C) (plan : Plan) (ts : Trees) (v : S
   pub enters_fault : (e : XmlReadError) (i : ℕ) (h : FindsAt plan.children ts v m.local_name i) → Refuses e (q + 1) (xread (element m b s no_nodes) v h.row.kind q d) → EntersAt holds plan ts v n q d (innermost m b s no_nodes) (Err e)
   enters_fault e i h refuses =
       refuses_on e (q + 1) (suc q) (xread (element m b s no_nodes) v h.row.kind q d) _
-      (λ f is. row_read (find_child v m.local_name plan.children) h.row plan.rule (xread (element m b s no_nodes)) n.local_name v d q ts h.found h.first_one ∙ ap (λ r. r >>= λ t. Ok (stored h.row.place h.row.field t ts)) is)
+      (λ f is. row_read (find_child v m.local_name plan.children) h.row plan.rule (xread (element m b s no_nodes)) n v d q ts h.found h.first_one ∙ ap (λ r. r >>= λ t. Ok (stored h.row.place h.row.field t ts)) is)
       (one_less q) refuses
     where
       one_less : (k : ℕ) → k + 1 ≡ suc k
       one_less k = omega arith
 
-  refused_here : (found : kinds.the_data) (r : Result (Inside C) XmlReadError) → child_read (find_child v m.local_name plan.children) plan.rule (xread (element m b s no_nodes)) n.local_name v d q ts ≡ Err (unexpected q n.local_name kinds.StartElement)
-      → found ≡ kinds.StartElement → Refused r (unexpected q n.local_name found) → EntersAt holds plan ts v n q d (innermost m b s no_nodes) r
+  refused_here : (found : kinds.the_data) (r : Result (Inside C) XmlReadError) → child_read (find_child v m.local_name plan.children) plan.rule (xread (element m b s no_nodes)) n v d q ts ≡ Err (unexpected q n kinds.StartElement)
+      → found ≡ kinds.StartElement → Refused r (unexpected q n found) → EntersAt holds plan ts v n q d (innermost m b s no_nodes) r
   refused_here found (Ok x) is k h = absurd h
-  refused_here found (Err e) is k h = refuses_known (Inside C) e (unexpected q n.local_name found) (suc q) _ h (is ∙ ap (λ x. Err (unexpected q n.local_name x)) (sym k)) refl
+  refused_here found (Err e) is k h = refuses_known (Inside C) e (unexpected q n found) (suc q) _ h (is ∙ ap (λ x. Err (unexpected q n x)) (sym k)) refl
 
-  pub enters_second : (found : kinds.the_data) (r : Result (Inside C) XmlReadError) → FindsSecond plan.children ts v m.local_name → found ≡ kinds.StartElement → Refused r (unexpected q n.local_name found) → EntersAt holds plan ts v n q d (innermost m b s no_nodes) r
-  enters_second found r h k x = refused_here found r (second_read (find_child v m.local_name plan.children) h.row plan.rule (xread (element m b s no_nodes)) n.local_name v d q ts h.found h.second_one) k x
+  pub enters_second : (found : kinds.the_data) (r : Result (Inside C) XmlReadError) → FindsSecond plan.children ts v m.local_name → found ≡ kinds.StartElement → Refused r (unexpected q n found) → EntersAt holds plan ts v n q d (innermost m b s no_nodes) r
+  enters_second found r h k x = refused_here found r (second_read (find_child v m.local_name plan.children) h.row plan.rule (xread (element m b s no_nodes)) n v d q ts h.found h.second_one) k x
 
-  pub enters_unknown : (found : kinds.the_data) (r : Result (Inside C) XmlReadError) (rule : Rule) → find_child v m.local_name plan.children ≡ None → plan.rule ≡ as_rule rule → skips rule ≡ false → found ≡ kinds.StartElement → Refused r (unexpected q n.local_name found)
+  pub enters_unknown : (found : kinds.the_data) (r : Result (Inside C) XmlReadError) (rule : Rule) → find_child v m.local_name plan.children ≡ None → plan.rule ≡ as_rule rule → skips rule ≡ false → found ≡ kinds.StartElement → Refused r (unexpected q n found)
       → EntersAt holds plan ts v n q d (innermost m b s no_nodes) r
   enters_unknown found r rule none is not k x =
-      refused_here found r (unknown_read (find_child v m.local_name plan.children) plan.rule (xread (element m b s no_nodes)) n.local_name v d q ts none ∙ (ap (λ z. unknown z n.local_name q ts) is ∙ unknown_not rule n.local_name q ts not)) k x
+      refused_here found r (unknown_read (find_child v m.local_name plan.children) plan.rule (xread (element m b s no_nodes)) n v d q ts none ∙ (ap (λ z. unknown z n q ts) is ∙ unknown_not rule n q ts not)) k x
 
   pub enters_skipped : (rule : Rule) → find_child v m.local_name plan.children ≡ None → plan.rule ≡ as_rule rule → skips rule ≡ true → IsSkipped plan 0 v (innermost m b s no_nodes)
   enters_skipped rule none is does = record { not_found = none; passed = λ el q ts. ap (λ z. unknown z el q ts) is ∙ unknown_by rule el q ts does; depth_is = refl }

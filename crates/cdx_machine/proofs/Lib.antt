@@ -5,6 +5,7 @@ pub mod Names
 pub mod Frames
 pub mod FrameSteps
 pub mod Children
+pub mod Yielding
 pub mod Heard
 pub mod Feeding
 pub mod Several

@@ -43,14 +43,10 @@ abbrev pub AreText : Option (List ℕ) → Nodes → Type 0
 AreText None xs = xs ≡ no_nodes
 AreText (Some t) xs = (xs ≡ lone (characters t)) ⊎ (xs ≡ lone (cdata t))
 
-abbrev pub Started : {C : Type 0} → (C → Trees) → Result Trees XmlReadError → Option C → Type 0
-Started start first None = ⊥
-Started start first (Some c) = first ≡ Ok (start c)
-
 -- What was begun, and the text so far.
-abbrev pub content_holds : {C : Type 0} → First → (C → Trees) → OwnedName → Option C → Option (List ℕ) → SpecVersion → ℕ → Begun → Type 0
-content_holds first start name content text v p (innermost n a s xs) = (name ≡ n) × Started start (first n.local_name a v p) content × AreText text xs
-content_holds first start name content text v p (around n a s xs o) = ⊥
+abbrev pub content_holds : {C : Type 0} → First → (C → Trees) → List ℕ → C → Option (List ℕ) → SpecVersion → ℕ → Begun → Type 0
+content_holds first start name c text v p (innermost n a s xs) = (name ≡ n.local_name) × (first n.local_name a v p ≡ Ok (start c)) × AreText text xs
+content_holds first start name c text v p (around n a s xs o) = ⊥
 
 -- a text where none was heard yet
 abbrev pub TakesNew : Option (List ℕ) → Option (List ℕ) → List ℕ → ℕ → XmlEvent → List ℕ → Result Bool XmlReadError → Type 0

@@ -1,5 +1,5 @@
 -- Elements that are read child by child, by a plan.
-use Rattle.std.specs.Prelude.{◌≡◌, ℕ, zero, suc, ◌+◌, List, Bool, true, false, Option, Some, None, Result, Ok, Err}
+use Rattle.std.specs.Prelude.{◌≡◌, ℕ, zero, suc, ◌+◌, List, true, false, Some, None, Result, Ok, Err}
 use Rattle.cdx_events.specs.declared.name.OwnedName.{OwnedName}
 use Rattle.cdx_events.specs.declared.name.OwnedAttribute.{OwnedAttribute}
 use Rattle.cdx_events.specs.declared.name.Namespace.{Namespace}
@@ -19,9 +19,9 @@ use Rattle.cdx_schema.specs.Results.{◌>>=◌}
 use Rattle.cdx_schema.specs.XmlReading.{Plan, Child, find_child, is_second, unknown, child_read, xread, nodes_read}
 use Rattle.cdx_machine.specs.declared.frame.Inside.{Inside}
 use Rattle.cdx_machine.specs.declared.frame.Inside.TheVariants as places_inside
-use Rattle.cdx_machine.specs.Begun.{Begun, innermost, around, start_name, levels, count, ended_now, Next, still, whole}
+use Rattle.cdx_machine.specs.Begun.{Begun, innermost, around, start_name, levels, count, ended_now}
 use Rattle.cdx_machine.specs.Contents.{First}
-use Rattle.cdx_machine.specs.Machines.{Refuses, IsQuiet, ChildHolding}
+use Rattle.cdx_machine.specs.Machines.{Refuses, IsQuiet, ChildHolding, StepsChild}
 
 -- What the fields come to at the element's end, by the element's name, the version and the end's place.
 abbrev pub Last : Type 0
@@ -62,22 +62,18 @@ pub record IsSkipped (plan : Plan) (depth : ℕ) (v : SpecVersion) (o : Begun) :
   pub depth_is : levels o ≡ depth
 
 -- The nodes that have ended were read into the fields.
-pub record Stays (first : First) (plan : Plan) (name : OwnedName) (known : SpecVersion) (ts : Trees) (v : SpecVersion) (p : ℕ) (d : Depth) (n : OwnedName) (a : List OwnedAttribute) (xs : Nodes) : Type 0 where
-  pub name_is : name ≡ n
+pub record Stays (first : First) (plan : Plan) (name : List ℕ) (known : SpecVersion) (ts : Trees) (v : SpecVersion) (p : ℕ) (d : Depth) (n : OwnedName) (a : List OwnedAttribute) (xs : Nodes) : Type 0 where
+  pub name_is : name ≡ n.local_name
   pub version_is : known ≡ v
   pub reads : read_so_far first plan n.local_name a v d p xs ≡ Ok ts
 
-abbrev pub holds_inside : {C : Type 0} → ChildHolding C → First → Plan → OwnedName → SpecVersion → Trees → Inside C → SpecVersion → ℕ → Depth → Begun → Type 0
+abbrev pub holds_inside : {C : Type 0} → ChildHolding C → First → Plan → List ℕ → SpecVersion → Trees → Inside C → SpecVersion → ℕ → Depth → Begun → Type 0
 holds_inside holds first plan name known ts places_inside.Nothing v p d (innermost n a s xs) = Stays first plan name known ts v p d n a xs
 holds_inside holds first plan name known ts places_inside.Nothing v p d (around n a s xs o) = ⊥
 holds_inside holds first plan name known ts (places_inside.Read c) v p d (innermost n a s xs) = ⊥
 holds_inside holds first plan name known ts (places_inside.Read c) v p d (around n a s xs o) = Stays first plan name known ts v p d n a xs × IsOpen holds plan ts c v (suc p + places_of xs) d o
 holds_inside holds first plan name known ts (places_inside.Skipped depth) v p d (innermost n a s xs) = ⊥
 holds_inside holds first plan name known ts (places_inside.Skipped depth) v p d (around n a s xs o) = Stays first plan name known ts v p d n a xs × IsSkipped plan depth v o
-
-abbrev pub frame_holds : {R C : Type 0} → ChildHolding C → First → Plan → (R → Trees) → OwnedName → SpecVersion → Option R → Inside C → SpecVersion → ℕ → Depth → Begun → Type 0
-frame_holds holds first plan slots name known None inside v p d o = ⊥
-frame_holds holds first plan slots name known (Some r) inside v p d o = holds_inside holds first plan name known (slots r) inside v p d o
 
 -- ---- a child's start
 
@@ -86,29 +82,33 @@ pub record OpensChild {C : Type 0} (holds : ChildHolding C) (plan : Plan) (ts : 
   pub is_open : IsOpen holds plan ts c v q d o
   pub quiet : IsQuiet (q + count o) (xread (ended_now o) v is_open.row.kind q d)
 
--- ---- a child that is skipped
+-- ---- an event of an open child
 
-abbrev pub Skips : ℕ → ℕ → Next → Bool → Type 0
-Skips old new (still o) b = (b ≡ false) × (levels o ≡ new)
-Skips old new (whole k) b = b ≡ true
+-- The child is still open, or its value is in its field, or it is refused.
+abbrev pub FeedsChild : {C : Type 0} → ChildHolding C → Trees → Trees → C → ℕ → XmlEvent → Result (Inside C) XmlReadError → Type 0
+FeedsChild holds before now child place event (Ok (places_inside.Read c)) = StepsChild holds before now child c place event (Ok false)
+FeedsChild holds before now child place event (Ok places_inside.Nothing) = StepsChild holds before now child child place event (Ok true)
+FeedsChild holds before now child place event (Ok (places_inside.Skipped depth)) = ⊥
+FeedsChild holds before now child place event (Err e) = StepsChild holds before now child child place event (Err e)
 
-abbrev pub SkipsOne : ℕ → ℕ → XmlEvent → Bool → Type 0
-SkipsOne old new (StartElement n a s) b = (b ≡ false) × (new ≡ suc old)
-SkipsOne zero new (EndElement n) b = b ≡ true
-SkipsOne (suc k) new (EndElement n) b = (b ≡ false) × (new ≡ k)
-SkipsOne old new StartDocument b = (b ≡ false) × (new ≡ old)
-SkipsOne old new EndDocument b = (b ≡ false) × (new ≡ old)
-SkipsOne old new (Characters t) b = (b ≡ false) × (new ≡ old)
-SkipsOne old new (CData t) b = (b ≡ false) × (new ≡ old)
+-- What stands open after an event in a skipped child, of which so many elements were open.
+abbrev pub skipped : {C : Type 0} → ℕ → XmlEvent → Inside C
+skipped depth (StartElement n a s) = places_inside.Skipped (suc depth)
+skipped zero (EndElement n) = places_inside.Nothing
+skipped (suc k) (EndElement n) = places_inside.Skipped k
+skipped depth StartDocument = places_inside.Skipped depth
+skipped depth EndDocument = places_inside.Skipped depth
+skipped depth (Characters t) = places_inside.Skipped depth
+skipped depth (CData t) = places_inside.Skipped depth
 
 -- ---- a child's start in a frame
 
 -- The child is read, or skipped, or refused: by its own fault, or since it may not stand there.
-abbrev pub EntersAt : {C : Type 0} → ChildHolding C → Plan → Trees → SpecVersion → OwnedName → ℕ → Depth → Begun → Result (Inside C) XmlReadError → Type 0
+abbrev pub EntersAt : {C : Type 0} → ChildHolding C → Plan → Trees → SpecVersion → List ℕ → ℕ → Depth → Begun → Result (Inside C) XmlReadError → Type 0
 EntersAt holds plan ts v n q d o (Ok places_inside.Nothing) = ⊥
 EntersAt holds plan ts v n q d o (Ok (places_inside.Read c)) = OpensChild holds plan ts v q d o c
 EntersAt holds plan ts v n q d o (Ok (places_inside.Skipped depth)) = IsSkipped plan depth v o
-EntersAt holds plan ts v n q d o (Err e) = Refuses e (suc q) (child_read (find_child v (start_name o).local_name plan.children) plan.rule (xread (ended_now o)) n.local_name v d q ts)
+EntersAt holds plan ts v n q d o (Err e) = Refuses e (suc q) (child_read (find_child v (start_name o).local_name plan.children) plan.rule (xread (ended_now o)) n v d q ts)
 
-abbrev pub Enters : {C : Type 0} → ChildHolding C → Plan → Trees → SpecVersion → OwnedName → ℕ → XmlEvent → OwnedName → List OwnedAttribute → Result (Inside C) XmlReadError → Type 0
+abbrev pub Enters : {C : Type 0} → ChildHolding C → Plan → Trees → SpecVersion → List ℕ → ℕ → XmlEvent → OwnedName → List OwnedAttribute → Result (Inside C) XmlReadError → Type 0
 Enters holds plan ts v n q event m b result = kind_of event ≡ kinds.StartElement → (d : Depth) (s : Namespace) → EntersAt holds plan ts v n q d (innermost m b s no_nodes) result

@@ -38,7 +38,21 @@ abbrev pub StartsAs : {M : Type 0} → Holding M → Kind → SpecVersion → �
 StartsAs holds kind v place n a result =
     (d : Depth) (s : Namespace) → Opens (λ m o. holds m v place d o) (λ k. xread k v kind place d) place (innermost n a s no_nodes) result
 
--- One event more: the element is still open, or it has ended.
+-- One event more: the element is still open, or this is its end, of which the machine keeps nothing.
+abbrev pub Proceeds : {T : Type 0} → (Begun → Type 0) → Type 0 → (Node → Result T XmlReadError) → ℕ → Next → Result Bool XmlReadError → Type 0
+Proceeds held kept read p (still o) (Ok false) = held o × IsQuiet (p + count o) (read (ended_now o))
+Proceeds held kept read p (still o) (Ok true) = ⊥
+Proceeds held kept read p (still o) (Err e) = Refuses e (p + count o) (read (ended_now o))
+Proceeds held kept read p (whole k) (Ok false) = ⊥
+Proceeds held kept read p (whole k) (Ok true) = kept
+Proceeds held kept read p (whole k) (Err e) = Refuses e (p + places k) (read k)
+
+-- What an element is read as, all of whose events stand before this place.
+abbrev pub Yields : {X T : Type 0} → (X → T) → ℕ → Result T XmlReadError → Result X XmlReadError → Type 0
+Yields view place denoted (Ok x) = denoted ≡ Ok (view x)
+Yields view place denoted (Err e) = Refuses e place denoted
+
+-- Both at once: the element is still open, or it has ended and is read.
 abbrev pub Steps : {X T : Type 0} → (Begun → Type 0) → (X → T) → (Node → Result T XmlReadError) → ℕ → Next → Result (Option X) XmlReadError → Type 0
 Steps held view read p (still o) (Ok None) = held o × IsQuiet (p + count o) (read (ended_now o))
 Steps held view read p (still o) (Ok (Some x)) = ⊥
@@ -56,6 +70,26 @@ pub record CanStep {M : Type 0} (holds : Holding M) (m : M) (place : ℕ) (event
   pub held : holds m v p d o
   pub place_is : place ≡ p + count o
   pub takes : Takes o event
+
+abbrev pub ProceedsAs : {M : Type 0} → Holding M → Kind → M → M → ℕ → XmlEvent → Result Bool XmlReadError → Type 0
+ProceedsAs holds kind old new place event result =
+    (v : SpecVersion) (p : ℕ) (d : Depth) (o : Begun) → holds old v p d o → place ≡ p + count o → Takes o event → Proceeds (λ o. holds new v p d o) (holds new v p d o) (λ k. xread k v kind p d) p (next o event) result
+
+-- The machine keeps all events of an element but its end, and that is the event at this place.
+pub record CanYield {M : Type 0} (holds : Holding M) (m : M) (place : ℕ) (event : XmlEvent) : Type 0 where
+  pub v : SpecVersion
+  pub p : ℕ
+  pub d : Depth
+  pub o : Begun
+  pub held : holds m v p d o
+  pub place_is : place ≡ p + count o
+  pub takes : Takes o event
+  pub all : Node
+  pub ends : next o event ≡ whole all
+
+abbrev pub YieldsAs : {M X : Type 0} → Holding M → (X → Tree) → Kind → M → ℕ → XmlEvent → Result X XmlReadError → Type 0
+YieldsAs holds view kind m place event result =
+    (v : SpecVersion) (p : ℕ) (d : Depth) (o : Begun) (k : Node) → holds m v p d o → place ≡ p + count o → Takes o event → next o event ≡ whole k → Yields view (p + places k) (xread k v kind p d) result
 
 abbrev pub StepsAs : {M X : Type 0} → Holding M → (X → Tree) → Kind → M → M → ℕ → XmlEvent → Result (Option X) XmlReadError → Type 0
 StepsAs holds view kind old new place event result =

@@ -1,5 +1,6 @@
 -- Several machines in a row, and the children of a plan that they read.
-use Rattle.std.specs.Prelude.{◌≡◌, ℕ, zero, suc, List, [], ◌∷◌, if◌then◌else◌, ◌&&◌, Option, Some, None, IfSome}
+use Rattle.std.specs.Prelude.{◌≡◌, ℕ, zero, suc, List, [], ◌∷◌, if◌then◌else◌, ◌&&◌, Option, Some, None, IfSome, Box}
+use Rattle.std.specs.declared.alloc.Global.{Global}
 use Rattle.std.specs.Str.{bytes_eq}
 use Rattle.cdx_models.specs.declared.bom.SpecVersion.{SpecVersion}
 use Rattle.cdx_models.specs.Versions.{knows}
@@ -44,6 +45,10 @@ kinds_of (c ∷ cs) = c.kind ∷ kinds_of cs
 -- The machine of a child of the plan keeps its events.
 abbrev pub reads_child : {M : Type 0} → Plan → (M → ℕ) → Holding M → ChildHolding M
 reads_child plan position holds m row v p d o = (at_position plan.children (position m) ≡ Some row) × holds m v p d o
+
+-- The same of a machine on the heap.
+abbrev pub reads_boxed : {M : Type 0} → Plan → (M → ℕ) → Holding M → ChildHolding (Box M Global)
+reads_boxed plan position holds b row v p d o = reads_child plan position holds b.value row v p d o
 
 -- What a name stands for among children, the first of which has this position, where these fields were read.
 abbrev pub found_from : ℕ → List Child → Trees → SpecVersion → List ℕ → Found

@@ -99,16 +99,17 @@ impl<K: ByName> Machine for NamedMachine<K> {
         refuse_missing(alloc, place, element, K::lacks())
     }
 
-    fn step(&mut self, place: usize, event: &XmlEvent) -> Result<Option<K::Value>, XmlReadError> {
+    fn step(&mut self, place: usize, event: &XmlEvent) -> Result<bool, XmlReadError> {
         match &mut self.machine {
-            Or::This(machine) => match machine.step(place, event)? {
-                Some(value) => Ok(Some(K::from_first(value))),
-                None => Ok(None),
-            },
-            Or::Other(machine) => match machine.step(place, event)? {
-                Some(value) => Ok(Some(K::from_second(value))),
-                None => Ok(None),
-            },
+            Or::This(machine) => machine.step(place, event),
+            Or::Other(machine) => machine.step(place, event),
+        }
+    }
+
+    fn finish(self, place: usize, event: &XmlEvent) -> Result<K::Value, XmlReadError> {
+        match self.machine {
+            Or::This(machine) => Ok(K::from_first(machine.finish(place, event)?)),
+            Or::Other(machine) => Ok(K::from_second(machine.finish(place, event)?)),
         }
     }
 }

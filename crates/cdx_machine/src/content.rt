@@ -3,8 +3,8 @@
 ghost use Rattle.cdx_machine.specs.Contents.{TakesText};
 
 use crate::machine::Machine;
+use crate::refusal::refuse_in;
 use cdx_events::{List, OwnedAttribute, OwnedName, Text, XmlEvent};
-use cdx_leaf::refuse;
 use cdx_models::{HasTree, SpecVersion, XmlReadError};
 use std::alloc::Global;
 
@@ -60,12 +60,12 @@ pub trait Content: Drop {
 // Takes an event of an element that holds one text at most. Says whether it is the element's end.
 fn take_text(
     alloc: Global,
-    element: &OwnedName,
+    element: &Text,
     text: &mut Option<Text>,
     place: usize,
     event: &XmlEvent,
 ) -> Result<bool, XmlReadError>
-    ensures { TakesText text.old text.new element.now.local_name place event.now result }
+    ensures { TakesText text.old text.new element.now place event.now result }
 {
     match event {
         XmlEvent::EndElement { .. } => Ok(true),
@@ -74,16 +74,16 @@ fn take_text(
                 *text = Some(heard.copy(alloc)?);
                 Ok(false)
             }
-            Some(_) => refuse(alloc, place, element, event),
+            Some(_) => refuse_in(alloc, place, element, event),
         },
         XmlEvent::CData(heard) => match text {
             None => {
                 *text = Some(heard.copy(alloc)?);
                 Ok(false)
             }
-            Some(_) => refuse(alloc, place, element, event),
+            Some(_) => refuse_in(alloc, place, element, event),
         },
-        _ => refuse(alloc, place, element, event),
+        _ => refuse_in(alloc, place, element, event),
     }
 }
 
@@ -91,8 +91,9 @@ fn take_text(
 #[derive(Drop)]
 pub struct ContentMachine<C> {
     alloc: Global,
-    name: OwnedName,
-    content: Option<C>,
+    // The element's local name.
+    name: Text,
+    content: C,
     text: Option<Text>,
 }
 
@@ -117,20 +118,20 @@ impl<C: Content> Machine for ContentMachine<C> {
         let content = C::begin(alloc, place, v, element, attributes)?;
         Ok(ContentMachine {
             alloc,
-            name: element.copy(alloc)?,
-            content: Some(content),
+            name: element.local_name.copy(alloc)?,
+            content,
             text: None,
         })
     }
 
-    fn step(&mut self, place: usize, event: &XmlEvent) -> Result<Option<C::Value>, XmlReadError> {
-        if !take_text(self.alloc, &self.name, &mut self.text, place, event)? {
-            return Ok(None);
-        }
-        let Some(content) = self.content.take() else {
+    fn step(&mut self, place: usize, event: &XmlEvent) -> Result<bool, XmlReadError> {
+        take_text(self.alloc, &self.name, &mut self.text, place, event)
+    }
+
+    fn finish(self, place: usize, event: &XmlEvent) -> Result<C::Value, XmlReadError> {
+        let XmlEvent::EndElement { name } = event else {
             unreachable!()
         };
-        let text = self.text.take();
-        Ok(Some(content.finish(self.alloc, place, &self.name, text)?))
+        self.content.finish(self.alloc, place, name, self.text)
     }
 }

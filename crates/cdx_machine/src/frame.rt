@@ -1,17 +1,19 @@
 //! Elements that are read child by child.
 
-ghost use Rattle.std.specs.Prelude.{◌≡◌, ◌<◌, List};
+ghost use Rattle.std.specs.Prelude.{◌≡◌, ◌<◌, List, IfOk};
 ghost use Rattle.cdx_events.specs.declared.event.XmlEvent.{XmlEvent};
-ghost use Rattle.cdx_machine.specs.Frames.{SkipsOne, Enters};
-ghost use Rattle.cdx_machine.specs.Machines.{CanStepChild, StepsChild};
-ghost use Rattle.cdx_machine.specs.Several.{reads_child};
+ghost use Rattle.cdx_machine.specs.Frames.{skipped, Enters, FeedsChild};
+ghost use Rattle.cdx_machine.specs.Machines.{CanStepChild};
+ghost use Rattle.cdx_machine.specs.Several.{reads_boxed};
 
 use crate::machine::Machine;
 use crate::or::Machines;
-use cdx_events::{List, OwnedAttribute, OwnedName, XmlEvent};
-use cdx_leaf::{Rule, refuse};
+use crate::refusal::refuse_in;
+use cdx_events::{List, OwnedAttribute, OwnedName, Text, XmlEvent};
+use cdx_leaf::Rule;
 use cdx_models::{SpecVersion, XmlReadError};
 use std::alloc::{AllocError, Global};
+use std::mem::replace;
 
 /// What a child's name stands for.
 #[derive(Drop)]
@@ -117,75 +119,78 @@ pub trait Frame: Drop {
     ghost frame: { IsFrame kind plan first last };
 }
 
-/// Takes an event of a child that is skipped, in which so many elements are open. Says whether it is the child's end.
-pub fn skip_one(depth: &mut usize, place: usize, event: &XmlEvent) -> bool
-    requires { depth.old < place }
-    ensures { SkipsOne depth.old depth.new event.now result }
+/// Takes an event of a child that is skipped, in which so many elements are open. With its end nothing is open.
+pub fn skip<C>(depth: usize, place: usize, event: &XmlEvent) -> Inside<C>
+    requires { depth < place }
+    ensures { result ≡ skipped depth event.now }
 {
     match event {
-        XmlEvent::StartElement { .. } => {
-            *depth += 1;
-            false
-        }
+        XmlEvent::StartElement { .. } => Inside::Skipped(depth + 1),
         XmlEvent::EndElement { .. } => {
-            if *depth == 0 {
-                return true;
+            if depth == 0 {
+                return Inside::Nothing;
             }
-            *depth -= 1;
-            false
+            Inside::Skipped(depth - 1)
         }
-        _ => false,
+        _ => Inside::Skipped(depth),
     }
 }
 
-// Takes the start of a child of the element, at this place.
+/// The value on the heap, so that what holds it stays small.
+pub fn boxed<T: Drop>(alloc: Global, value: T) -> Result<Box<T>, AllocError>
+    ensures { IfOk result (λ b. b.value ≡ value) }
+{
+    Ok(Box::new(alloc, value)?)
+}
+
+// Takes the start of a child of the element of this local name, at this place.
 fn enter<F: Frame>(
     alloc: Global,
     v: SpecVersion,
-    element: &OwnedName,
+    element: &Text,
     part: &F,
     place: usize,
     event: &XmlEvent,
     name: &OwnedName,
     attributes: &List<OwnedAttribute>,
-) -> Result<Inside<F::Child>, XmlReadError>
-    ensures { Enters (reads_child F.plan F.Child.position_of F.Child.holds) F.plan
+) -> Result<Inside<Box<F::Child>>, XmlReadError>
+    ensures { Enters (reads_boxed F.plan F.Child.position_of F.Child.holds) F.plan
         (F.slots part.now) v element.now place event.now name.now attributes.now result }
 {
     match part.find(v, name) {
-        Found::At(position) => Ok(Inside::Read(F::Child::start(
-            position, alloc, place, v, name, attributes,
-        )?)),
+        Found::At(position) => {
+            let child = F::Child::start(position, alloc, place, v, name, attributes)?;
+            Ok(Inside::Read(boxed(alloc, child)?))
+        }
         Found::Unknown => {
             if !part.rule().skips() {
-                return refuse(alloc, place, element, event);
+                return refuse_in(alloc, place, element, event);
             }
             Ok(Inside::Skipped(0))
         }
-        Found::Second => refuse(alloc, place, element, event),
+        Found::Second => refuse_in(alloc, place, element, event),
     }
 }
 
-// Takes an event of an open child, at this place. With its end the value goes into its field, and the answer is true.
+// Takes an event of an open child, at this place. With its end the value goes into its field, and nothing is open.
 fn feed<F: Frame>(
     part: &mut F,
-    child: &mut F::Child,
+    mut child: Box<F::Child>,
     alloc: Global,
     place: usize,
     event: &XmlEvent,
-) -> Result<bool, XmlReadError>
-    requires { CanStepChild (reads_child F.plan F.Child.position_of F.Child.holds) child.old place
+) -> Result<Inside<Box<F::Child>>, XmlReadError>
+    requires { CanStepChild (reads_boxed F.plan F.Child.position_of F.Child.holds) child place
         event.now }
-    ensures { StepsChild (reads_child F.plan F.Child.position_of F.Child.holds) (F.slots part.old)
-        (F.slots part.new) child.old child.new place event.now result }
+    ensures { FeedsChild (reads_boxed F.plan F.Child.position_of F.Child.holds) (F.slots part.old)
+        (F.slots part.new) child place event.now result }
 {
-    match child.step(place, event)? {
-        None => Ok(false),
-        Some(value) => {
-            part.put(alloc, value)?;
-            Ok(true)
-        }
+    if !child.step(place, event)? {
+        return Ok(Inside::Read(child));
     }
+    let value = Box::into_inner(child).finish(place, event)?;
+    part.put(alloc, value)?;
+    Ok(Inside::Nothing)
 }
 
 /// The machine of an element that is read child by child.
@@ -193,14 +198,15 @@ fn feed<F: Frame>(
 pub struct FrameMachine<F: Frame> {
     alloc: Global,
     v: SpecVersion,
-    name: OwnedName,
-    part: Option<F>,
-    inside: Inside<F::Child>,
+    // The element's local name.
+    name: Text,
+    part: F,
+    inside: Inside<Box<F::Child>>,
 }
 
 impl<F: Frame> Machine for FrameMachine<F> {
-    ghost use Rattle.cdx_machine.specs.Frames.{frame_holds};
-    ghost use Rattle.cdx_machine.specs.Several.{reads_child};
+    ghost use Rattle.cdx_machine.specs.Frames.{holds_inside};
+    ghost use Rattle.cdx_machine.specs.Several.{reads_boxed};
 
     type Value = F::Value;
 
@@ -208,8 +214,9 @@ impl<F: Frame> Machine for FrameMachine<F> {
 
     ghost kind = { F.kind };
 
-    ghost holds = { λ m v p d o. frame_holds (reads_child F.plan F.Child.position_of F.Child.holds)
-        F.first F.plan F.slots m.name m.v m.part m.inside v p d o };
+    ghost holds = { λ m v p d o.
+        holds_inside (reads_boxed F.plan F.Child.position_of F.Child.holds) F.first F.plan m.name
+        m.v (F.slots m.part) m.inside v p d o };
 
     fn start(
         alloc: Global,
@@ -222,30 +229,21 @@ impl<F: Frame> Machine for FrameMachine<F> {
         Ok(FrameMachine {
             alloc,
             v,
-            name: element.copy(alloc)?,
-            part: Some(part),
+            name: element.local_name.copy(alloc)?,
+            part,
             inside: Inside::Nothing,
         })
     }
 
-    fn step(&mut self, place: usize, event: &XmlEvent) -> Result<Option<F::Value>, XmlReadError> {
-        let Some(part) = &mut self.part else {
-            unreachable!()
-        };
-        match &mut self.inside {
+    fn step(&mut self, place: usize, event: &XmlEvent) -> Result<bool, XmlReadError> {
+        match replace(&mut self.inside, Inside::Nothing) {
             Inside::Read(child) => {
-                if feed(part, child, self.alloc, place, event)? {
-                    self.inside = Inside::Nothing;
-                    return Ok(None);
-                }
-                Ok(None)
+                self.inside = feed(&mut self.part, child, self.alloc, place, event)?;
+                Ok(false)
             }
             Inside::Skipped(depth) => {
-                if skip_one(depth, place, event) {
-                    self.inside = Inside::Nothing;
-                    return Ok(None);
-                }
-                Ok(None)
+                self.inside = skip(depth, place, event);
+                Ok(false)
             }
             Inside::Nothing => match event {
                 XmlEvent::StartElement {
@@ -254,23 +252,25 @@ impl<F: Frame> Machine for FrameMachine<F> {
                     ..
                 } => {
                     self.inside = enter(
-                        self.alloc, self.v, &self.name, part, place, event, name, attributes,
+                        self.alloc, self.v, &self.name, &self.part, place, event, name, attributes,
                     )?;
-                    Ok(None)
+                    Ok(false)
                 }
-                XmlEvent::EndElement { .. } => {
-                    let Some(part) = self.part.take() else {
-                        unreachable!()
-                    };
-                    Ok(Some(part.finish(self.alloc, place, self.v, &self.name)?))
-                }
+                XmlEvent::EndElement { .. } => Ok(true),
                 _ => {
-                    if !part.rule().passes() {
-                        return refuse(self.alloc, place, &self.name, event);
+                    if !self.part.rule().passes() {
+                        return refuse_in(self.alloc, place, &self.name, event);
                     }
-                    Ok(None)
+                    Ok(false)
                 }
             },
         }
+    }
+
+    fn finish(self, place: usize, event: &XmlEvent) -> Result<F::Value, XmlReadError> {
+        let XmlEvent::EndElement { name } = event else {
+            unreachable!()
+        };
+        self.part.finish(self.alloc, place, self.v, name)
     }
 }

@@ -6,13 +6,13 @@ use std::alloc::Global;
 
 /// What reads one element of any leaf kind, event by event.
 pub trait Leaves: Drop {
-    ghost use Rattle.std.specs.Prelude.{◌≡◌, ℕ, IfOk, IfSome};
+    ghost use Rattle.std.specs.Prelude.{◌≡◌, ℕ, IfOk};
     ghost use Rattle.cdx_models.specs.declared.bom.SpecVersion.{SpecVersion};
     ghost use Rattle.cdx_models.specs.Trees.{Tree};
     ghost use Rattle.cdx_schema.specs.Kinds.{Kind};
     ghost use Rattle.cdx_schema.specs.Depth.{Depth};
     ghost use Rattle.cdx_machine.specs.Begun.{Begun};
-    ghost use Rattle.cdx_machine.specs.Machines.{Holding, StartsAs, CanStep, StepsAs};
+    ghost use Rattle.cdx_machine.specs.Machines.{StartsAs, CanStep, ProceedsAs, CanYield, YieldsAs};
 
     /// The names of the kinds.
     type Sort: Drop;
@@ -47,12 +47,19 @@ pub trait Leaves: Drop {
         ensures sort { IfOk result (λ m. sort_of m ≡ sort) }
         ensures starts { StartsAs holds (as_kind sort) v place element.now attributes.now result };
 
-    /// Takes the next event, at `place`. The value comes with the element's end, and a refusal with the first event
-    /// through which the element has a fault; that is the fault, and it stands at this event.
-    fn step(&mut self, place: usize, event: &XmlEvent) -> Result<Option<Self::Value>, XmlReadError>
+    /// Takes the next event, at `place`, and says whether it is the element's end, of which the machine keeps nothing. A
+    /// refusal comes with the first event through which the element has a fault; that is the fault, and it stands at this
+    /// event.
+    fn step(&mut self, place: usize, event: &XmlEvent) -> Result<bool, XmlReadError>
         requires { CanStep holds self.old place event.now }
         ensures same { sort_of self.new ≡ sort_of self.old }
-        ensures value { IfOk result (λ o. IfSome o (λ x. value_sort x ≡ sort_of self.old)) }
-        ensures steps { StepsAs holds tree (as_kind (sort_of self.old)) self.old self.new place
+        ensures proceeds { ProceedsAs holds (as_kind (sort_of self.old)) self.old self.new place
             event.now result };
+
+    /// What the element is read as that this event ends, at `place`. A refusal is its fault, which stands at its end.
+    fn finish(self, place: usize, event: &XmlEvent) -> Result<Self::Value, XmlReadError>
+        requires { CanYield holds self place event.now }
+        ensures value { IfOk result (λ x. value_sort x ≡ sort_of self) }
+        ensures yields { YieldsAs holds tree (as_kind (sort_of self)) self place event.now
+            result };
 }

@@ -12,7 +12,7 @@ pub trait Machine: Drop {
     ghost use Rattle.cdx_schema.specs.Kinds.{Kind};
     ghost use Rattle.cdx_schema.specs.Depth.{Depth};
     ghost use Rattle.cdx_machine.specs.Begun.{Begun};
-    ghost use Rattle.cdx_machine.specs.Machines.{Holding, StartsAs, CanStep, StepsAs};
+    ghost use Rattle.cdx_machine.specs.Machines.{StartsAs, CanStep, ProceedsAs, CanYield, YieldsAs};
 
     /// What the element is read as.
     type Value: Drop;
@@ -36,9 +36,15 @@ pub trait Machine: Drop {
     ) -> Result<Self, XmlReadError>
         ensures { StartsAs holds kind v place element.now attributes.now result };
 
-    /// Takes the next event, at `place`. The value comes with the element's end, and a refusal with the first event
-    /// through which the element has a fault; that is the fault, and it stands at this event.
-    fn step(&mut self, place: usize, event: &XmlEvent) -> Result<Option<Self::Value>, XmlReadError>
+    /// Takes the next event, at `place`, and says whether it is the element's end, of which the machine keeps nothing. A
+    /// refusal comes with the first event through which the element has a fault; that is the fault, and it stands at this
+    /// event.
+    fn step(&mut self, place: usize, event: &XmlEvent) -> Result<bool, XmlReadError>
         requires { CanStep holds self.old place event.now }
-        ensures { StepsAs holds tree kind self.old self.new place event.now result };
+        ensures { ProceedsAs holds kind self.old self.new place event.now result };
+
+    /// What the element is read as that this event ends, at `place`. A refusal is its fault, which stands at its end.
+    fn finish(self, place: usize, event: &XmlEvent) -> Result<Self::Value, XmlReadError>
+        requires { CanYield holds self place event.now }
+        ensures { YieldsAs holds tree kind self place event.now result };
 }

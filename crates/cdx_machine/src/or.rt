@@ -7,13 +7,13 @@ use std::alloc::Global;
 
 /// Several machines in a row, of which one runs.
 pub trait Machines: Drop {
-    ghost use Rattle.std.specs.Prelude.{◌≡◌, ℕ, List, Some, IfOk, IfSome};
+    ghost use Rattle.std.specs.Prelude.{◌≡◌, ℕ, List, Some, IfOk};
     ghost use Rattle.cdx_models.specs.declared.bom.SpecVersion.{SpecVersion};
     ghost use Rattle.cdx_models.specs.Trees.{Tree};
     ghost use Rattle.cdx_schema.specs.Kinds.{Kind};
     ghost use Rattle.cdx_schema.specs.Depth.{Depth};
     ghost use Rattle.cdx_machine.specs.Begun.{Begun};
-    ghost use Rattle.cdx_machine.specs.Machines.{StartsAs, CanStep, StepsAs};
+    ghost use Rattle.cdx_machine.specs.Machines.{StartsAs, CanStep, ProceedsAs, CanYield, YieldsAs};
     ghost use Rattle.cdx_machine.specs.Several.{at_position, IsThere};
 
     /// What the element is read as, by whichever machine runs.
@@ -47,13 +47,19 @@ pub trait Machines: Drop {
         ensures starts { (k : Kind) → at_position kinds position ≡ Some k
             → StartsAs holds k v place element.now attributes.now result };
 
-    /// Takes the next event, at `place`, as a machine does.
-    fn step(&mut self, place: usize, event: &XmlEvent) -> Result<Option<Self::Value>, XmlReadError>
+    /// Takes the next event, at `place`, as a machine does, and says whether it is the element's end.
+    fn step(&mut self, place: usize, event: &XmlEvent) -> Result<bool, XmlReadError>
         requires { CanStep holds self.old place event.now }
         ensures runs { position_of self.new ≡ position_of self.old }
-        ensures source { IfOk result (λ o. IfSome o (λ x. source x ≡ position_of self.old)) }
-        ensures steps { (k : Kind) → at_position kinds (position_of self.old) ≡ Some k
-            → StepsAs holds tree k self.old self.new place event.now result };
+        ensures proceeds { (k : Kind) → at_position kinds (position_of self.old) ≡ Some k
+            → ProceedsAs holds k self.old self.new place event.now result };
+
+    /// What the element is read as that this event ends, at `place`, by the machine that runs.
+    fn finish(self, place: usize, event: &XmlEvent) -> Result<Self::Value, XmlReadError>
+        requires { CanYield holds self place event.now }
+        ensures source { IfOk result (λ x. source x ≡ position_of self) }
+        ensures yields { (k : Kind) → at_position kinds (position_of self) ≡ Some k
+            → YieldsAs holds tree k self place event.now result };
 }
 
 /// One machine, or one of those that follow it; and what one of them read.
@@ -101,20 +107,17 @@ impl<M: Machine, R: Machines> Machines for Or<M, R> {
         Ok(Or::Other(R::start(position - 1, alloc, place, v, element, attributes)?))
     }
 
-    fn step(
-        &mut self,
-        place: usize,
-        event: &XmlEvent,
-    ) -> Result<Option<Or<M::Value, R::Value>>, XmlReadError> {
+    fn step(&mut self, place: usize, event: &XmlEvent) -> Result<bool, XmlReadError> {
         match self {
-            Or::This(machine) => match machine.step(place, event)? {
-                Some(value) => Ok(Some(Or::This(value))),
-                None => Ok(None),
-            },
-            Or::Other(machines) => match machines.step(place, event)? {
-                Some(value) => Ok(Some(Or::Other(value))),
-                None => Ok(None),
-            },
+            Or::This(machine) => machine.step(place, event),
+            Or::Other(machines) => machines.step(place, event),
+        }
+    }
+
+    fn finish(self, place: usize, event: &XmlEvent) -> Result<Or<M::Value, R::Value>, XmlReadError> {
+        match self {
+            Or::This(machine) => Ok(Or::This(machine.finish(place, event)?)),
+            Or::Other(machines) => Ok(Or::Other(machines.finish(place, event)?)),
         }
     }
 }
@@ -147,8 +150,12 @@ impl<M: Machine> Machines for Only<M> {
         })
     }
 
-    fn step(&mut self, place: usize, event: &XmlEvent) -> Result<Option<M::Value>, XmlReadError> {
+    fn step(&mut self, place: usize, event: &XmlEvent) -> Result<bool, XmlReadError> {
         self.machine.step(place, event)
+    }
+
+    fn finish(self, place: usize, event: &XmlEvent) -> Result<M::Value, XmlReadError> {
+        self.machine.finish(place, event)
     }
 }
 
@@ -183,11 +190,11 @@ impl Machines for NoMachine {
         Ok(NoMachine)
     }
 
-    fn step(
-        &mut self,
-        _place: usize,
-        _event: &XmlEvent,
-    ) -> Result<Option<NoMachine>, XmlReadError> {
-        Ok(None)
+    fn step(&mut self, _place: usize, _event: &XmlEvent) -> Result<bool, XmlReadError> {
+        Ok(false)
+    }
+
+    fn finish(self, _place: usize, _event: &XmlEvent) -> Result<NoMachine, XmlReadError> {
+        Ok(NoMachine)
     }
 }

@@ -27,8 +27,8 @@ pub fn read_by_machine<M: Machine>(
         let Some(event) = reader.next() else {
             unreachable!()
         };
-        if let Some(value) = machine.step(place, event)? {
-            return Ok(value);
+        if machine.step(place, event)? {
+            return machine.finish(place, event);
         }
     }
 }

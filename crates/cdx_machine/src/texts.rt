@@ -45,8 +45,12 @@ impl Machine for TextMachine {
         })
     }
 
-    fn step(&mut self, place: usize, event: &XmlEvent) -> Result<Option<Text>, XmlReadError> {
+    fn step(&mut self, place: usize, event: &XmlEvent) -> Result<bool, XmlReadError> {
         self.machine.step(place, event)
+    }
+
+    fn finish(self, place: usize, event: &XmlEvent) -> Result<Text, XmlReadError> {
+        self.machine.finish(place, event)
     }
 }
 
@@ -80,8 +84,12 @@ impl Machine for FlagMachine {
         })
     }
 
-    fn step(&mut self, place: usize, event: &XmlEvent) -> Result<Option<bool>, XmlReadError> {
+    fn step(&mut self, place: usize, event: &XmlEvent) -> Result<bool, XmlReadError> {
         self.machine.step(place, event)
+    }
+
+    fn finish(self, place: usize, event: &XmlEvent) -> Result<bool, XmlReadError> {
+        self.machine.finish(place, event)
     }
 }
 

@@ -10,8 +10,7 @@ ghost use Rattle.cdx_push_reader.specs.Sources.{ReadsSource};
 use crate::hearing::Hearing;
 use crate::machine::RootMachine;
 use crate::places::unbalanced;
-use crate::texts::tell_utf8;
-use cdx_events::{EventSource, Failed, XmlEvent};
+use cdx_events::{EventSource, Failed, InUtf8, XmlEvent};
 use cdx_models::{ReadKind, SpecVersion, XmlReadError};
 use std::alloc::{AllocError, Global};
 
@@ -136,7 +135,7 @@ pub fn read_gathered<M: RootMachine, E: EventSource>(
                 });
             }
         };
-        tell_utf8(&event);
+        event.tell();
         gathering.take(taken, &event)?;
         if is_end(&event) {
             return gathering.finish(taken + 1);

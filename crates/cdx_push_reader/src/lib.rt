@@ -9,7 +9,6 @@ mod machine;
 mod places;
 mod reader;
 mod start;
-mod texts;
 mod whole;
 
 pub use gathering::read_gathered;

@@ -55,7 +55,7 @@ returns-then-is_end g c =
     let next = c.take.new.self in
     let all : c.loop-taken.taken + 1 ≡ length (i.events ++ e ∷ []) = omega (arith, length-append i.events (e ∷ []), i.count) in
     let a = at_close g.M.RootMachine.holds g.M.RootMachine.tree c.loop-taken.gathering c.args.version (s.left c.args.source.now) (s.left c.loop-taken.source) (s.left c.next.new.self) (s.faults c.args.source.now) (s.faults c.loop-taken.source) (s.faults c.next.new.self) c.loop-taken.taken c.args.budget i
-    e next.hearing.version c.finish-then-is_end.result c.loop-taken-test.true n c.in-Ok-Some.ensures.cause.ok c.tell_utf8.ensures (sym c.is_end.ensures ∙ c.if-is_end.true) c.in_ok-take.ensures.version
+    e next.hearing.version c.finish-then-is_end.result c.loop-taken-test.true n c.in-Ok-Some.ensures.cause.ok c.tell.ensures (sym c.is_end.ensures ∙ c.if-is_end.true) c.in_ok-take.ensures.version
     (c.finish-then-is_end.ensures (i.events ++ e ∷ []) (c.in_ok-take.ensures.gathered i.events i.gathered (sym i.count)) all) in
     record { source = a.0; shallow = a.1; sound = a.2 }
 
@@ -65,7 +65,7 @@ loop-taken-preserved g c =
     let i = c.loop-taken.invariant in
     let n = rw c.in-Ok-Some.field-0-is at c.in-Ok-Some.ensures.events in
     takes_more g.M.RootMachine.holds g.M.RootMachine.tree c.loop-taken.gathering c.args.version (s.left c.args.source.now) (s.left c.loop-taken.source) (s.left c.next.new.self) (s.faults c.args.source.now) (s.faults c.loop-taken.source) (s.faults c.next.new.self) c.loop-taken.taken c.args.budget i
-    c.take.new.self c.in-Ok-Some.event n c.in-Ok-Some.ensures.cause.ok c.tell_utf8.ensures (sym c.is_end.ensures ∙ c.if-is_end.false) c.in_ok-take.ensures.version (c.in_ok-take.ensures.gathered i.events i.gathered (sym i.count))
+    c.take.new.self c.in-Ok-Some.event n c.in-Ok-Some.ensures.cause.ok c.tell.ensures (sym c.is_end.ensures ∙ c.if-is_end.false) c.in_ok-take.ensures.version (c.in_ok-take.ensures.gathered i.events i.gathered (sym i.count))
 
 pub returns : goal.returns
 returns g c =
