@@ -22,7 +22,7 @@ use Rattle.cdx_schema.specs.XmlReading.{xread, after_text}
 use Rattle.cdx_leaf.specs.Fault.{Fails, Refused}
 use Rattle.cdx_leaf.specs.Tags.{text_or_none}
 use Rattle.cdx_leaf.specs.Reading.{kind_of_node}
-use Rattle.cdx_machine.specs.Begun.{Begun, innermost, around, Next, still, whole, count, ended_now, next_inside, next, TakesInside, Takes, lone}
+use Rattle.cdx_machine.specs.Begun.{Begun, innermost, around, Next, still, whole, count, next_inside, next, TakesInside, Takes, lone}
 use Rattle.cdx_machine.specs.Contents.{First, TextLast, IsContent, AreText, content_holds, TakesNew, TakesText}
 use Rattle.cdx_leaf.specs.Attribute.{Gives}
 use Rattle.cdx_machine.specs.Machines.{Refuses, IsQuiet, Proceeds, Yields}

@@ -1,5 +1,5 @@
 -- A machine that is fed the events of an element.
-use Rattle.std.proofs.Common.{◌≡◌, ℕ, suc, ◌+◌, ◌≤◌, List, [], ◌∷◌, ◌++◌, length, Some, None, Ok, Err, refl, sym, ap, ◌∙◌, subst, arith, append_assoc}
+use Rattle.std.proofs.Common.{◌≡◌, ℕ, suc, ◌+◌, ◌≤◌, List, [], ◌∷◌, ◌++◌, length, Some, None, Result, Ok, Err, refl, sym, ap, ◌∙◌, subst, arith, append_assoc}
 use Rattle.std.proofs.lemmas.List.{append-nil}
 use Rattle.cdx_events.specs.declared.name.OwnedName.{OwnedName}
 use Rattle.cdx_events.specs.declared.name.OwnedAttribute.{OwnedAttribute}
@@ -29,6 +29,7 @@ use Rattle.cdx_machine.specs.Begun.{Begun, innermost, around, start_name, so_far
 use Rattle.cdx_machine.specs.Machines.{Holding, Refuses, Steps, StepsAs}
 use Rattle.cdx_machine.specs.Feeding.{IsNoBill}
 use Rattle.cdx_machine.proofs.Places.{one_on, counted, Counted}
+use Rattle.cdx_machine.proofs.Yielding.{ended_with}
 use Rattle.cdx_machine.proofs.Frames.{Keeps, keeps_name}
 use Rattle.cdx_machine.proofs.Heard.{count_is, EventsAre, events_next, open_names, ended_events, begins_takes}
 
@@ -232,3 +233,8 @@ module _ {M X : Type 0} (holds : Holding M) (view : X → Tree) (kind : Kind) (v
           let q : (element (start_name f.o) kn.0 kn.1 kn.2 ≡ element n a s nodes) × (c'.ahead ≡ rest) = same_element (start_name f.o) n kn.0 a kn.1 s kn.2 nodes c'.ahead rest (ap (λ es. es ++ c'.ahead) (ap events_of (sym kn.3) ∙ es) ∙ goes) in
           let k_is : k ≡ element n a s nodes = kn.3 ∙ q.0 in
           (ap (λ (z : Node). xread z v kind p d) (sym k_is) ∙ h, cursor_is c' (after old nodes rest) (at_end (places k) ct (ap places k_is)) q.1)
+
+  -- with its value or with its fault
+  pub feeds_ends : (r : Result X XmlReadError) → IsNoBill kind → StepsAs holds view kind m m' place event (ended_with r) → Reads view old c' (after old nodes rest) (xread (element n a s nodes) v kind p d) r
+  feeds_ends (Ok x) nb steps = feeds_done x steps
+  feeds_ends (Err e) nb steps = feeds_fails (after old nodes rest) e nb steps

@@ -1,5 +1,5 @@
 -- What an event makes of an element that is read child by child, by its kind or otherwise.
-use Rattle.std.proofs.Common.{◌≡◌, ℕ, suc, ◌+◌, ◌≤◌, List, Bool, true, false, Option, Some, None, Result, Ok, Err, refl, sym, ap, ◌∙◌, subst, arith}
+use Rattle.std.proofs.Common.{◌≡◌, ℕ, suc, ◌+◌, ◌≤◌, List, Bool, true, false, Some, None, Result, Ok, Err, refl, sym, ap, ◌∙◌, subst, arith}
 use Rattle.cdx_events.specs.declared.name.OwnedName.{OwnedName}
 use Rattle.cdx_events.specs.declared.name.OwnedAttribute.{OwnedAttribute}
 use Rattle.cdx_events.specs.declared.name.Namespace.{Namespace}
@@ -264,12 +264,12 @@ module _ (denotes : Node → SpecVersion → ℕ → Depth → Result Tree XmlRe
     child_fed r r' c (Skipped depth) o place event h is t e = absurd e
 
     -- A child is skipped.
-    pub child_skipped : (ts : Trees) (depth : ℕ) (o : Begun) (event : XmlEvent) → holds_inside holds first plan name known ts (Skipped depth) v p d o → Takes o event → Stepped (λ o. holds_inside holds first plan name known ts (skipped depth event) v p d o) (next o event) (Ok false)
-    child_skipped ts depth (innermost n a s xs) event h t = absurd h
-    child_skipped ts depth (around n a s xs o) event (h, i) t =
-        by (next o event) (keeps_name o event) (subst (λ k. Skips C (next o event) (skipped k event)) i.depth_is (skips_next C o event t))
+    pub child_skipped : (ts : Trees) (depth : ℕ) (inside : Inside C) (o : Begun) (event : XmlEvent) → inside ≡ skipped depth event → holds_inside holds first plan name known ts (Skipped depth) v p d o → Takes o event → Stepped (λ o. holds_inside holds first plan name known ts inside v p d o) (next o event) (Ok false)
+    child_skipped ts depth inside (innermost n a s xs) event is h t = absurd h
+    child_skipped ts depth inside (around n a s xs o) event is (h, i) t =
+        by (next o event) (keeps_name o event) (subst (λ (x : Inside C). Skips C (next o event) x) (sym is) (subst (λ k. Skips C (next o event) (skipped k event)) i.depth_is (skips_next C o event t)))
       where
-        by : (x : Next) → Keeps (start_name o) x → Skips C x (skipped depth event) → Stepped (λ o. holds_inside holds first plan name known ts (skipped depth event) v p d o) (into n a s xs x) (Ok false)
+        by : (x : Next) → Keeps (start_name o) x → Skips C x inside → Stepped (λ o. holds_inside holds first plan name known ts inside v p d o) (into n a s xs x) (Ok false)
         by (still o') w e =
             let unknown : find_child v (start_name o').local_name plan.children ≡ None = ap (λ (y : OwnedName). find_child v y.local_name plan.children) w ∙ i.not_found in (
               subst (λ (x : Inside C). holds_inside holds first plan name known ts x v p d (around n a s xs o')) (sym e) (h, record { not_found = unknown; passed = i.passed; depth_is = refl }),

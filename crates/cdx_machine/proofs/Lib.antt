@@ -4,8 +4,8 @@ pub mod Contents
 pub mod Names
 pub mod Frames
 pub mod FrameSteps
-pub mod Children
 pub mod Yielding
+pub mod Children
 pub mod Heard
 pub mod Feeding
 pub mod Several

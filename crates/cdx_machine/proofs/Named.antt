@@ -1,20 +1,16 @@
 -- Kinds that are read by the name of their element.
-use Rattle.std.proofs.Common.{◌≡◌, ℕ, ◌+◌, List, Option, Some, None, Result, Ok, Err, refl, sym, ap, ◌∙◌, subst}
+use Rattle.std.proofs.Common.{◌≡◌, ℕ, ◌+◌, List, Ok, refl, sym, subst}
 use Rattle.cdx_events.specs.declared.name.OwnedName.{OwnedName}
 use Rattle.cdx_events.specs.declared.name.OwnedAttribute.{OwnedAttribute}
 use Rattle.cdx_events.specs.declared.name.Namespace.{Namespace}
 use Rattle.cdx_events.specs.Nodes.{Node, Nodes, no_nodes, element}
 use Rattle.cdx_models.specs.declared.bom.SpecVersion.{SpecVersion}
-use Rattle.cdx_models.specs.declared.errors.XmlReadError.{XmlReadError}
-use Rattle.cdx_models.specs.Trees.{Tree}
 use Rattle.cdx_schema.specs.Depth.{Depth}
 use Rattle.cdx_schema.specs.Kinds.{Kind}
-use Rattle.cdx_schema.specs.Nodes.{places}
 use Rattle.cdx_schema.specs.XmlReading.{xread}
-use Rattle.cdx_machine.specs.Begun.{Begun, innermost, Next, still, whole, start_name, count, ended_now}
-use Rattle.cdx_machine.specs.Machines.{Holding, Refuses, IsQuiet, StartsAs, Steps}
-use Rattle.cdx_machine.proofs.Frames.{IsNamed, ended_named, Keeps}
-use Rattle.cdx_machine.proofs.Several.{mapped}
+use Rattle.cdx_machine.specs.Begun.{innermost}
+use Rattle.cdx_machine.specs.Machines.{Holding, IsQuiet, StartsAs}
+use Rattle.cdx_machine.proofs.Frames.{IsNamed}
 
 -- An element of a name that the two kinds read alike.
 module _ (kind other_kind : Kind) (Is : List ℕ → Type 0) (alike : (n : OwnedName) (a : List OwnedAttribute) (s : Namespace) (xs : Nodes) (v : SpecVersion) (p : ℕ) (d : Depth) → Is n.local_name → xread (element n a s xs) v kind p d ≡ xread (element n a s xs) v other_kind p d) where
@@ -24,13 +20,3 @@ module _ (kind other_kind : Kind) (Is : List ℕ → Type 0) (alike : (n : Owned
   pub starts_alike : {M N : Type 0} (holds : Holding M) (holds' : Holding N) (wrap : M → N) (v : SpecVersion) (place : ℕ) (n : OwnedName) (a : List OwnedAttribute) (m : M) → Is n.local_name → ((d : Depth) (s : Namespace) → holds m v place d (innermost n a s no_nodes) → holds' (wrap m) v place d (innermost n a s no_nodes))
       → StartsAs holds other_kind v place n a (Ok m) → StartsAs holds' kind v place n a (Ok (wrap m))
   starts_alike holds holds' wrap v place n a m named up h d s = (up d s (h d s).0, subst (λ r. IsQuiet (place + 1) r) (read_alike (element n a s no_nodes) n v place d (a, s, no_nodes, refl) named) (h d s).1)
-
-  step_alike : {X Y : Type 0} (held held' : Begun → Type 0) (view : X → Tree) (view' : Y → Tree) (f : X → Y) (v : SpecVersion) (p : ℕ) (d : Depth) (n : OwnedName) → Is n.local_name → ((o : Begun) → start_name o ≡ n → held o → held' o) → ((x : X) → view' (f x) ≡ view x) → (x : Next) (r : Result (Option X) XmlReadError) → Keeps n x
-      → Steps held view (λ k. xread k v other_kind p d) p x r → Steps held' view' (λ k. xread k v kind p d) p x (mapped f r)
-  step_alike held held' view view' f v p d n named up same (still o) (Ok None) keeps h =
-      (up o keeps h.0, subst (λ r. IsQuiet (p + count o) r) (read_alike (ended_now o) (start_name o) v p d (ended_named o) (subst (λ (m : OwnedName). Is m.local_name) (sym keeps) named)) h.1)
-  step_alike held held' view view' f v p d n named up same (still o) (Ok (Some x)) keeps h = h
-  step_alike held held' view view' f v p d n named up same (still o) (Err e) keeps h = subst (λ r. Refuses e (p + count o) r) (read_alike (ended_now o) (start_name o) v p d (ended_named o) (subst (λ (m : OwnedName). Is m.local_name) (sym keeps) named)) h
-  step_alike held held' view view' f v p d n named up same (whole k) (Ok None) keeps h = h
-  step_alike held held' view view' f v p d n named up same (whole k) (Ok (Some x)) keeps h = sym (read_alike k n v p d keeps named) ∙ (h ∙ ap (λ t. Ok t) (sym (same x)))
-  step_alike held held' view view' f v p d n named up same (whole k) (Err e) keeps h = subst (λ r. Refuses e (p + places k) r) (read_alike k n v p d keeps named) h

@@ -6,13 +6,9 @@ use Rattle.cdx_models.specs.declared.errors.XmlReadError.{XmlReadError}
 use Rattle.cdx_models.specs.Trees.{Tree}
 use Rattle.cdx_events.specs.Nodes.{Node}
 use Rattle.cdx_schema.specs.Depth.{Depth}
-use Rattle.cdx_schema.specs.Kinds.{Kind}
-use Rattle.cdx_schema.specs.XmlReading.{xread}
-use Rattle.cdx_machine.specs.declared.or.Or.{Or}
-use Rattle.cdx_machine.specs.declared.or.Or.TheVariants.{This, Other}
-use Rattle.cdx_machine.specs.Begun.{Begun, Next, still, whole, next}
-use Rattle.cdx_machine.specs.Machines.{Holding, CanStep, Steps, StepsAs}
-use Rattle.cdx_machine.specs.Several.{at_position, or_position, or_holds, or_tree}
+use Rattle.cdx_machine.specs.Begun.{Begun, Next, still, whole}
+use Rattle.cdx_machine.specs.Machines.{Holding, CanStep, Steps}
+use Rattle.cdx_machine.specs.Several.{at_position}
 
 pub some_same : {A : Type 0} {x y : A} → Some x ≡ Some y → x ≡ y
 some_same {A = A} {x = x} h = ap (λ (o : Option A). the o) h
@@ -42,36 +38,6 @@ other_at (suc i) j not is = ap suc (is ∙ one_less i)
 pub only_is : {A : Type 0} (x y : A) (i : ℕ) → at_position (x ∷ []) i ≡ Some y → x ≡ y
 only_is x y zero is = some_same is
 only_is x y (suc i) is = absurd (let wrong : None ≡ Some y = is in cc)
-
-abbrev pub mapped : {X Y : Type 0} → (X → Y) → Result (Option X) XmlReadError → Result (Option Y) XmlReadError
-mapped f (Ok None) = Ok None
-mapped f (Ok (Some x)) = Ok (Some (f x))
-mapped f (Err e) = Err e
-
--- A step of a machine is one of the row, by what its value becomes.
-rewrapped : {X Y T : Type 0} (held held' : Begun → Type 0) (view : X → T) (view' : Y → T) (f : X → Y) → ((o : Begun) → held o → held' o) → ((x : X) → view' (f x) ≡ view x) → (read : Node → Result T XmlReadError) (p : ℕ) (n : Next) (r : Result (Option X) XmlReadError)
-    → Steps held view read p n r → Steps held' view' read p n (mapped f r)
-rewrapped held held' view view' f up same read p (still o) (Ok None) h = (up o h.0, h.1)
-rewrapped held held' view view' f up same read p (still o) (Ok (Some x)) h = h
-rewrapped held held' view view' f up same read p (still o) (Err e) h = h
-rewrapped held held' view view' f up same read p (whole k) (Ok None) h = h
-rewrapped held held' view view' f up same read p (whole k) (Ok (Some x)) h = h ∙ ap (λ t. Ok t) (sym (same x))
-rewrapped held held' view view' f up same read p (whole k) (Err e) h = h
-
-module _ {M R X Y : Type 0} (k : Kind) (kinds : List Kind) (first : Holding M) (others : Holding R) (position : R → ℕ) (view : X → Tree) (views : Y → Tree) (place : ℕ) (event : XmlEvent) where
-  -- the first machine's step
-  pub first_steps : (m m' : M) (r : Result (Option X) XmlReadError) (l : Kind) (old : Or M R) → old ≡ This m → at_position (k ∷ kinds) (or_position position old) ≡ Some l → StepsAs first view k m m' place event r
-      → StepsAs (or_holds first others) (or_tree view views) l old (This m') place event (mapped (λ x. This x) r)
-  first_steps m m' r l old is at h v p d o held pl t =
-      rewrapped (λ o. first m' v p d o) (λ o. or_holds first others (This m') v p d o) view (or_tree view views) (λ x. This x) (λ o h. h) (λ x. refl) (λ n. xread n v l p d) p (next o event) r
-      (subst (λ (l : Kind). Steps (λ o. first m' v p d o) view (λ n. xread n v l p d) p (next o event) r) (some_same (ap (λ x. at_position (k ∷ kinds) (or_position position x)) (sym is) ∙ at)) (h v p d o (subst (λ (x : Or M R). or_holds first others x v p d o) is held) pl t))
-
-  -- a step of the others
-  pub other_steps : (m m' : R) (r : Result (Option Y) XmlReadError) (l : Kind) (old : Or M R) → old ≡ Other m → at_position (k ∷ kinds) (or_position position old) ≡ Some l → ((l : Kind) → at_position kinds (position m) ≡ Some l → StepsAs others views l m m' place event r)
-      → StepsAs (or_holds first others) (or_tree view views) l old (Other m') place event (mapped (λ x. Other x) r)
-  other_steps m m' r l old is at h v p d o held pl t =
-      rewrapped (λ o. others m' v p d o) (λ o. or_holds first others (Other m') v p d o) views (or_tree view views) (λ x. Other x) (λ o h. h) (λ x. refl) (λ n. xread n v l p d) p (next o event) r
-      (h l (ap (λ x. at_position (k ∷ kinds) (or_position position x)) (sym is) ∙ at) v p d o (subst (λ (x : Or M R). or_holds first others x v p d o) is held) pl t)
 
 -- ---- one machine of several, as a machine of its own
 

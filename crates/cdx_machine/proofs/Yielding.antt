@@ -1,15 +1,13 @@
 -- A step and, at the element's end, what it is read as: both at once.
-use Rattle.std.proofs.Common.{◌≡◌, ℕ, suc, ◌+◌, Bool, true, false, Option, Some, None, Result, Ok, Err, refl}
+use Rattle.std.proofs.Common.{◌≡◌, ℕ, ◌+◌, Bool, true, false, Option, Some, None, Result, Ok, Err, refl}
 use Rattle.cdx_events.specs.declared.event.XmlEvent.{XmlEvent}
 use Rattle.cdx_events.specs.Nodes.{Node}
-use Rattle.cdx_models.specs.declared.bom.SpecVersion.{SpecVersion}
 use Rattle.cdx_models.specs.declared.errors.XmlReadError.{XmlReadError}
 use Rattle.cdx_models.specs.Trees.{Tree}
-use Rattle.cdx_schema.specs.Depth.{Depth}
 use Rattle.cdx_schema.specs.Kinds.{Kind}
 use Rattle.cdx_schema.specs.Nodes.{places}
 use Rattle.cdx_schema.specs.XmlReading.{xread}
-use Rattle.cdx_machine.specs.Begun.{Begun, Next, still, whole, next, Takes, count}
+use Rattle.cdx_machine.specs.Begun.{Begun, Next, still, whole, next}
 use Rattle.cdx_machine.specs.Machines.{Holding, CanStep, CanYield, Proceeds, ProceedsAs, Yields, YieldsAs, Steps, StepsAs}
 
 -- what is answered at an element's end

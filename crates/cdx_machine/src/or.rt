@@ -114,7 +114,11 @@ impl<M: Machine, R: Machines> Machines for Or<M, R> {
         }
     }
 
-    fn finish(self, place: usize, event: &XmlEvent) -> Result<Or<M::Value, R::Value>, XmlReadError> {
+    fn finish(
+        self,
+        place: usize,
+        event: &XmlEvent,
+    ) -> Result<Or<M::Value, R::Value>, XmlReadError> {
         match self {
             Or::This(machine) => Ok(Or::This(machine.finish(place, event)?)),
             Or::Other(machines) => Ok(Or::Other(machines.finish(place, event)?)),

@@ -1,4 +1,4 @@
-use Rattle.std.proofs.Common.{◌+◌, Ok, None, sym, ◌∙◌, subst}
+use Rattle.std.proofs.Common.{◌+◌, None, sym, ◌∙◌, subst}
 use Rattle.std.proofs.lemmas.Result.{err_from_is_err_and}
 use Rattle.cdx_events.specs.Nodes.{element, no_nodes}
 use Rattle.cdx_schema.specs.Depth.{top}
@@ -6,8 +6,9 @@ use Rattle.cdx_schema.specs.XmlReading.{xread}
 use Rattle.cdx_leaf.specs.Reading.{after}
 use Rattle.cdx_leaf.proofs.Whole.{start_is}
 use Rattle.cdx_machine.specs.Begun.{innermost}
-use Rattle.cdx_machine.specs.Machines.{Refuses, StepsAs}
-use Rattle.cdx_machine.proofs.Feeding.{feeds_first, feeds_takes, feeds_on, feeds_never, feeds_refused, feeds_fails, feeds_done}
+use Rattle.cdx_machine.specs.Machines.{Refuses}
+use Rattle.cdx_machine.proofs.Feeding.{feeds_first, feeds_takes, feeds_on, feeds_never, feeds_refused, feeds_fails, feeds_ends}
+use Rattle.cdx_machine.proofs.Yielding.{waits, fails, ends_with, can_yield}
 use Rattle.cdx_machine.proofs.reading.read_by_machine.Goals as goal
 
 pub returns-in_err-machine : goal.returns-in_err-machine
@@ -36,19 +37,29 @@ step-requires g c =
     let t = c.in-Some.ensures.takes in
     record { v = c.args.v; p = i.p; d = top; o = f.o; held = f.held; place_is = c.place-place.ensures ∙ f.at; takes = feeds_takes g.M.Machine.holds c.args.v c.args.element.now c.args.attributes.now (record { default = None }) i.p i.nodes i.rest top c.events.reader c.next.new.self c.in-Some.event.now t.0 t.1 c.events.machine f }
 
-pub returns-in_err-value : goal.returns-in_err-value
-returns-in_err-value g c = λ d s p nodes rest st.
-    let q = err_from_is_err_and c.from_residual-in_err-value.result c.from_residual-in_err-value.ensures.1 in
+pub returns-in_err-step : goal.returns-in_err-step
+returns-in_err-step g c = λ d s p nodes rest st.
+    let q = err_from_is_err_and c.from_residual-in_err-step.result c.from_residual-in_err-step.ensures.1 in
     let f = c.events.invariant.fed d s p nodes rest st in
     let t = c.in-Some.ensures.takes in
-    rw (q.1, q.2) (feeds_fails g.M.Machine.holds g.M.Machine.tree g.M.Machine.kind c.args.v c.args.element.now c.args.attributes.now s p nodes rest d c.args.reader.now c.events.reader c.next.new.self c.in-Some.event.now t.0 t.1 c.events.machine c.step.new.self c.place-place.result f st c.place-place.ensures (after c.args.reader.now nodes rest) c.in_err-value.field-0.0 c.requires.kind c.in_err-value.ensures)
+    rw (q.1, q.2) (feeds_fails g.M.Machine.holds g.M.Machine.tree g.M.Machine.kind c.args.v c.args.element.now c.args.attributes.now s p nodes rest d c.args.reader.now c.events.reader c.next.new.self c.in-Some.event.now t.0 t.1 c.events.machine c.step.new.self c.place-place.result f st c.place-place.ensures (after c.args.reader.now nodes rest) c.in_err-step.field-0.0 c.requires.kind
+    (fails g.M.Machine.holds g.M.Machine.tree g.M.Machine.kind c.events.machine c.step.new.self c.place-place.result c.in-Some.event.now c.in_err-step.field-0.0 c.in_err-step.ensures))
 
-pub returns-in-Some-2 : goal.returns-in-Some-2
-returns-in-Some-2 g c = λ d s p nodes rest st.
+pub finish-requires : goal.finish-requires
+finish-requires g c =
+    let i = c.requires.inside in
+    let f = c.events.invariant.fed top (record { default = None }) i.p i.nodes i.rest i.stands in
+    let t = c.in-Some.ensures.takes in
+    can_yield g.M.Machine.holds g.M.Machine.tree g.M.Machine.kind c.events.machine c.step.new.self c.place-place.result c.in-Some.event.now c.in_ok-step.field-0 c.if-branch.true
+    (record { v = c.args.v; p = i.p; d = top; o = f.o; held = f.held; place_is = c.place-place.ensures ∙ f.at; takes = feeds_takes g.M.Machine.holds c.args.v c.args.element.now c.args.attributes.now (record { default = None }) i.p i.nodes i.rest top c.events.reader c.next.new.self c.in-Some.event.now t.0 t.1 c.events.machine f })
+    c.in_ok-step.ensures
+
+pub returns-then-branch : goal.returns-then-branch
+returns-then-branch g c = λ d s p nodes rest st.
     let f = c.events.invariant.fed d s p nodes rest st in
     let t = c.in-Some.ensures.takes in
-    feeds_done g.M.Machine.holds g.M.Machine.tree g.M.Machine.kind c.args.v c.args.element.now c.args.attributes.now s p nodes rest d c.args.reader.now c.events.reader c.next.new.self c.in-Some.event.now t.0 t.1 c.events.machine c.step.new.self c.place-place.result f st c.place-place.ensures c.in-Some-2.value
-    (subst (λ r. StepsAs g.M.Machine.holds g.M.Machine.tree g.M.Machine.kind c.events.machine c.step.new.self c.place-place.result c.in-Some.event.now (Ok r)) c.in-Some-2.is c.in_ok-value.ensures)
+    feeds_ends g.M.Machine.holds g.M.Machine.tree g.M.Machine.kind c.args.v c.args.element.now c.args.attributes.now s p nodes rest d c.args.reader.now c.events.reader c.next.new.self c.in-Some.event.now t.0 t.1 c.events.machine c.step.new.self c.place-place.result f st c.place-place.ensures c.finish.result c.requires.kind
+    (ends_with g.M.Machine.holds g.M.Machine.tree g.M.Machine.kind c.events.machine c.step.new.self c.place-place.result c.in-Some.event.now c.in_ok-step.field-0 c.finish.result c.if-branch.true c.in_ok-step.ensures c.finish.ensures)
 
 pub events-preserved : goal.events-preserved
 events-preserved g c = record {
@@ -56,5 +67,5 @@ events-preserved g c = record {
       let f = c.events.invariant.fed d s p nodes rest st in
       let t = c.in-Some.ensures.takes in
       feeds_on g.M.Machine.holds c.args.v c.args.element.now c.args.attributes.now s p nodes rest d c.events.reader c.next.new.self c.in-Some.event.now t.0 t.1 g.M.Machine.tree g.M.Machine.kind c.events.machine c.step.new.self c.place-place.result f c.place-place.ensures
-      (subst (λ r. StepsAs g.M.Machine.holds g.M.Machine.tree g.M.Machine.kind c.events.machine c.step.new.self c.place-place.result c.in-Some.event.now (Ok r)) c.in_default-2.is c.in_ok-value.ensures);
+      (waits g.M.Machine.holds g.M.Machine.tree g.M.Machine.kind c.events.machine c.step.new.self c.place-place.result c.in-Some.event.now c.in_ok-step.field-0 c.if-branch.false c.in_ok-step.ensures);
 }

@@ -1,4 +1,4 @@
-use Rattle.std.proofs.Common.{refl, ap}
+use Rattle.std.proofs.Common.{refl}
 use Rattle.std.proofs.lemmas.Result.{err_from_is_err_and}
 use Rattle.cdx_machine.proofs.Contents.{text_opens, text_refuses}
 use Rattle.cdx_machine.proofs.content.ContentMachineMachine.start.Goals as goal

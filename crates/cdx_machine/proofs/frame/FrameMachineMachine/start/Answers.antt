@@ -1,6 +1,6 @@
 use Rattle.std.proofs.lemmas.Result.{err_from_is_err_and}
 use Rattle.cdx_machine.specs.Frames.{read_as}
-use Rattle.cdx_machine.specs.Several.{reads_child}
+use Rattle.cdx_machine.specs.Several.{reads_boxed}
 use Rattle.cdx_machine.proofs.FrameSteps.{frame_opens, frame_refuses}
 use Rattle.cdx_machine.proofs.frame.FrameMachineMachine.start.Goals as goal
 
@@ -13,5 +13,5 @@ returns-in_err-part g c = λ d s.
 pub returns : goal.returns
 returns g c = λ d s.
     let f = g.F.Frame in
-    let h = frame_opens (read_as f.kind) f.plan f.first f.last g.met.F.Frame.frame (reads_child f.plan g.F.Child.Machines.position_of g.F.Child.Machines.holds) f.slots c.in_ok-part.part c.args.element.now c.args.attributes.now s c.args.v c.args.place d c.in_ok-part.ensures in
+    let h = frame_opens (read_as f.kind) f.plan f.first f.last g.met.F.Frame.frame (reads_boxed f.plan g.F.Child.Machines.position_of g.F.Child.Machines.holds) f.slots c.in_ok-part.part c.args.element.now c.args.attributes.now s c.args.v c.args.place d c.in_ok-part.ensures in
     (record { name_is = c.in_ok-copy.ensures; version_is = h.0.version_is; reads = h.0.reads }, h.1)

@@ -1,77 +1,33 @@
-use Rattle.std.proofs.Common.{◌+◌, Err, sym, ap, ◌∙◌}
+use Rattle.std.proofs.Common.{sym, ap, ◌∙◌}
 use Rattle.std.proofs.lemmas.Result.{err_from_is_err_and}
 use Rattle.cdx_events.specs.Event.{kind_of}
 use Rattle.cdx_machine.specs.declared.frame.Inside.TheVariants.{Nothing, Read, Skipped}
 use Rattle.cdx_machine.specs.Frames.{read_as}
-use Rattle.cdx_machine.specs.Several.{reads_child}
-use Rattle.cdx_machine.proofs.FrameSteps.{own_enters_by, own_start_fails_by, own_ends_by, own_text, own_text_fails, child_goes_on, child_ends, child_fails, skip_goes_on, skip_ends, skip_fits, part_is}
+use Rattle.cdx_machine.specs.Several.{reads_boxed}
+use Rattle.cdx_machine.proofs.FrameSteps.{own_enters_by, own_start_fails_by, own_end, own_text, own_text_fails, child_fed, child_fails, child_skipped, skip_fits, inside_is}
 use Rattle.cdx_machine.proofs.frame.FrameMachineMachine.step.Goals as goal
 
-pub returns-in_err-feed-in-Read : goal.returns-in_err-feed-in-Read
-returns-in_err-feed-in-Read g c = λ v p d o h is t.
+pub returns-in_err-self-in-Read : goal.returns-in_err-self-in-Read
+returns-in_err-self-in-Read g c = λ v p d o h is t.
     let q = err_from_is_err_and c.from_residual.result c.from_residual.ensures.1 in
     let f = g.F.Frame in
     let m = c.args.self.now in
-    rw (q.1, q.2) (child_fails (read_as f.kind) f.plan f.first f.last g.met.F.Frame.frame (reads_child f.plan g.F.Child.Machines.position_of g.F.Child.Machines.holds) f.slots g.F.Frame.tree v p d m.name m.v _ (f.slots c.in-Some.part) (f.slots c.feed.new.part) c.in-Read.child c.feed.new.child o c.args.place c.args.event.now c.in_err-feed-in-Read.field-0.0 (part_is (read_as f.kind) f.plan f.first f.last g.met.F.Frame.frame (reads_child f.plan g.F.Child.Machines.position_of g.F.Child.Machines.holds) f.slots g.F.Frame.tree v p d m.name m.v m.part m.inside c.in-Some.part (Read c.in-Read.child) o h c.in-Some.is c.in-Read.is) is t c.in_err-feed-in-Read.ensures)
+    rw (q.1, q.2) (child_fails (read_as f.kind) f.plan f.first f.last g.met.F.Frame.frame (reads_boxed f.plan g.F.Child.Machines.position_of g.F.Child.Machines.holds) f.slots _ v p d m.name m.v _ (f.slots m.part) (f.slots c.feed.new.part) c.in-Read.child c.in-Read.child o c.args.place c.args.event.now c.in_err-self-in-Read.field-0.0 (inside_is (read_as f.kind) f.plan f.first f.last g.met.F.Frame.frame (reads_boxed f.plan g.F.Child.Machines.position_of g.F.Child.Machines.holds) f.slots (Unit {0}) v p d m.name m.v (f.slots m.part) m.inside (Read c.in-Read.child) o h (sym c.replace.ensures.value ∙ c.in-Read.is)) is t c.in_err-self-in-Read.ensures)
 
-pub returns-then-branch : goal.returns-then-branch
-returns-then-branch g c = λ v p d o h is t.
+pub returns-in_ok-self-in-Read : goal.returns-in_ok-self-in-Read
+returns-in_ok-self-in-Read g c = λ v p d o h is t.
     let f = g.F.Frame in
     let m = c.args.self.now in
-    child_ends (read_as f.kind) f.plan f.first f.last g.met.F.Frame.frame (reads_child f.plan g.F.Child.Machines.position_of g.F.Child.Machines.holds) f.slots g.F.Frame.tree v p d m.name m.v c.in-Some.part c.feed.new.part c.in-Read.child c.feed.new.child o c.args.place c.args.event.now c.in_ok-feed-in-Read.field-0 c.if-branch.true (part_is (read_as f.kind) f.plan f.first f.last g.met.F.Frame.frame (reads_child f.plan g.F.Child.Machines.position_of g.F.Child.Machines.holds) f.slots g.F.Frame.tree v p d m.name m.v m.part m.inside c.in-Some.part (Read c.in-Read.child) o h c.in-Some.is c.in-Read.is) is t c.in_ok-feed-in-Read.ensures
+    child_fed (read_as f.kind) f.plan f.first f.last g.met.F.Frame.frame (reads_boxed f.plan g.F.Child.Machines.position_of g.F.Child.Machines.holds) f.slots _ v p d m.name m.v m.part c.feed.new.part c.in-Read.child c.in_ok-self-in-Read.field-0 o c.args.place c.args.event.now (inside_is (read_as f.kind) f.plan f.first f.last g.met.F.Frame.frame (reads_boxed f.plan g.F.Child.Machines.position_of g.F.Child.Machines.holds) f.slots (Unit {0}) v p d m.name m.v (f.slots m.part) m.inside (Read c.in-Read.child) o h (sym c.replace.ensures.value ∙ c.in-Read.is)) is t c.in_ok-self-in-Read.ensures
 
-pub returns-else-branch : goal.returns-else-branch
-returns-else-branch g c = λ v p d o h is t.
+pub returns-in-Skipped : goal.returns-in-Skipped
+returns-in-Skipped g c = λ v p d o h is t.
     let f = g.F.Frame in
     let m = c.args.self.now in
-    child_goes_on (read_as f.kind) f.plan f.first f.last g.met.F.Frame.frame (reads_child f.plan g.F.Child.Machines.position_of g.F.Child.Machines.holds) f.slots g.F.Frame.tree v p d m.name m.v c.in-Some.part c.feed.new.part c.in-Read.child c.feed.new.child o c.args.place c.args.event.now c.in_ok-feed-in-Read.field-0 c.if-branch.false (part_is (read_as f.kind) f.plan f.first f.last g.met.F.Frame.frame (reads_child f.plan g.F.Child.Machines.position_of g.F.Child.Machines.holds) f.slots g.F.Frame.tree v p d m.name m.v m.part m.inside c.in-Some.part (Read c.in-Read.child) o h c.in-Some.is c.in-Read.is) is t c.in_ok-feed-in-Read.ensures
+    child_skipped (read_as f.kind) f.plan f.first f.last g.met.F.Frame.frame (reads_boxed f.plan g.F.Child.Machines.position_of g.F.Child.Machines.holds) f.slots _ v p d m.name m.v (f.slots m.part) c.in-Skipped.depth c.skip.result o c.args.event.now c.skip.ensures (inside_is (read_as f.kind) f.plan f.first f.last g.met.F.Frame.frame (reads_boxed f.plan g.F.Child.Machines.position_of g.F.Child.Machines.holds) f.slots (Unit {0}) v p d m.name m.v (f.slots m.part) m.inside (Skipped c.in-Skipped.depth) o h (sym c.replace.ensures.value ∙ c.in-Skipped.is)) t
 
-pub returns-then-skip_one : goal.returns-then-skip_one
-returns-then-skip_one g c = λ v p d o h is t.
-    let f = g.F.Frame in
-    let m = c.args.self.now in
-    skip_ends (read_as f.kind) f.plan f.first f.last g.met.F.Frame.frame (reads_child f.plan g.F.Child.Machines.position_of g.F.Child.Machines.holds) f.slots g.F.Frame.tree v p d m.name m.v c.in-Some.part c.in-Skipped.depth c.skip_one.new.depth o c.args.event.now c.skip_one.result c.if-skip_one.true (part_is (read_as f.kind) f.plan f.first f.last g.met.F.Frame.frame (reads_child f.plan g.F.Child.Machines.position_of g.F.Child.Machines.holds) f.slots g.F.Frame.tree v p d m.name m.v m.part m.inside c.in-Some.part (Skipped c.in-Skipped.depth) o h c.in-Some.is c.in-Skipped.is) t c.skip_one.ensures
-
-pub returns-else-skip_one : goal.returns-else-skip_one
-returns-else-skip_one g c = λ v p d o h is t.
-    let f = g.F.Frame in
-    let m = c.args.self.now in
-    skip_goes_on (read_as f.kind) f.plan f.first f.last g.met.F.Frame.frame (reads_child f.plan g.F.Child.Machines.position_of g.F.Child.Machines.holds) f.slots g.F.Frame.tree v p d m.name m.v c.in-Some.part c.in-Skipped.depth c.skip_one.new.depth o c.args.event.now c.skip_one.result c.if-skip_one.false (part_is (read_as f.kind) f.plan f.first f.last g.met.F.Frame.frame (reads_child f.plan g.F.Child.Machines.position_of g.F.Child.Machines.holds) f.slots g.F.Frame.tree v p d m.name m.v m.part m.inside c.in-Some.part (Skipped c.in-Skipped.depth) o h c.in-Some.is c.in-Skipped.is) t c.skip_one.ensures
-
-pub returns-in_err-self-in-StartElement : goal.returns-in_err-self-in-StartElement
-returns-in_err-self-in-StartElement g c = λ v p d o h is t.
-    let q = err_from_is_err_and c.from_residual-in_err-self-in-StartElement.result c.from_residual-in_err-self-in-StartElement.ensures.1 in
-    let f = g.F.Frame in
-    let m = c.args.self.now in
-    rw (q.1, q.2) (own_start_fails_by (read_as f.kind) f.plan f.first f.last g.met.F.Frame.frame (reads_child f.plan g.F.Child.Machines.position_of g.F.Child.Machines.holds) f.slots g.F.Frame.tree v p d m.name m.v c.in-Some.part _ o c.args.place c.args.event.now c.in-StartElement.name c.in-StartElement.attributes c.in-StartElement.namespace c.in_err-self-in-StartElement.field-0.0 c.in-StartElement.is (part_is (read_as f.kind) f.plan f.first f.last g.met.F.Frame.frame (reads_child f.plan g.F.Child.Machines.position_of g.F.Child.Machines.holds) f.slots g.F.Frame.tree v p d m.name m.v m.part m.inside c.in-Some.part Nothing o h c.in-Some.is c.in-Nothing.is) is (c.in_err-self-in-StartElement.ensures (ap kind_of c.in-StartElement.is) d c.in-StartElement.namespace))
-
-pub returns-in_ok-self-in-StartElement : goal.returns-in_ok-self-in-StartElement
-returns-in_ok-self-in-StartElement g c = λ v p d o h is t.
-    let f = g.F.Frame in
-    let m = c.args.self.now in
-    own_enters_by (read_as f.kind) f.plan f.first f.last g.met.F.Frame.frame (reads_child f.plan g.F.Child.Machines.position_of g.F.Child.Machines.holds) f.slots g.F.Frame.tree v p d m.name m.v c.in-Some.part o c.args.place c.args.event.now c.in-StartElement.name c.in-StartElement.attributes c.in-StartElement.namespace c.in_ok-self-in-StartElement.field-0 c.in-StartElement.is (part_is (read_as f.kind) f.plan f.first f.last g.met.F.Frame.frame (reads_child f.plan g.F.Child.Machines.position_of g.F.Child.Machines.holds) f.slots g.F.Frame.tree v p d m.name m.v m.part m.inside c.in-Some.part Nothing o h c.in-Some.is c.in-Nothing.is) is (c.in_ok-self-in-StartElement.ensures (ap kind_of c.in-StartElement.is) d c.in-StartElement.namespace)
-
-pub returns-in_err-finish-in-EndElement : goal.returns-in_err-finish-in-EndElement
-returns-in_err-finish-in-EndElement g c = λ v p d o h is t.
-    let q = err_from_is_err_and c.from_residual-in_err-finish-in-EndElement.result c.from_residual-in_err-finish-in-EndElement.ensures.1 in
-    let f = g.F.Frame in
-    let m = c.args.self.now in
-    rw (q.1, q.2) (own_ends_by (read_as f.kind) f.plan f.first f.last g.met.F.Frame.frame (reads_child f.plan g.F.Child.Machines.position_of g.F.Child.Machines.holds) f.slots g.F.Frame.tree v p d m.name m.v c.in-Some-take.part _ o c.args.place c.args.event.now c.in-EndElement.name (c.args.place + 1) (Err c.in_err-finish-in-EndElement.field-0.0) c.in-EndElement.is (part_is (read_as f.kind) f.plan f.first f.last g.met.F.Frame.frame (reads_child f.plan g.F.Child.Machines.position_of g.F.Child.Machines.holds) f.slots g.F.Frame.tree v p d m.name m.v m.part m.inside c.in-Some-take.part Nothing o h (c.in-Some.is ∙ sym c.in-Some-take.ensures.value) c.in-Nothing.is) is c.in_err-finish-in-EndElement.ensures)
-
-pub returns-then-not-passes : goal.returns-then-not-passes
-returns-then-not-passes g c = λ v p d o h is t.
-    let f = g.F.Frame in
-    let m = c.args.self.now in
-    own_text_fails (read_as f.kind) f.plan f.first f.last g.met.F.Frame.frame (reads_child f.plan g.F.Child.Machines.position_of g.F.Child.Machines.holds) f.slots g.F.Frame.tree v p d m.name m.v c.in-Some.part _ c.rule.result o c.args.place c.args.event.now c.refuse.result (part_is (read_as f.kind) f.plan f.first f.last g.met.F.Frame.frame (reads_child f.plan g.F.Child.Machines.position_of g.F.Child.Machines.holds) f.slots g.F.Frame.tree v p d m.name m.v m.part m.inside c.in-Some.part Nothing o h c.in-Some.is c.in-Nothing.is) is t c.rule.ensures (sym c.passes.ensures ∙ c.if-not-passes.true) c.in_default-event.not-StartElement c.in_default-event.not-EndElement c.refuse.ensures
-
-pub returns-else-not-passes : goal.returns-else-not-passes
-returns-else-not-passes g c = λ v p d o h is t.
-    let f = g.F.Frame in
-    let m = c.args.self.now in
-    own_text (read_as f.kind) f.plan f.first f.last g.met.F.Frame.frame (reads_child f.plan g.F.Child.Machines.position_of g.F.Child.Machines.holds) f.slots g.F.Frame.tree v p d m.name m.v c.in-Some.part _ c.rule.result o c.args.place c.args.event.now (part_is (read_as f.kind) f.plan f.first f.last g.met.F.Frame.frame (reads_child f.plan g.F.Child.Machines.position_of g.F.Child.Machines.holds) f.slots g.F.Frame.tree v p d m.name m.v m.part m.inside c.in-Some.part Nothing o h c.in-Some.is c.in-Nothing.is) t c.rule.ensures (sym c.passes.ensures ∙ c.if-not-passes.false) c.in_default-event.not-StartElement c.in_default-event.not-EndElement c.in-Nothing.is
-
-pub skip_one-requires : goal.skip_one-requires
-skip_one-requires g c =
+pub skip-requires : goal.skip-requires
+skip-requires g c =
     let f = g.F.Frame in
     let m = c.args.self.now in
     let v = c.requires.v in
@@ -79,4 +35,37 @@ skip_one-requires g c =
     let d = c.requires.d in
     let o = c.requires.o in
     let h = c.requires.held in
-    skip_fits (read_as f.kind) f.plan f.first f.last g.met.F.Frame.frame (reads_child f.plan g.F.Child.Machines.position_of g.F.Child.Machines.holds) f.slots g.F.Frame.tree v p d m.name m.v (f.slots c.in-Some.part) c.in-Skipped.depth c.args.place o (part_is (read_as f.kind) f.plan f.first f.last g.met.F.Frame.frame (reads_child f.plan g.F.Child.Machines.position_of g.F.Child.Machines.holds) f.slots g.F.Frame.tree v p d m.name m.v m.part m.inside c.in-Some.part (Skipped c.in-Skipped.depth) o h c.in-Some.is c.in-Skipped.is) c.requires.place_is
+    skip_fits (read_as f.kind) f.plan f.first f.last g.met.F.Frame.frame (reads_boxed f.plan g.F.Child.Machines.position_of g.F.Child.Machines.holds) f.slots (Unit {0}) v p d m.name m.v (f.slots m.part) c.in-Skipped.depth c.args.place o (inside_is (read_as f.kind) f.plan f.first f.last g.met.F.Frame.frame (reads_boxed f.plan g.F.Child.Machines.position_of g.F.Child.Machines.holds) f.slots (Unit {0}) v p d m.name m.v (f.slots m.part) m.inside (Skipped c.in-Skipped.depth) o h (sym c.replace.ensures.value ∙ c.in-Skipped.is)) c.requires.place_is
+
+pub returns-in_err-self-in-StartElement : goal.returns-in_err-self-in-StartElement
+returns-in_err-self-in-StartElement g c = λ v p d o h is t.
+    let q = err_from_is_err_and c.from_residual-in_err-self-in-StartElement.result c.from_residual-in_err-self-in-StartElement.ensures.1 in
+    let f = g.F.Frame in
+    let m = c.args.self.now in
+    rw (q.1, q.2) (own_start_fails_by (read_as f.kind) f.plan f.first f.last g.met.F.Frame.frame (reads_boxed f.plan g.F.Child.Machines.position_of g.F.Child.Machines.holds) f.slots _ v p d m.name m.v m.part _ o c.args.place c.args.event.now c.in-StartElement.name c.in-StartElement.attributes c.in-StartElement.namespace c.in_err-self-in-StartElement.field-0.0 c.in-StartElement.is (inside_is (read_as f.kind) f.plan f.first f.last g.met.F.Frame.frame (reads_boxed f.plan g.F.Child.Machines.position_of g.F.Child.Machines.holds) f.slots (Unit {0}) v p d m.name m.v (f.slots m.part) m.inside Nothing o h (sym c.replace.ensures.value ∙ c.in-Nothing.is)) is (c.in_err-self-in-StartElement.ensures (ap kind_of c.in-StartElement.is) d c.in-StartElement.namespace))
+
+pub returns-in_ok-self-in-StartElement : goal.returns-in_ok-self-in-StartElement
+returns-in_ok-self-in-StartElement g c = λ v p d o h is t.
+    let f = g.F.Frame in
+    let m = c.args.self.now in
+    own_enters_by (read_as f.kind) f.plan f.first f.last g.met.F.Frame.frame (reads_boxed f.plan g.F.Child.Machines.position_of g.F.Child.Machines.holds) f.slots _ v p d m.name m.v m.part o c.args.place c.args.event.now c.in-StartElement.name c.in-StartElement.attributes c.in-StartElement.namespace c.in_ok-self-in-StartElement.field-0 c.in-StartElement.is (inside_is (read_as f.kind) f.plan f.first f.last g.met.F.Frame.frame (reads_boxed f.plan g.F.Child.Machines.position_of g.F.Child.Machines.holds) f.slots (Unit {0}) v p d m.name m.v (f.slots m.part) m.inside Nothing o h (sym c.replace.ensures.value ∙ c.in-Nothing.is)) is (c.in_ok-self-in-StartElement.ensures (ap kind_of c.in-StartElement.is) d c.in-StartElement.namespace)
+
+pub returns-in-EndElement : goal.returns-in-EndElement
+returns-in-EndElement g c = λ v p d o h is t.
+    let f = g.F.Frame in
+    let m = c.args.self.now in
+    let here = (inside_is (read_as f.kind) f.plan f.first f.last g.met.F.Frame.frame (reads_boxed f.plan g.F.Child.Machines.position_of g.F.Child.Machines.holds) f.slots (Unit {0}) v p d m.name m.v (f.slots m.part) m.inside Nothing o h (sym c.replace.ensures.value ∙ c.in-Nothing.is)) in
+    own_end (read_as f.kind) f.plan f.first f.last g.met.F.Frame.frame (reads_boxed f.plan g.F.Child.Machines.position_of g.F.Child.Machines.holds) f.slots _ v p d m.name m.v _ (f.slots m.part) o c.args.event.now c.in-EndElement.name c.in-EndElement.is here
+    (inside_is (read_as f.kind) f.plan f.first f.last g.met.F.Frame.frame (reads_boxed f.plan g.F.Child.Machines.position_of g.F.Child.Machines.holds) f.slots (Unit {0}) v p d m.name m.v (f.slots m.part) Nothing c.replace.new.dest o here (sym c.replace.ensures.after))
+
+pub returns-then-not-passes : goal.returns-then-not-passes
+returns-then-not-passes g c = λ v p d o h is t.
+    let f = g.F.Frame in
+    let m = c.args.self.now in
+    own_text_fails (read_as f.kind) f.plan f.first f.last g.met.F.Frame.frame (reads_boxed f.plan g.F.Child.Machines.position_of g.F.Child.Machines.holds) f.slots _ v p d m.name m.v m.part _ c.rule.result o c.args.place c.args.event.now c.refuse_in.result (inside_is (read_as f.kind) f.plan f.first f.last g.met.F.Frame.frame (reads_boxed f.plan g.F.Child.Machines.position_of g.F.Child.Machines.holds) f.slots (Unit {0}) v p d m.name m.v (f.slots m.part) m.inside Nothing o h (sym c.replace.ensures.value ∙ c.in-Nothing.is)) is t c.rule.ensures (sym c.passes.ensures ∙ c.if-not-passes.true) c.in_default.not-StartElement c.in_default.not-EndElement c.refuse_in.ensures
+
+pub returns-else-not-passes : goal.returns-else-not-passes
+returns-else-not-passes g c = λ v p d o h is t.
+    let f = g.F.Frame in
+    let m = c.args.self.now in
+    own_text (read_as f.kind) f.plan f.first f.last g.met.F.Frame.frame (reads_boxed f.plan g.F.Child.Machines.position_of g.F.Child.Machines.holds) f.slots _ v p d m.name m.v m.part c.replace.new.dest c.rule.result o c.args.place c.args.event.now (inside_is (read_as f.kind) f.plan f.first f.last g.met.F.Frame.frame (reads_boxed f.plan g.F.Child.Machines.position_of g.F.Child.Machines.holds) f.slots (Unit {0}) v p d m.name m.v (f.slots m.part) m.inside Nothing o h (sym c.replace.ensures.value ∙ c.in-Nothing.is)) t c.rule.ensures (sym c.passes.ensures ∙ c.if-not-passes.false) c.in_default.not-StartElement c.in_default.not-EndElement c.replace.ensures.after
