@@ -1,5 +1,5 @@
 -- What one event makes of an open root.
-use Rattle.std.specs.Prelude.{Option, Some, None, Result, Ok, Err}
+use Rattle.std.specs.Prelude.{Bool, true, false, Option, Some, None, Result, Ok, Err}
 use Rattle.std.proofs.Common.{◌≡◌, ℕ, ◌+◌, ◌⊎◌, inl, inr, List, [], ◌∷◌, ◌++◌, length, refl, sym, subst, ap, ◌∙◌, append_assoc, arith}
 use Rattle.cdx_events.specs.declared.name.OwnedName.{OwnedName}
 use Rattle.cdx_events.specs.declared.name.OwnedAttribute.{OwnedAttribute}
@@ -17,8 +17,11 @@ use Rattle.cdx_schema.specs.Soon.{BeginsElement, IsSoon}
 use Rattle.cdx_schema.specs.Early.{IsEarly}
 use Rattle.cdx_machine.specs.Begun.{Begun, so_far}
 use Rattle.cdx_machine.specs.Heard.{Hears, IsRead, Answers}
-use Rattle.cdx_machine.specs.Machines.{Holding, CanStep, StepsAs}
+use Rattle.cdx_machine.specs.Machines.{Holding, CanStep, CanYield, ProceedsAs, YieldsAs, StepsAs}
 use Rattle.cdx_machine.proofs.Heard.{not_whole, can_step, answers_step}
+use Rattle.cdx_machine.proofs.Yielding.{waits, fails, ends_with, ended_with, can_yield}
+use Rattle.cdx_push_reader.specs.declared.hearing.Stage.{Stage}
+use Rattle.cdx_push_reader.specs.declared.hearing.Stage.TheVariants.{Within}
 use Rattle.cdx_push_reader.specs.Starting.{IsBillStart}
 use Rattle.cdx_push_reader.specs.Pushed.{IsOpen, IsDone, Outcome}
 use Rattle.cdx_push_reader.proofs.Starts.{same_start, root_early, soon_outcome}
@@ -67,6 +70,9 @@ root_denotes v n a s xs c = rw (c.0, c.1) refl
 
 -- ---- what the machine answers
 
+pub same_machine : {M X : Type 0} (s : Stage M X) (m n : M) → s ≡ Within m → s ≡ Within n → m ≡ n
+same_machine s m n i j = cc
+
 module _ {M X : Type 0} (holds : Holding M) (tree : X → Tree) (v : SpecVersion) (old : M) (events : List XmlEvent) (event : XmlEvent) (w : IsOpen holds v old events) (g : GoesOn (events ++ event ∷ [])) where
   abbrev heard : List XmlEvent
   heard = StartElement w.name w.attributes w.namespace ∷ w.inside
@@ -90,9 +96,9 @@ module _ {M X : Type 0} (holds : Holding M) (tree : X → Tree) (v : SpecVersion
   said new place r s p = answers_step holds tree (a_record bill) old new place event r v 1 top (StartElement w.name w.attributes w.namespace ∷ w.inside) s w.held (at_place place p) begun
 
   -- the root is still open
-  pub reads_more : (new : M) (place : ℕ) (r : Option X) → StepsAs holds tree (a_record bill) old new place event (Ok r) → place ≡ length events → r ≡ None → IsOpen holds v new (events ++ event ∷ [])
-  reads_more new place r s p i =
-      let a : Said new place (Ok None) = subst (λ x. Said new place (Ok x)) i (said new place (Ok r) s p) in
+  pub reads_more : (new : M) (place : ℕ) (b : Bool) → b ≡ false → ProceedsAs holds (a_record bill) old new place event (Ok b) → place ≡ length events → IsOpen holds v new (events ++ event ∷ [])
+  reads_more new place b i s p =
+      let a : Said new place (Ok None) = said new place (Ok None) (waits holds tree (a_record bill) old new place event b i s) p in
       record {
         name = w.name;
         attributes = w.attributes;
@@ -104,10 +110,28 @@ module _ {M X : Type 0} (holds : Holding M) (tree : X → Tree) (v : SpecVersion
         quiet = subst (λ x. IsSoon v (a_record bill) (StartElement w.name w.attributes w.namespace ∷ w.inside ++ event ∷ []) 1 top x) a.answers.0 a.is_soon;
       }
 
-  -- it has ended
-  pub reads_done : (new : M) (place : ℕ) (r : Option X) (x : X) → StepsAs holds tree (a_record bill) old new place event (Ok r) → place ≡ length events → r ≡ Some x → IsDone tree v x (events ++ event ∷ [])
-  reads_done new place r x s p i =
-      let a : Said new place (Ok (Some x)) = subst (λ y. Said new place (Ok y)) i (said new place (Ok r) s p) in
+  -- it has a fault
+  faulty : (new : M) (place : ℕ) (f : XmlReadError) → StepsAs holds tree (a_record bill) old new place event (Err f) → place ≡ length events → Outcome {A = Unit {0}} (λ u. Unit {0}) v (events ++ event ∷ []) (Err f)
+  faulty new place f s p =
+      let a : Said new place (Err f) = said new place (Err f) s p in
+      soon_outcome {A = Unit {0}} (λ u. Unit {0}) place a.soon v (events ++ event ∷ []) f a.answers
+      (λ k. subst (λ es. IsEarly v es (Some f)) (sym now) (root_early v w.name w.attributes w.namespace (w.inside ++ event ∷ []) (Some f) w.begins
+      (subst (λ x. IsSoon v (a_record bill) (StartElement w.name w.attributes w.namespace ∷ w.inside ++ event ∷ []) 1 top x) k a.is_soon)))
+
+  pub reads_fault : (new : M) (place : ℕ) (f : XmlReadError) → ProceedsAs holds (a_record bill) old new place event (Err f) → place ≡ length events → Outcome {A = Unit {0}} (λ u. Unit {0}) v (events ++ event ∷ []) (Err f)
+  reads_fault new place f s p = faulty new place f (fails holds tree (a_record bill) old new place event f s) p
+
+  -- ---- the root has ended, and this machine is asked what it is read as
+
+  pub closes : (new last : M) (place : ℕ) (b : Bool) → b ≡ true → ProceedsAs holds (a_record bill) old new place event (Ok b) → place ≡ length events → new ≡ last → CanYield holds last place event
+  closes new last place b i s p e = subst (λ m. CanYield holds m place event) e (can_yield holds tree (a_record bill) old new place event b i (listens place p) s)
+
+  ended : (new last : M) (place : ℕ) (b : Bool) (r : Result X XmlReadError) → b ≡ true → ProceedsAs holds (a_record bill) old new place event (Ok b) → new ≡ last → YieldsAs holds tree (a_record bill) last place event r → StepsAs holds tree (a_record bill) old new place event (ended_with r)
+  ended new last place b r i s e y = ends_with holds tree (a_record bill) old new place event b r i s (subst (λ m. YieldsAs holds tree (a_record bill) m place event r) (sym e) y)
+
+  pub reads_done : (new last : M) (place : ℕ) (b : Bool) (x : X) → b ≡ true → ProceedsAs holds (a_record bill) old new place event (Ok b) → place ≡ length events → new ≡ last → YieldsAs holds tree (a_record bill) last place event (Ok x) → IsDone tree v x (events ++ event ∷ [])
+  reads_done new last place b x i s p e y =
+      let a : Said new place (Ok (Some x)) = said new place (Ok (Some x)) (ended new last place b (Ok x) i s e y) p in
       let e : IsRead v (a_record bill) 1 top (StartElement w.name w.attributes w.namespace ∷ w.inside ++ event ∷ []) (tree x) = a.answers.1 in
       record {
         root = record { name = e.name; attributes = e.attributes; namespace = e.namespace; before = e.nodes };
@@ -115,10 +139,5 @@ module _ {M X : Type 0} (holds : Holding M) (tree : X → Tree) (v : SpecVersion
         events_are = inl (now ∙ ap (λ es. StartDocument ∷ es) e.whole);
       }
 
-  -- it has a fault
-  pub reads_fault : (new : M) (place : ℕ) (f : XmlReadError) → StepsAs holds tree (a_record bill) old new place event (Err f) → place ≡ length events → Outcome {A = Unit {0}} (λ u. Unit {0}) v (events ++ event ∷ []) (Err f)
-  reads_fault new place f s p =
-      let a : Said new place (Err f) = said new place (Err f) s p in
-      soon_outcome {A = Unit {0}} (λ u. Unit {0}) place a.soon v (events ++ event ∷ []) f a.answers
-      (λ k. subst (λ es. IsEarly v es (Some f)) (sym now) (root_early v w.name w.attributes w.namespace (w.inside ++ event ∷ []) (Some f) w.begins
-      (subst (λ x. IsSoon v (a_record bill) (StartElement w.name w.attributes w.namespace ∷ w.inside ++ event ∷ []) 1 top x) k a.is_soon)))
+  pub ends_faulty : (new last : M) (place : ℕ) (b : Bool) (f : XmlReadError) → b ≡ true → ProceedsAs holds (a_record bill) old new place event (Ok b) → place ≡ length events → new ≡ last → YieldsAs holds tree (a_record bill) last place event (Err f) → Outcome {A = Unit {0}} (λ u. Unit {0}) v (events ++ event ∷ []) (Err f)
+  ends_faulty new last place b f i s p e y = faulty new place f (ended new last place b (Err f) i s e y) p

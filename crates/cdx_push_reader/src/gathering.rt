@@ -25,10 +25,19 @@ pub(crate) enum Found {
 }
 
 // What is kept of the events of a source, whatever they are.
-#[derive(Drop)]
 pub(crate) struct Gathering<M: RootMachine> {
     hearing: Hearing<M>,
     found: Found,
+}
+
+// By hand, so that it is freed by a call, and not field by field.
+impl<M: RootMachine> Drop for Gathering<M> {
+    fn drop(self) {
+        let Gathering {
+            hearing: _,
+            found: _,
+        } = self;
+    }
 }
 
 fn found_by(error: XmlReadError) -> Result<Found, AllocError>

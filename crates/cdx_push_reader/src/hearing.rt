@@ -12,6 +12,7 @@ use crate::start::begin;
 use cdx_events::{Balance, XmlEvent};
 use cdx_models::{SpecVersion, XmlReadError};
 use std::alloc::Global;
+use std::mem::replace;
 
 // Where a reader stands in the document.
 #[derive(Drop)]
@@ -25,12 +26,23 @@ pub(crate) enum Stage<M, X> {
 }
 
 // What is kept of events without a fault.
-#[derive(Drop)]
 pub(crate) struct Hearing<M: RootMachine> {
     alloc: Global,
     version: SpecVersion,
     pub(crate) balance: Balance,
     stage: Stage<M, M::Value>,
+}
+
+// By hand, so that it is freed by a call, and not field by field.
+impl<M: RootMachine> Drop for Hearing<M> {
+    fn drop(self) {
+        let Hearing {
+            alloc: _,
+            version: _,
+            balance: _,
+            stage: _,
+        } = self;
+    }
 }
 
 impl<M: RootMachine> Hearing<M> {
@@ -59,13 +71,18 @@ impl<M: RootMachine> Hearing<M> {
                 self.stage = begin(self.alloc, self.version, place, event)?;
                 Ok(())
             }
-            Stage::Within { machine } => match machine.step(place, event)? {
-                None => Ok(()),
-                Some(value) => {
-                    self.stage = Stage::After { value };
-                    Ok(())
+            Stage::Within { machine } => {
+                if !machine.step(place, event)? {
+                    return Ok(());
                 }
-            },
+                // The root has ended: only here the stage itself is moved.
+                let Stage::Within { machine } = replace(&mut self.stage, Stage::Before) else {
+                    return Ok(());
+                };
+                let value = machine.finish(place, event)?;
+                self.stage = Stage::After { value };
+                Ok(())
+            }
             Stage::After { .. } => Ok(()),
         }
     }

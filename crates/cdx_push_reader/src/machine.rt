@@ -15,7 +15,7 @@ pub trait RootMachine: Drop {
     ghost use Rattle.cdx_schema.specs.Kinds.{a_record};
     ghost use Rattle.cdx_schema.specs.XmlReading.{xread};
     ghost use Rattle.cdx_machine.specs.Begun.{Begun, innermost};
-    ghost use Rattle.cdx_machine.specs.Machines.{Opens, CanStep, StepsAs};
+    ghost use Rattle.cdx_machine.specs.Machines.{Opens, CanStep, ProceedsAs, CanYield, YieldsAs};
 
     /// The bill.
     type Value: Drop;
@@ -38,9 +38,14 @@ pub trait RootMachine: Drop {
             (λ x. xread x v (a_record bill) place top) place
             (innermost element.now attributes.now z no_nodes) result };
 
-    /// Takes the next event, at `place`. The bill comes with the root's end, and a refusal with the first event through
-    /// which the root has a fault; that is the fault, and it stands at this event.
-    fn step(&mut self, place: usize, event: &XmlEvent) -> Result<Option<Self::Value>, XmlReadError>
+    /// Takes the next event, at `place`, and says whether it is the root's end, of which the machine keeps nothing. A refusal
+    /// comes with the first event through which the root has a fault; that is the fault, and it stands at this event.
+    fn step(&mut self, place: usize, event: &XmlEvent) -> Result<bool, XmlReadError>
         requires { CanStep holds self.old place event.now }
-        ensures { StepsAs holds tree (a_record bill) self.old self.new place event.now result };
+        ensures { ProceedsAs holds (a_record bill) self.old self.new place event.now result };
+
+    /// The bill of the root that this event ends, at `place`. A refusal is the root's fault, which stands at its end.
+    fn finish(self, place: usize, event: &XmlEvent) -> Result<Self::Value, XmlReadError>
+        requires { CanYield holds self place event.now }
+        ensures { YieldsAs holds tree (a_record bill) self place event.now result };
 }

@@ -24,12 +24,23 @@ pub enum PushError {
 
 /// Reads a document from events that come piece by piece, and tells the first fault as soon as it is there. It keeps no
 /// event. Once memory has run out it is spent: every later `feed`, and `finish`, answers so.
-#[derive(Drop)]
 pub struct DocumentReader<M: RootMachine> {
     fed: usize,
     hearing: Hearing<M>,
     refused: Option<XmlReadError>,
     spent: Option<AllocError>,
+}
+
+// By hand, so that one is freed by a call wherever it ends, and not field by field.
+impl<M: RootMachine> Drop for DocumentReader<M> {
+    fn drop(self) {
+        let DocumentReader {
+            fed: _,
+            hearing: _,
+            refused: _,
+            spent: _,
+        } = self;
+    }
 }
 
 impl<M: RootMachine> DocumentReader<M> {
