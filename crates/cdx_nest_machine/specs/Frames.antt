@@ -1,11 +1,8 @@
--- What the machine of nested kinds keeps, and what becomes of a child's start.
-use Rattle.std.specs.Prelude.{◌≡◌, ℕ, ◌+◌, List, reverse, false, Option, Some, None, Result, Ok, Err}
+-- What the machine of nested kinds keeps.
+use Rattle.std.specs.Prelude.{◌≡◌, ℕ, ◌+◌, List, reverse, false, Option, Some, Result, Ok, Err}
 use Rattle.cdx_events.specs.declared.name.OwnedName.{OwnedName}
 use Rattle.cdx_events.specs.declared.name.OwnedAttribute.{OwnedAttribute}
 use Rattle.cdx_events.specs.declared.name.Namespace.{Namespace}
-use Rattle.cdx_events.specs.declared.event.XmlEvent.{XmlEvent}
-use Rattle.cdx_events.specs.declared.event.EventKind.TheVariants as kinds
-use Rattle.cdx_events.specs.Event.{kind_of}
 use Rattle.cdx_events.specs.Nodes.{no_nodes, element}
 use Rattle.cdx_models.specs.declared.bom.SpecVersion.{SpecVersion}
 use Rattle.cdx_models.specs.declared.errors.XmlReadError.{XmlReadError}
@@ -15,24 +12,20 @@ use Rattle.cdx_schema.specs.Kinds.{Kind}
 use Rattle.cdx_schema.specs.XmlReading.{xread}
 use Rattle.cdx_json.specs.Depths.{depth_of}
 use Rattle.cdx_machine.specs.declared.frame.Inside.{Inside}
-use Rattle.cdx_machine.specs.Begun.{Begun, innermost}
+use Rattle.cdx_machine.specs.Begun.{Begun}
 use Rattle.cdx_machine.specs.Machines.{Holding, ChildHolding, Refuses}
-use Rattle.cdx_machine.specs.Frames.{OpensChild, IsSkipped, EntersAt}
 use Rattle.cdx_machine.specs.Several.{reads_child}
-use Rattle.cdx_machine.proofs.Names.{FindsAt}
 use Rattle.cdx_nest_machine.specs.declared.nested.Reads.{Reads}
-use Rattle.cdx_nest_machine.specs.declared.nested.Reads.TheVariants.{Leaf, Nested}
+use Rattle.cdx_nest_machine.specs.declared.nested.Reads.TheVariants.{Leaf}
 use Rattle.cdx_nest_machine.specs.declared.stack.Open.{Open}
 use Rattle.cdx_nest_machine.specs.declared.stack.Waiting.{Waiting}
 use Rattle.cdx_nest_machine.specs.declared.stack.LeafChild.{LeafChild}
-use Rattle.cdx_nest_machine.specs.declared.stack.Entered.{Entered}
-use Rattle.cdx_nest_machine.specs.declared.stack.Entered.TheVariants as entries
 use Rattle.cdx_nest_machine.specs.Forms.{plan_of, first_of, inner_of}
 use Rattle.cdx_nest_machine.specs.Stacks.{Shape, Stacked}
 
 -- An open child of a leaf kind is read by what reads the child of its position.
 abbrev pub leaf_keeps : {M L K : Type 0} → (K → ℕ → Option (Reads L K)) → (M → L) → Holding M → K → Holding (LeafChild M)
-leaf_keeps child_of leaf_sort holds k c v p d o = (child_of k c.position ≡ Some (Leaf (leaf_sort c.machine))) × holds c.machine v p d o
+leaf_keeps child_of leaf_sort holds k c v p d o = (child_of k c.position ≡ Some (Leaf (leaf_sort c.machine.value))) × holds c.machine.value v p d o
 
 -- It stands in an element that is read as this.
 abbrev pub leaf_holds : {M L K : Type 0} → (K → Kind) → (K → ℕ → Option (Reads L K)) → (M → L) → Holding M → K → ChildHolding (LeafChild M)
@@ -43,30 +36,12 @@ abbrev pub shape_of : {F L K : Type 0} → (K → Kind) → (F → K) → (F →
 shape_of as_kind sort_of fields child_of = record { as_kind = as_kind; sort = λ w. sort_of w.open.part; name = λ w. w.open.name; inner = λ w. depth_of w.open.depth; fields = λ w. fields w.open.part; position = λ w. w.position; child = λ w. child_of (sort_of w.open.part) w.position }
 
 -- The frames below the top one wait, the last of them for the top one.
-abbrev pub stack_holds : {F L K C : Type 0} → Shape (Waiting F) L K → (K → ChildHolding C) → (F → K) → (F → Trees) → K → List (Waiting F) → Option (Open F) → SpecVersion → Inside C → SpecVersion → ℕ → Depth → Begun → Type 0
-stack_holds s holds sort_of fields root below None known inside v p d o = ⊥
-stack_holds s holds sort_of fields root below (Some t) known inside v p d o = Stacked s holds root (reverse below) (sort_of t.part) t.name (depth_of t.depth) (fields t.part) known inside v p d o
+abbrev pub stack_holds : {F L K C : Type 0} → Shape (Waiting F) L K → (K → ChildHolding C) → (F → K) → (F → Trees) → K → List (Waiting F) → Open F → SpecVersion → Inside C → SpecVersion → ℕ → Depth → Begun → Type 0
+stack_holds s holds sort_of fields root below t known inside v p d o = Stacked s holds root (reverse below) (sort_of t.part) t.name (depth_of t.depth) (fields t.part) known inside v p d o
 
 -- ---- starts
 
 -- An element of the kind was begun, or its start was refused.
 abbrev pub BeginsOpen : {F : Type 0} → Kind → (F → Trees) → ℕ → SpecVersion → Depth → OwnedName → List OwnedAttribute → Result (Open F) XmlReadError → Type 0
-BeginsOpen kind fields p v d n a (Ok t) = (is_too_deep kind d ≡ false) × (depth_of t.depth ≡ inner_of kind d) × (t.name ≡ n) × (first_of kind n.local_name a v p ≡ Ok (fields t.part))
+BeginsOpen kind fields p v d n a (Ok t) = (is_too_deep kind d ≡ false) × (depth_of t.depth ≡ inner_of kind d) × (t.name ≡ n.local_name) × (first_of kind n.local_name a v p ≡ Ok (fields t.part))
 BeginsOpen kind fields p v d n a (Err e) = (s : Namespace) → Refuses e (p + 1) (xread (element n a s no_nodes) v kind p d)
-
--- A nested child, that of this position, was begun in an element that is read as this.
-pub record OpensNested {F L K : Type 0} (as_kind : K → Kind) (sort_of : F → K) (fields : F → Trees) (child_of : K → ℕ → Option (Reads L K)) (k : K) (ts : Trees) (v : SpecVersion) (q : ℕ) (d : Depth) (n : OwnedName) (a : List OwnedAttribute) (t : Open F) (i : ℕ) : Type 0 where
-  pub finds : FindsAt (plan_of (as_kind k)).children ts v n.local_name i
-  pub child_is : child_of k i ≡ Some (Nested (sort_of t.part))
-  pub row_kind : finds.row.kind ≡ as_kind (sort_of t.part)
-  pub begun : BeginsOpen (as_kind (sort_of t.part)) fields q v d n a (Ok t)
-
-abbrev pub EnteredAt : {F M L K : Type 0} → (K → ChildHolding (LeafChild M)) → (K → Kind) → (F → K) → (F → Trees) → (K → ℕ → Option (Reads L K)) → Open F → SpecVersion → ℕ → OwnedName → List OwnedAttribute → Namespace → Result (Entered F M) XmlReadError → Type 0
-EnteredAt holds as_kind sort_of fields child_of top v q n a z (Ok (entries.Leaf c)) = OpensChild (holds (sort_of top.part)) (plan_of (as_kind (sort_of top.part))) (fields top.part) v q (depth_of top.depth) (innermost n a z no_nodes) c
-EnteredAt holds as_kind sort_of fields child_of top v q n a z (Ok (entries.Nested t i)) = OpensNested as_kind sort_of fields child_of (sort_of top.part) (fields top.part) v q (depth_of top.depth) n a t i
-EnteredAt holds as_kind sort_of fields child_of top v q n a z (Ok entries.Skipped) = IsSkipped (plan_of (as_kind (sort_of top.part))) 0 v (innermost n a z no_nodes)
-EnteredAt holds as_kind sort_of fields child_of top v q n a z (Err e) = EntersAt (holds (sort_of top.part)) (plan_of (as_kind (sort_of top.part))) (fields top.part) v top.name q (depth_of top.depth) (innermost n a z no_nodes) (Err e)
-
--- A child's start in the top element: the child is begun or skipped, or refused: by its own fault, or since it may not stand there.
-abbrev pub EntersChild : {F M L K : Type 0} → (K → ChildHolding (LeafChild M)) → (K → Kind) → (F → K) → (F → Trees) → (K → ℕ → Option (Reads L K)) → Open F → SpecVersion → ℕ → XmlEvent → OwnedName → List OwnedAttribute → Result (Entered F M) XmlReadError → Type 0
-EntersChild holds as_kind sort_of fields child_of top v q event n a result = kind_of event ≡ kinds.StartElement → (z : Namespace) → EnteredAt holds as_kind sort_of fields child_of top v q n a z result

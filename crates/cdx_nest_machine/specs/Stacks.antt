@@ -1,20 +1,20 @@
 -- Elements around an open one, and the frames that stand for them, the innermost first.
-use Rattle.std.specs.Prelude.{◌≡◌, ℕ, suc, ◌+◌, List, [], ◌∷◌, false, Option, Some, None, Result, Ok, Err}
+use Rattle.std.specs.Prelude.{◌≡◌, ℕ, suc, ◌+◌, List, [], ◌∷◌, Bool, false, Option, Some, Result, Ok, Err}
 use Rattle.cdx_events.specs.declared.name.OwnedName.{OwnedName}
 use Rattle.cdx_events.specs.declared.name.OwnedAttribute.{OwnedAttribute}
 use Rattle.cdx_events.specs.declared.name.Namespace.{Namespace}
 use Rattle.cdx_events.specs.declared.event.XmlEvent.{XmlEvent}
-use Rattle.cdx_events.specs.Nodes.{Nodes, no_nodes}
+use Rattle.cdx_events.specs.Nodes.{Node, Nodes, no_nodes}
 use Rattle.cdx_models.specs.declared.bom.SpecVersion.{SpecVersion}
 use Rattle.cdx_models.specs.declared.errors.XmlReadError.{XmlReadError}
 use Rattle.cdx_models.specs.Trees.{Tree, Trees}
 use Rattle.cdx_schema.specs.Depth.{Depth, is_too_deep}
 use Rattle.cdx_schema.specs.Kinds.{Kind}
-use Rattle.cdx_schema.specs.Nodes.{places_of}
+use Rattle.cdx_schema.specs.Nodes.{places, places_of}
 use Rattle.cdx_schema.specs.XmlReading.{xread}
 use Rattle.cdx_machine.specs.declared.frame.Inside.{Inside}
-use Rattle.cdx_machine.specs.Begun.{Begun, innermost, around, start_name, count, Takes, Next, into, next}
-use Rattle.cdx_machine.specs.Machines.{Holding, ChildHolding, Opens, Steps}
+use Rattle.cdx_machine.specs.Begun.{Begun, innermost, around, start_name, count, Takes, Next, whole, into, next}
+use Rattle.cdx_machine.specs.Machines.{Holding, ChildHolding, Opens, Proceeds, Yields}
 use Rattle.cdx_machine.specs.Frames.{read_so_far, holds_inside}
 use Rattle.cdx_machine.proofs.Names.{FindsAt}
 use Rattle.cdx_nest_machine.specs.declared.nested.Reads.{Reads}
@@ -43,7 +43,7 @@ plug_next (l ∷ ls) x = plug_next ls (into l.name l.attributes l.namespace l.no
 pub record Shape (W L K : Type 0) : Type 0 where
   pub as_kind : K → Kind
   pub sort : W → K
-  pub name : W → OwnedName
+  pub name : W → List ℕ
   pub inner : W → Depth
   pub fields : W → Trees
   -- that child's position in the plan, and what reads it
@@ -51,8 +51,8 @@ pub record Shape (W L K : Type 0) : Type 0 where
   pub child : W → Option (Reads L K)
 
 -- The nodes of the element that have ended were read into these fields.
-pub record Sits (kind : Kind) (name : OwnedName) (inner : Depth) (ts : Trees) (v : SpecVersion) (n : OwnedName) (a : List OwnedAttribute) (xs : Nodes) (p : ℕ) (d : Depth) : Type 0 where
-  pub name_is : name ≡ n
+pub record Sits (kind : Kind) (name : List ℕ) (inner : Depth) (ts : Trees) (v : SpecVersion) (n : OwnedName) (a : List OwnedAttribute) (xs : Nodes) (p : ℕ) (d : Depth) : Type 0 where
+  pub name_is : name ≡ n.local_name
   pub inner_is : inner ≡ inner_of kind d
   pub fits : is_too_deep kind d ≡ false
   pub reads : read_so_far (first_of kind) (plan_of kind) n.local_name a v (inner_of kind d) p xs ≡ Ok ts
@@ -75,7 +75,7 @@ Stand s v root p d (w ∷ ws) (l ∷ ls) k q e m = Waits s v w l k q e m × Stan
 
 -- What a stack keeps of the events of a begun element, read as the root at place p and depth d: the elements around the
 -- top one, and what the top frame keeps of it.
-pub record Stacked {W L K C : Type 0} (s : Shape W L K) (holds : K → ChildHolding C) (root : K) (ws : List W) (k : K) (name : OwnedName) (inner : Depth) (ts : Trees) (known : SpecVersion) (inside : Inside C) (v : SpecVersion) (p : ℕ) (d : Depth) (o : Begun) : Type 0 where
+pub record Stacked {W L K C : Type 0} (s : Shape W L K) (holds : K → ChildHolding C) (root : K) (ws : List W) (k : K) (name : List ℕ) (inner : Depth) (ts : Trees) (known : SpecVersion) (inside : Inside C) (v : SpecVersion) (p : ℕ) (d : Depth) (o : Begun) : Type 0 where
   pub layers : List Layer
   pub top : Begun
   pub place : ℕ
@@ -106,13 +106,30 @@ pub record CanStepStack {M K : Type 0} (holds : RootHolding K M) (m : M) (place 
   pub place_is : place ≡ p + count o
   pub takes : Takes o event
 
+abbrev pub ProceedsStack : {M K : Type 0} → RootHolding K M → (K → Kind) → M → M → ℕ → XmlEvent → Result Bool XmlReadError → Type 0
+ProceedsStack {K = K} holds as_kind old new place event result =
+    (root : K) (v : SpecVersion) (p : ℕ) (d : Depth) (o : Begun) → holds root old v p d o → place ≡ p + count o → Takes o event
+    → Proceeds (λ o. holds root new v p d o) (holds root new v p d o) (λ k. xread k v (as_kind root) p d) p (next o event) result
+
+-- The machine keeps all events of an element but its end, and that is the event at this place.
+pub record CanYieldStack {M K : Type 0} (holds : RootHolding K M) (m : M) (place : ℕ) (event : XmlEvent) : Type 0 where
+  pub root : K
+  pub v : SpecVersion
+  pub p : ℕ
+  pub d : Depth
+  pub o : Begun
+  pub held : holds root m v p d o
+  pub place_is : place ≡ p + count o
+  pub takes : Takes o event
+  pub all : Node
+  pub ends : next o event ≡ whole all
+
 -- A value is of the root's kind.
-abbrev pub IsOfRoot : {X K : Type 0} → (X → K) → K → Result (Option X) XmlReadError → Type 0
-IsOfRoot sort root (Ok None) = Unit {0}
-IsOfRoot sort root (Ok (Some x)) = sort x ≡ root
+abbrev pub IsOfRoot : {X K : Type 0} → (X → K) → K → Result X XmlReadError → Type 0
+IsOfRoot sort root (Ok x) = sort x ≡ root
 IsOfRoot sort root (Err e) = Unit {0}
 
-abbrev pub StepsStack : {M X K : Type 0} → RootHolding K M → (K → Kind) → (X → Tree) → (X → K) → M → M → ℕ → XmlEvent → Result (Option X) XmlReadError → Type 0
-StepsStack {K = K} holds as_kind view sort old new place event result =
-    (root : K) (v : SpecVersion) (p : ℕ) (d : Depth) (o : Begun) → holds root old v p d o → place ≡ p + count o → Takes o event
-    → Steps (λ o. holds root new v p d o) view (λ k. xread k v (as_kind root) p d) p (next o event) result × IsOfRoot sort root result
+abbrev pub YieldsStack : {M X K : Type 0} → RootHolding K M → (K → Kind) → (X → Tree) → (X → K) → M → ℕ → XmlEvent → Result X XmlReadError → Type 0
+YieldsStack {K = K} holds as_kind view sort m place event result =
+    (root : K) (v : SpecVersion) (p : ℕ) (d : Depth) (o : Begun) (k : Node) → holds root m v p d o → place ≡ p + count o → Takes o event → next o event ≡ whole k
+    → Yields view (p + places k) (xread k v (as_kind root) p d) result × IsOfRoot sort root result

@@ -41,8 +41,8 @@ pub fn read_element<F: Nested>(
         let Some(event) = reader.next() else {
             unreachable!()
         };
-        if let Some(value) = machine.step(place, event)? {
-            return Ok(value);
+        if machine.step(place, event)? {
+            return machine.finish(place, event);
         }
     }
 }

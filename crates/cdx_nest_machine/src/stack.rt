@@ -8,23 +8,24 @@ ghost use Rattle.cdx_events.specs.declared.name.OwnedName.{OwnedName};
 ghost use Rattle.cdx_events.specs.declared.name.OwnedAttribute.{OwnedAttribute};
 ghost use Rattle.cdx_json.specs.Depths.{depth_of};
 ghost use Rattle.cdx_machine.specs.declared.frame.Inside.TheVariants.{Nothing};
-ghost use Rattle.cdx_machine.specs.Machines.{CanStepChild, StepsChild};
-ghost use Rattle.cdx_nest_machine.specs.Stacks.{StartsStack, CanStepStack, StepsStack};
-ghost use Rattle.cdx_nest_machine.specs.Frames.{leaf_holds, BeginsOpen, EntersChild};
+ghost use Rattle.cdx_machine.specs.Frames.{FeedsChild};
+ghost use Rattle.cdx_machine.specs.Machines.{CanStepChild};
+ghost use Rattle.cdx_nest_machine.specs.Stacks.{StartsStack, CanStepStack, ProceedsStack, CanYieldStack, YieldsStack};
+ghost use Rattle.cdx_nest_machine.specs.Frames.{leaf_holds, BeginsOpen};
 
 use crate::keeps::Keeps;
 use crate::nested::{Nested, Reads};
-use cdx_events::{List, OwnedAttribute, OwnedName, XmlEvent};
+use cdx_events::{List, OwnedAttribute, OwnedName, Text, XmlEvent};
 use cdx_json::Depth;
-use cdx_leaf::refuse;
-use cdx_machine::{Found, Inside, Leaves, skip_one};
+use cdx_machine::{Found, Inside, Leaves, boxed, refuse_in, skip};
 use cdx_models::{SpecVersion, XmlReadError};
 use std::alloc::{AllocError, Global};
+use std::mem::replace;
 
-/// An open element: its name, how deep its parts stand, and what was read of it.
+/// An open element: its local name, how deep its parts stand, and what was read of it.
 #[derive(Drop)]
 pub struct Open<F> {
-    name: OwnedName,
+    name: Text,
     depth: Depth,
     part: F,
 }
@@ -39,19 +40,8 @@ pub struct Waiting<F> {
 /// An open child of a leaf kind, that of this position in the plan.
 #[derive(Drop)]
 pub struct LeafChild<M> {
-    machine: M,
+    machine: Box<M>,
     position: usize,
-}
-
-/// What becomes of a child's start.
-#[derive(Drop)]
-enum Entered<F, M> {
-    /// The child is read by the machine of a leaf kind.
-    Leaf(LeafChild<M>),
-    /// The child, that of the position, is read by a frame.
-    Nested(Open<F>, usize),
-    /// The child is skipped.
-    Skipped,
 }
 
 /// The machine of an element of a nested kind. The frames of the elements around the innermost one wait below it.
@@ -60,7 +50,7 @@ pub struct StackMachine<F: Nested> {
     alloc: Global,
     v: SpecVersion,
     below: Vec<Waiting<F>>,
-    top: Option<Open<F>>,
+    top: Open<F>,
     inside: Inside<LeafChild<F::Leaf>>,
 }
 
@@ -94,70 +84,37 @@ fn open_at<F: Nested>(
     };
     let part = F::begin(alloc, sort, place, v, element, attributes)?;
     Ok(Open {
-        name: element.copy(alloc)?,
+        name: element.local_name.copy(alloc)?,
         depth: inner,
         part,
     })
 }
 
-// Takes an event of an open child of a leaf kind. With the child's end its value goes into its field, and the answer is true.
-fn step_leaf<F: Nested>(
-    top: &mut Open<F>,
-    child: &mut LeafChild<F::Leaf>,
+// Takes an event of an open child of a leaf kind. With its end the value goes into its field, and nothing is open.
+fn feed<F: Nested>(
+    part: &mut F,
+    child: LeafChild<F::Leaf>,
     alloc: Global,
     place: usize,
     event: &XmlEvent,
-) -> Result<bool, XmlReadError>
+) -> Result<Inside<LeafChild<F::Leaf>>, XmlReadError>
     requires { CanStepChild (leaf_holds F.as_kind F.child_of F.Leaf.sort_of F.Leaf.holds
-        (F.sort_of top.old.part)) child.old place event.now }
-    ensures sort { F.sort_of top.new.part ≡ F.sort_of top.old.part }
-    ensures name { top.new.name ≡ top.old.name }
-    ensures depth { top.new.depth ≡ top.old.depth }
-    ensures steps { StepsChild (leaf_holds F.as_kind F.child_of F.Leaf.sort_of F.Leaf.holds
-        (F.sort_of top.old.part)) (F.fields top.old.part) (F.fields top.new.part) child.old
-        child.new place event.now result }
+        (F.sort_of part.old)) child place event.now }
+    ensures sort { F.sort_of part.new ≡ F.sort_of part.old }
+    ensures feeds { FeedsChild (leaf_holds F.as_kind F.child_of F.Leaf.sort_of F.Leaf.holds
+        (F.sort_of part.old)) (F.fields part.old) (F.fields part.new) child place event.now
+        result }
 {
-    match child.machine.step(place, event)? {
-        None => Ok(false),
-        Some(value) => {
-            top.part.put_leaf(child.position, alloc, value)?;
-            Ok(true)
-        }
+    let LeafChild {
+        mut machine,
+        position,
+    } = child;
+    if !machine.step(place, event)? {
+        return Ok(Inside::Read(LeafChild { machine, position }));
     }
-}
-
-// Takes a child's start in the top element.
-fn enter<F: Nested>(
-    alloc: Global,
-    v: SpecVersion,
-    top: &Open<F>,
-    place: usize,
-    event: &XmlEvent,
-    name: &OwnedName,
-    attributes: &List<OwnedAttribute>,
-) -> Result<Entered<F, F::Leaf>, XmlReadError>
-    ensures { EntersChild (leaf_holds F.as_kind F.child_of F.Leaf.sort_of F.Leaf.holds) F.as_kind
-        F.sort_of F.fields F.child_of top.now v place event.now name.now attributes.now result }
-{
-    match top.part.find(v, name) {
-        Found::At(position) => match top.part.child(position) {
-            Reads::Leaf(sort) => {
-                let machine = F::Leaf::start(alloc, sort, place, v, name, attributes)?;
-                Ok(Entered::Leaf(LeafChild { machine, position }))
-            }
-            Reads::Nested(sort) => {
-                let open = open_at::<F>(alloc, sort, place, v, top.depth, name, attributes)?;
-                Ok(Entered::Nested(open, position))
-            }
-        },
-        Found::Unknown => {
-            if !top.part.rule().skips() {
-                return refuse(alloc, place, &top.name, event);
-            }
-            Ok(Entered::Skipped)
-        }
-        Found::Second => refuse(alloc, place, &top.name, event),
-    }
+    let value = Box::into_inner(machine).finish(place, event)?;
+    part.put_leaf(position, alloc, value)?;
+    Ok(Inside::Nothing)
 }
 
 // Puts a waiting element on top of those below.
@@ -188,7 +145,7 @@ impl<F: Nested> StackMachine<F> {
             alloc,
             v,
             below: Vec::new(alloc),
-            top: Some(open),
+            top: open,
             inside: Inside::Nothing,
         })
     }
@@ -200,134 +157,111 @@ impl<F: Nested> StackMachine<F> {
         event: &XmlEvent,
         name: &OwnedName,
         attributes: &List<OwnedAttribute>,
-    ) -> Result<Option<F::Value>, XmlReadError>
+    ) -> Result<bool, XmlReadError>
         requires can { CanStepStack ⟦<StackMachine<F> as Keeps>⟧.holds self.old place event.now }
         requires nothing { self.old.inside ≡ Nothing }
         requires start { (z : Namespace)
             × (event.now ≡ StartElement name.now attributes.now z) }
-        ensures { StepsStack ⟦<StackMachine<F> as Keeps>⟧.holds F.as_kind F.tree F.value_sort
-            self.old self.new place event.now result }
+        ensures { ProceedsStack ⟦<StackMachine<F> as Keeps>⟧.holds F.as_kind self.old self.new
+            place event.now result }
     {
-        let Some(top) = self.top.take() else {
-            unreachable!()
-        };
-        match enter(self.alloc, self.v, &top, place, event, name, attributes)? {
-            Entered::Leaf(child) => {
-                self.inside = Inside::Read(child);
-                self.top = Some(top);
-                Ok(None)
-            }
-            Entered::Nested(open, position) => {
-                push_below(
-                    &mut self.below,
-                    Waiting {
-                        open: top,
-                        position,
-                    },
-                )?;
-                self.top = Some(open);
-                Ok(None)
-            }
-            Entered::Skipped => {
+        match self.top.part.find(self.v, name) {
+            Found::At(position) => match self.top.part.child(position) {
+                Reads::Leaf(sort) => {
+                    let started = F::Leaf::start(
+                        self.alloc, sort, place, self.v, name, attributes,
+                    )?;
+                    let machine = boxed(self.alloc, started)?;
+                    self.inside = Inside::Read(LeafChild { machine, position });
+                    Ok(false)
+                }
+                Reads::Nested(sort) => {
+                    let inner = self.top.depth;
+                    let open = open_at::<F>(
+                        self.alloc, sort, place, self.v, inner, name, attributes,
+                    )?;
+                    let open = replace(&mut self.top, open);
+                    push_below(&mut self.below, Waiting { open, position })?;
+                    Ok(false)
+                }
+            },
+            Found::Unknown => {
+                if !self.top.part.rule().skips() {
+                    return refuse_in(self.alloc, place, &self.top.name, event);
+                }
                 self.inside = Inside::Skipped(0);
-                self.top = Some(top);
-                Ok(None)
+                Ok(false)
             }
+            Found::Second => refuse_in(self.alloc, place, &self.top.name, event),
         }
     }
 
-    // Takes the end of the top element.
-    fn end(&mut self, place: usize, event: &XmlEvent) -> Result<Option<F::Value>, XmlReadError>
-        requires can { CanStepStack ⟦<StackMachine<F> as Keeps>⟧.holds self.old place event.now }
-        requires nothing { self.old.inside ≡ Nothing }
-        requires end { (name : OwnedName) × (event.now ≡ EndElement name) }
-        ensures { StepsStack ⟦<StackMachine<F> as Keeps>⟧.holds F.as_kind F.tree F.value_sort
-            self.old self.new place event.now result }
-    {
-        let Some(top) = self.top.take() else {
-            unreachable!()
-        };
-        let value = top.part.finish(self.alloc, place, self.v, &top.name)?;
-        match self.below.pop() {
-            None => Ok(Some(value)),
-            Some(waiting) => {
-                let mut open = waiting.open;
-                open.part.put(waiting.position, self.alloc, value)?;
-                self.top = Some(open);
-                Ok(None)
-            }
-        }
-    }
-
-    // Takes an event of the child that is open in the top element.
-    fn step_inside(
+    // Takes the end of the top element. Where none is around it, `finish` is left to make the value.
+    fn end(
         &mut self,
         place: usize,
         event: &XmlEvent,
-    ) -> Result<Option<F::Value>, XmlReadError>
-        requires can { CanStepStack ⟦<StackMachine<F> as Keeps>⟧.holds self.old place event.now }
-        requires something { self.old.inside ≡ Nothing → ⊥ }
-        ensures { StepsStack ⟦<StackMachine<F> as Keeps>⟧.holds F.as_kind F.tree F.value_sort
-            self.old self.new place event.now result }
-    {
-        let Some(top) = &mut self.top else {
-            unreachable!()
-        };
-        match &mut self.inside {
-            Inside::Read(child) => {
-                if step_leaf(top, child, self.alloc, place, event)? {
-                    self.inside = Inside::Nothing;
-                    return Ok(None);
-                }
-                Ok(None)
-            }
-            Inside::Skipped(depth) => {
-                if skip_one(depth, place, event) {
-                    self.inside = Inside::Nothing;
-                    return Ok(None);
-                }
-                Ok(None)
-            }
-            Inside::Nothing => unreachable!(),
-        }
-    }
-
-    // Takes a text in the top element.
-    fn text(&mut self, place: usize, event: &XmlEvent) -> Result<Option<F::Value>, XmlReadError>
+        name: &OwnedName,
+    ) -> Result<bool, XmlReadError>
         requires can { CanStepStack ⟦<StackMachine<F> as Keeps>⟧.holds self.old place event.now }
         requires nothing { self.old.inside ≡ Nothing }
-        requires no_start { (n : OwnedName) (a : List OwnedAttribute) (z : Namespace)
-            → event.now ≡ StartElement n a z → ⊥ }
-        requires no_end { (n : OwnedName) → event.now ≡ EndElement n → ⊥ }
-        ensures { StepsStack ⟦<StackMachine<F> as Keeps>⟧.holds F.as_kind F.tree F.value_sort
-            self.old self.new place event.now result }
+        requires end { event.now ≡ EndElement name.now }
+        ensures { ProceedsStack ⟦<StackMachine<F> as Keeps>⟧.holds F.as_kind self.old self.new
+            place event.now result }
     {
-        let Some(top) = &self.top else { unreachable!() };
-        if !top.part.rule().passes() {
-            return refuse(self.alloc, place, &top.name, event);
-        }
-        Ok(None)
+        let Some(waiting) = self.below.pop() else {
+            return Ok(true);
+        };
+        let ended = replace(&mut self.top, waiting.open);
+        let value = ended.part.finish(self.alloc, place, self.v, name)?;
+        self.top.part.put(waiting.position, self.alloc, value)?;
+        Ok(false)
     }
 
-    /// Takes the next event, at `place`. The value comes with the element's end, and a refusal with the first event
-    /// through which the element has a fault; that is the fault, and it stands at this event. Only the top frame is
-    /// touched, or the one below it.
-    pub fn step(&mut self, place: usize, event: &XmlEvent) -> Result<Option<F::Value>, XmlReadError>
+    /// Takes the next event, at `place`, and says whether it is the element's end, of which the machine keeps nothing. A
+    /// refusal comes with the first event through which the element has a fault; that is the fault, and it stands at this
+    /// event. Only the top frame is touched, or the one below it.
+    pub fn step(&mut self, place: usize, event: &XmlEvent) -> Result<bool, XmlReadError>
         requires { CanStepStack ⟦<StackMachine<F> as Keeps>⟧.holds self.old place event.now }
-        ensures { StepsStack ⟦<StackMachine<F> as Keeps>⟧.holds F.as_kind F.tree F.value_sort
-            self.old self.new place event.now result }
+        ensures { ProceedsStack ⟦<StackMachine<F> as Keeps>⟧.holds F.as_kind self.old self.new
+            place event.now result }
     {
-        match self.inside {
+        match replace(&mut self.inside, Inside::Nothing) {
+            Inside::Read(child) => {
+                self.inside = feed(&mut self.top.part, child, self.alloc, place, event)?;
+                Ok(false)
+            }
+            Inside::Skipped(depth) => {
+                self.inside = skip(depth, place, event);
+                Ok(false)
+            }
             Inside::Nothing => match event {
                 XmlEvent::StartElement {
                     name,
                     attributes,
                     ..
                 } => self.start_child(place, event, name, attributes),
-                XmlEvent::EndElement { .. } => self.end(place, event),
-                _ => self.text(place, event),
+                XmlEvent::EndElement { name } => self.end(place, event, name),
+                _ => {
+                    if !self.top.part.rule().passes() {
+                        return refuse_in(self.alloc, place, &self.top.name, event);
+                    }
+                    Ok(false)
+                }
             },
-            _ => self.step_inside(place, event),
         }
+    }
+
+    /// What the element is read as that this event ends, at `place`. A refusal is its fault, which stands at its end.
+    pub fn finish(self, place: usize, event: &XmlEvent) -> Result<F::Value, XmlReadError>
+        requires { CanYieldStack ⟦<StackMachine<F> as Keeps>⟧.holds self place event.now }
+        ensures { YieldsStack ⟦<StackMachine<F> as Keeps>⟧.holds F.as_kind F.tree F.value_sort
+            self place event.now result }
+    {
+        let XmlEvent::EndElement { name } = event else {
+            unreachable!()
+        };
+        let top = self.top;
+        top.part.finish(self.alloc, place, self.v, name)
     }
 }

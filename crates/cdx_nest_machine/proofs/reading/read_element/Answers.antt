@@ -1,4 +1,4 @@
-use Rattle.std.proofs.Common.{◌+◌, Some, None, Ok, Err, sym, ◌∙◌, subst}
+use Rattle.std.proofs.Common.{◌+◌, None, sym, ◌∙◌, subst}
 use Rattle.std.proofs.lemmas.Result.{err_from_is_err_and}
 use Rattle.cdx_events.specs.declared.name.Namespace.{Namespace}
 use Rattle.cdx_json.specs.Depths.{depth_of}
@@ -8,10 +8,10 @@ use Rattle.cdx_schema.specs.XmlReading.{xread}
 use Rattle.cdx_machine.specs.Begun.{innermost}
 use Rattle.cdx_machine.specs.Machines.{Refuses}
 use Rattle.cdx_leaf.proofs.Whole.{start_is}
-use Rattle.cdx_machine.proofs.Feeding.{feeds_first, feeds_takes, feeds_on, feeds_never, feeds_refused, feeds_fails, feeds_done}
+use Rattle.cdx_machine.proofs.Feeding.{feeds_first, feeds_takes, feeds_on, feeds_never, feeds_refused, feeds_fails}
+use Rattle.cdx_machine.proofs.Yielding.{waits, fails}
 use Rattle.cdx_nest_machine.specs.Frames.{leaf_holds, shape_of, stack_holds}
-use Rattle.cdx_nest_machine.specs.Stacks.{StepsStack}
-use Rattle.cdx_nest_machine.proofs.Fed.{root_steps, root_value}
+use Rattle.cdx_nest_machine.proofs.Fed.{feeds_answered, stack_can_yield, root_ends, root_value}
 use Rattle.cdx_nest_machine.proofs.reading.read_element.Goals as goal
 
 pub returns-in_err-machine-clause-reads : goal.returns-in_err-machine-clause-reads
@@ -51,36 +51,44 @@ step-requires g c =
     let t = c.in-Some.ensures.takes in
     record { root = c.args.sort; v = c.args.v; p = i.p; d = depth_of c.args.depth; o = x.o; held = x.held; place_is = c.place-place.ensures ∙ x.at; takes = feeds_takes (λ m v p d o. stack_holds (shape_of f.as_kind f.sort_of f.fields f.child_of) (leaf_holds f.as_kind f.child_of e.sort_of e.holds) f.sort_of f.fields c.args.sort m.below.items m.top m.v m.inside v p d o) c.args.v c.args.element.now c.args.attributes.now z i.p i.nodes i.rest (depth_of c.args.depth) c.events.reader c.next.new.self c.in-Some.event.now t.0 t.1 c.events.machine x }
 
-pub returns-in_err-value-clause-reads : goal.returns-in_err-value-clause-reads
-returns-in_err-value-clause-reads g c = λ d s p nodes rest st.
-    let q = err_from_is_err_and c.from_residual-in_err-value.result c.from_residual-in_err-value.ensures.1 in
+pub returns-in_err-step-clause-reads : goal.returns-in_err-step-clause-reads
+returns-in_err-step-clause-reads g c = λ d s p nodes rest st.
+    let q = err_from_is_err_and c.from_residual-in_err-step.result c.from_residual-in_err-step.ensures.1 in
     let f = g.F.Nested in
     let e = g.F.Leaf.Leaves in
     let x = c.events.invariant.fed s p nodes rest st in
     let t = c.in-Some.ensures.takes in
-    rw (q.1, q.2) (feeds_fails (λ m v p d o. stack_holds (shape_of f.as_kind f.sort_of f.fields f.child_of) (leaf_holds f.as_kind f.child_of e.sort_of e.holds) f.sort_of f.fields c.args.sort m.below.items m.top m.v m.inside v p d o) f.tree (f.as_kind c.args.sort) c.args.v c.args.element.now c.args.attributes.now s p nodes rest (depth_of c.args.depth) c.args.reader.now c.events.reader c.next.new.self c.in-Some.event.now t.0 t.1 c.events.machine c.step.new.self c.place-place.result x st c.place-place.ensures (after c.args.reader.now nodes rest) c.in_err-value.field-0.0 (g.met.F.Nested.no_bill c.args.sort)
-    (root_steps (λ root m v p d o. stack_holds (shape_of f.as_kind f.sort_of f.fields f.child_of) (leaf_holds f.as_kind f.child_of e.sort_of e.holds) f.sort_of f.fields root m.below.items m.top m.v m.inside v p d o) f.as_kind f.tree f.value_sort c.events.machine c.step.new.self c.place-place.result c.in-Some.event.now (Err c.in_err-value.field-0.0) c.args.sort c.in_err-value.ensures))
+    rw (q.1, q.2) (feeds_fails (λ m v p d o. stack_holds (shape_of f.as_kind f.sort_of f.fields f.child_of) (leaf_holds f.as_kind f.child_of e.sort_of e.holds) f.sort_of f.fields c.args.sort m.below.items m.top m.v m.inside v p d o) f.tree (f.as_kind c.args.sort) c.args.v c.args.element.now c.args.attributes.now s p nodes rest (depth_of c.args.depth) c.args.reader.now c.events.reader c.next.new.self c.in-Some.event.now t.0 t.1 c.events.machine c.step.new.self c.place-place.result x st c.place-place.ensures (after c.args.reader.now nodes rest) c.in_err-step.field-0.0 (g.met.F.Nested.no_bill c.args.sort)
+    (fails (λ m v p d o. stack_holds (shape_of f.as_kind f.sort_of f.fields f.child_of) (leaf_holds f.as_kind f.child_of e.sort_of e.holds) f.sort_of f.fields c.args.sort m.below.items m.top m.v m.inside v p d o) f.tree (f.as_kind c.args.sort) c.events.machine c.step.new.self c.place-place.result c.in-Some.event.now c.in_err-step.field-0.0 (c.in_err-step.ensures c.args.sort)))
 
-pub returns-in-Some-2-clause-reads : goal.returns-in-Some-2-clause-reads
-returns-in-Some-2-clause-reads g c = λ d s p nodes rest st.
-    let f = g.F.Nested in
-    let e = g.F.Leaf.Leaves in
-    let x = c.events.invariant.fed s p nodes rest st in
-    let t = c.in-Some.ensures.takes in
-    feeds_done (λ m v p d o. stack_holds (shape_of f.as_kind f.sort_of f.fields f.child_of) (leaf_holds f.as_kind f.child_of e.sort_of e.holds) f.sort_of f.fields c.args.sort m.below.items m.top m.v m.inside v p d o) f.tree (f.as_kind c.args.sort) c.args.v c.args.element.now c.args.attributes.now s p nodes rest (depth_of c.args.depth) c.args.reader.now c.events.reader c.next.new.self c.in-Some.event.now t.0 t.1 c.events.machine c.step.new.self c.place-place.result x st c.place-place.ensures c.in-Some-2.value
-    (root_steps (λ root m v p d o. stack_holds (shape_of f.as_kind f.sort_of f.fields f.child_of) (leaf_holds f.as_kind f.child_of e.sort_of e.holds) f.sort_of f.fields root m.below.items m.top m.v m.inside v p d o) f.as_kind f.tree f.value_sort c.events.machine c.step.new.self c.place-place.result c.in-Some.event.now (Ok (Some c.in-Some-2.value)) c.args.sort
-    (subst (λ r. StepsStack (λ root m v p d o. stack_holds (shape_of f.as_kind f.sort_of f.fields f.child_of) (leaf_holds f.as_kind f.child_of e.sort_of e.holds) f.sort_of f.fields root m.below.items m.top m.v m.inside v p d o) f.as_kind f.tree f.value_sort c.events.machine c.step.new.self c.place-place.result c.in-Some.event.now (Ok r)) c.in-Some-2.is c.in_ok-value.ensures))
-
-pub returns-in-Some-2-clause-sort : goal.returns-in-Some-2-clause-sort
-returns-in-Some-2-clause-sort g c =
+pub finish-requires : goal.finish-requires
+finish-requires g c =
     let i = c.requires in
     let z : Namespace = record { default = None } in
     let f = g.F.Nested in
     let e = g.F.Leaf.Leaves in
     let x = c.events.invariant.fed z i.p i.nodes i.rest i.stands in
     let t = c.in-Some.ensures.takes in
-    root_value (λ root m v p d o. stack_holds (shape_of f.as_kind f.sort_of f.fields f.child_of) (leaf_holds f.as_kind f.child_of e.sort_of e.holds) f.sort_of f.fields root m.below.items m.top m.v m.inside v p d o) f.as_kind f.tree f.value_sort c.events.machine c.step.new.self c.place-place.result c.in-Some.event.now c.in-Some-2.value c.args.sort c.args.v i.p (depth_of c.args.depth) x.o x.held (c.place-place.ensures ∙ x.at) (feeds_takes (λ m v p d o. stack_holds (shape_of f.as_kind f.sort_of f.fields f.child_of) (leaf_holds f.as_kind f.child_of e.sort_of e.holds) f.sort_of f.fields c.args.sort m.below.items m.top m.v m.inside v p d o) c.args.v c.args.element.now c.args.attributes.now z i.p i.nodes i.rest (depth_of c.args.depth) c.events.reader c.next.new.self c.in-Some.event.now t.0 t.1 c.events.machine x)
-    (subst (λ r. StepsStack (λ root m v p d o. stack_holds (shape_of f.as_kind f.sort_of f.fields f.child_of) (leaf_holds f.as_kind f.child_of e.sort_of e.holds) f.sort_of f.fields root m.below.items m.top m.v m.inside v p d o) f.as_kind f.tree f.value_sort c.events.machine c.step.new.self c.place-place.result c.in-Some.event.now (Ok r)) c.in-Some-2.is c.in_ok-value.ensures)
+    stack_can_yield (λ root m v p d o. stack_holds (shape_of f.as_kind f.sort_of f.fields f.child_of) (leaf_holds f.as_kind f.child_of e.sort_of e.holds) f.sort_of f.fields root m.below.items m.top m.v m.inside v p d o) f.as_kind c.events.machine c.step.new.self c.place-place.result c.in-Some.event.now c.in_ok-step.field-0 c.if-branch.true c.in_ok-step.ensures (record { root = c.args.sort; v = c.args.v; p = i.p; d = depth_of c.args.depth; o = x.o; held = x.held; place_is = c.place-place.ensures ∙ x.at; takes = feeds_takes (λ m v p d o. stack_holds (shape_of f.as_kind f.sort_of f.fields f.child_of) (leaf_holds f.as_kind f.child_of e.sort_of e.holds) f.sort_of f.fields c.args.sort m.below.items m.top m.v m.inside v p d o) c.args.v c.args.element.now c.args.attributes.now z i.p i.nodes i.rest (depth_of c.args.depth) c.events.reader c.next.new.self c.in-Some.event.now t.0 t.1 c.events.machine x })
+
+pub returns-then-branch-clause-reads : goal.returns-then-branch-clause-reads
+returns-then-branch-clause-reads g c = λ d s p nodes rest st.
+    let f = g.F.Nested in
+    let e = g.F.Leaf.Leaves in
+    let x = c.events.invariant.fed s p nodes rest st in
+    let t = c.in-Some.ensures.takes in
+    feeds_answered (λ m v p d o. stack_holds (shape_of f.as_kind f.sort_of f.fields f.child_of) (leaf_holds f.as_kind f.child_of e.sort_of e.holds) f.sort_of f.fields c.args.sort m.below.items m.top m.v m.inside v p d o) f.tree (f.as_kind c.args.sort) c.args.v c.args.element.now c.args.attributes.now s p nodes rest (depth_of c.args.depth) c.args.reader.now c.events.reader c.next.new.self c.in-Some.event.now t.0 t.1 c.events.machine c.step.new.self c.place-place.result x st c.place-place.ensures c.finish.result (g.met.F.Nested.no_bill c.args.sort)
+    (root_ends (λ root m v p d o. stack_holds (shape_of f.as_kind f.sort_of f.fields f.child_of) (leaf_holds f.as_kind f.child_of e.sort_of e.holds) f.sort_of f.fields root m.below.items m.top m.v m.inside v p d o) f.as_kind c.events.machine c.step.new.self c.place-place.result c.in-Some.event.now c.in_ok-step.field-0 c.if-branch.true c.in_ok-step.ensures f.tree f.value_sort c.finish.result c.args.sort c.finish.ensures)
+
+pub returns-then-branch-clause-sort : goal.returns-then-branch-clause-sort
+returns-then-branch-clause-sort g c =
+    let i = c.requires in
+    let z : Namespace = record { default = None } in
+    let f = g.F.Nested in
+    let e = g.F.Leaf.Leaves in
+    let x = c.events.invariant.fed z i.p i.nodes i.rest i.stands in
+    let t = c.in-Some.ensures.takes in
+    root_value (λ root m v p d o. stack_holds (shape_of f.as_kind f.sort_of f.fields f.child_of) (leaf_holds f.as_kind f.child_of e.sort_of e.holds) f.sort_of f.fields root m.below.items m.top m.v m.inside v p d o) f.as_kind c.events.machine c.step.new.self c.place-place.result c.in-Some.event.now c.in_ok-step.field-0 c.if-branch.true c.in_ok-step.ensures f.tree f.value_sort c.finish.result c.args.sort c.args.v i.p (depth_of c.args.depth) x.o x.held (c.place-place.ensures ∙ x.at) (feeds_takes (λ m v p d o. stack_holds (shape_of f.as_kind f.sort_of f.fields f.child_of) (leaf_holds f.as_kind f.child_of e.sort_of e.holds) f.sort_of f.fields c.args.sort m.below.items m.top m.v m.inside v p d o) c.args.v c.args.element.now c.args.attributes.now z i.p i.nodes i.rest (depth_of c.args.depth) c.events.reader c.next.new.self c.in-Some.event.now t.0 t.1 c.events.machine x) c.finish.ensures
 
 pub events-preserved : goal.events-preserved
 events-preserved g c =
@@ -91,6 +99,5 @@ events-preserved g c =
           let x = c.events.invariant.fed s p nodes rest st in
           let t = c.in-Some.ensures.takes in
           feeds_on (λ m v p d o. stack_holds (shape_of f.as_kind f.sort_of f.fields f.child_of) (leaf_holds f.as_kind f.child_of e.sort_of e.holds) f.sort_of f.fields c.args.sort m.below.items m.top m.v m.inside v p d o) c.args.v c.args.element.now c.args.attributes.now s p nodes rest (depth_of c.args.depth) c.events.reader c.next.new.self c.in-Some.event.now t.0 t.1 f.tree (f.as_kind c.args.sort) c.events.machine c.step.new.self c.place-place.result x c.place-place.ensures
-          (root_steps (λ root m v p d o. stack_holds (shape_of f.as_kind f.sort_of f.fields f.child_of) (leaf_holds f.as_kind f.child_of e.sort_of e.holds) f.sort_of f.fields root m.below.items m.top m.v m.inside v p d o) f.as_kind f.tree f.value_sort c.events.machine c.step.new.self c.place-place.result c.in-Some.event.now (Ok None) c.args.sort
-          (subst (λ r. StepsStack (λ root m v p d o. stack_holds (shape_of f.as_kind f.sort_of f.fields f.child_of) (leaf_holds f.as_kind f.child_of e.sort_of e.holds) f.sort_of f.fields root m.below.items m.top m.v m.inside v p d o) f.as_kind f.tree f.value_sort c.events.machine c.step.new.self c.place-place.result c.in-Some.event.now (Ok r)) c.in_default-2.is c.in_ok-value.ensures));
+          (waits (λ m v p d o. stack_holds (shape_of f.as_kind f.sort_of f.fields f.child_of) (leaf_holds f.as_kind f.child_of e.sort_of e.holds) f.sort_of f.fields c.args.sort m.below.items m.top m.v m.inside v p d o) f.tree (f.as_kind c.args.sort) c.events.machine c.step.new.self c.place-place.result c.in-Some.event.now c.in_ok-step.field-0 c.if-branch.false (c.in_ok-step.ensures c.args.sort));
     }
