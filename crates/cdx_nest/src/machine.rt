@@ -95,10 +95,12 @@ impl NestMachine {
             unreachable!()
         };
         match machine.step(place, event) {
-            Ok(None) => Ok(NestStep::More),
-            Ok(Some(value)) => {
-                self.machine = None;
-                Ok(NestStep::Done(value))
+            Ok(false) => Ok(NestStep::More),
+            Ok(true) => {
+                let Some(machine) = self.machine.take() else {
+                    unreachable!()
+                };
+                Ok(NestStep::Done(machine.finish(place, event)?))
             }
             Err(error) => {
                 self.machine = None;

@@ -50,10 +50,11 @@ impl RootMachine for BillMachine {
         Ok(BillMachine { stack })
     }
 
-    fn step(&mut self, place: usize, event: &XmlEvent) -> Result<Option<Bom>, XmlReadError> {
-        match self.stack.step(place, event)? {
-            None => Ok(None),
-            Some(value) => Ok(Some(bill_of(value))),
-        }
+    fn step(&mut self, place: usize, event: &XmlEvent) -> Result<bool, XmlReadError> {
+        self.stack.step(place, event)
+    }
+
+    fn finish(self, place: usize, event: &XmlEvent) -> Result<Bom, XmlReadError> {
+        Ok(bill_of(self.stack.finish(place, event)?))
     }
 }
