@@ -45,12 +45,12 @@ impl Machine for IdentifiableActionMachine {
         })
     }
 
-    fn step(
-        &mut self,
-        place: usize,
-        event: &XmlEvent,
-    ) -> Result<Option<IdentifiableAction>, XmlReadError> {
+    fn step(&mut self, place: usize, event: &XmlEvent) -> Result<bool, XmlReadError> {
         self.machine.step(place, event)
+    }
+
+    fn finish(self, place: usize, event: &XmlEvent) -> Result<IdentifiableAction, XmlReadError> {
+        self.machine.finish(place, event)
     }
 }
 
@@ -121,8 +121,12 @@ impl Machine for CommitMachine {
         })
     }
 
-    fn step(&mut self, place: usize, event: &XmlEvent) -> Result<Option<Commit>, XmlReadError> {
+    fn step(&mut self, place: usize, event: &XmlEvent) -> Result<bool, XmlReadError> {
         self.machine.step(place, event)
+    }
+
+    fn finish(self, place: usize, event: &XmlEvent) -> Result<Commit, XmlReadError> {
+        self.machine.finish(place, event)
     }
 }
 
@@ -209,11 +213,13 @@ impl Machine for CommitsMachine {
         })
     }
 
-    fn step(&mut self, place: usize, event: &XmlEvent) -> Result<Option<Commits>, XmlReadError> {
-        match self.machine.step(place, event)? {
-            Some(items) => Ok(Some(Commits(items))),
-            None => Ok(None),
-        }
+    fn step(&mut self, place: usize, event: &XmlEvent) -> Result<bool, XmlReadError> {
+        self.machine.step(place, event)
+    }
+
+    fn finish(self, place: usize, event: &XmlEvent) -> Result<Commits, XmlReadError> {
+        let CommitsMachine { machine } = self;
+        Ok(Commits(machine.finish(place, event)?))
     }
 }
 

@@ -44,8 +44,12 @@ impl Machine for DiffMachine {
         })
     }
 
-    fn step(&mut self, place: usize, event: &XmlEvent) -> Result<Option<Diff>, XmlReadError> {
+    fn step(&mut self, place: usize, event: &XmlEvent) -> Result<bool, XmlReadError> {
         self.machine.step(place, event)
+    }
+
+    fn finish(self, place: usize, event: &XmlEvent) -> Result<Diff, XmlReadError> {
+        self.machine.finish(place, event)
     }
 }
 
@@ -114,8 +118,12 @@ impl Machine for SourceMachine {
         })
     }
 
-    fn step(&mut self, place: usize, event: &XmlEvent) -> Result<Option<Source>, XmlReadError> {
+    fn step(&mut self, place: usize, event: &XmlEvent) -> Result<bool, XmlReadError> {
         self.machine.step(place, event)
+    }
+
+    fn finish(self, place: usize, event: &XmlEvent) -> Result<Source, XmlReadError> {
+        self.machine.finish(place, event)
     }
 }
 
@@ -180,8 +188,12 @@ impl Machine for IssueMachine {
         })
     }
 
-    fn step(&mut self, place: usize, event: &XmlEvent) -> Result<Option<Issue>, XmlReadError> {
+    fn step(&mut self, place: usize, event: &XmlEvent) -> Result<bool, XmlReadError> {
         self.machine.step(place, event)
+    }
+
+    fn finish(self, place: usize, event: &XmlEvent) -> Result<Issue, XmlReadError> {
+        self.machine.finish(place, event)
     }
 }
 
@@ -261,12 +273,12 @@ impl Machine for IssuesMachine {
         })
     }
 
-    fn step(
-        &mut self,
-        place: usize,
-        event: &XmlEvent,
-    ) -> Result<Option<List<Issue>>, XmlReadError> {
+    fn step(&mut self, place: usize, event: &XmlEvent) -> Result<bool, XmlReadError> {
         self.machine.step(place, event)
+    }
+
+    fn finish(self, place: usize, event: &XmlEvent) -> Result<List<Issue>, XmlReadError> {
+        self.machine.finish(place, event)
     }
 }
 
@@ -326,8 +338,12 @@ impl Machine for PatchMachine {
         })
     }
 
-    fn step(&mut self, place: usize, event: &XmlEvent) -> Result<Option<Patch>, XmlReadError> {
+    fn step(&mut self, place: usize, event: &XmlEvent) -> Result<bool, XmlReadError> {
         self.machine.step(place, event)
+    }
+
+    fn finish(self, place: usize, event: &XmlEvent) -> Result<Patch, XmlReadError> {
+        self.machine.finish(place, event)
     }
 }
 
@@ -400,11 +416,13 @@ impl Machine for PatchesMachine {
         })
     }
 
-    fn step(&mut self, place: usize, event: &XmlEvent) -> Result<Option<Patches>, XmlReadError> {
-        match self.machine.step(place, event)? {
-            Some(items) => Ok(Some(Patches(items))),
-            None => Ok(None),
-        }
+    fn step(&mut self, place: usize, event: &XmlEvent) -> Result<bool, XmlReadError> {
+        self.machine.step(place, event)
+    }
+
+    fn finish(self, place: usize, event: &XmlEvent) -> Result<Patches, XmlReadError> {
+        let PatchesMachine { machine } = self;
+        Ok(Patches(machine.finish(place, event)?))
     }
 }
 

@@ -47,12 +47,13 @@ impl Machine for AttachedTextMachine {
         })
     }
 
-    fn step(
-        &mut self,
-        place: usize,
-        event: &XmlEvent,
-    ) -> Result<Option<AttachedText>, XmlReadError> {
+    fn step(&mut self, place: usize, event: &XmlEvent) -> Result<bool, XmlReadError> {
         self.machine.step(place, event)
+    }
+
+    fn finish(self, place: usize, event: &XmlEvent) -> Result<AttachedText, XmlReadError> {
+        let AttachedTextMachine { machine } = self;
+        machine.finish(place, event)
     }
 }
 

@@ -44,11 +44,13 @@ impl Machine for HashesMachine {
         })
     }
 
-    fn step(&mut self, place: usize, event: &XmlEvent) -> Result<Option<Hashes>, XmlReadError> {
-        match self.machine.step(place, event)? {
-            Some(items) => Ok(Some(Hashes(items))),
-            None => Ok(None),
-        }
+    fn step(&mut self, place: usize, event: &XmlEvent) -> Result<bool, XmlReadError> {
+        self.machine.step(place, event)
+    }
+
+    fn finish(self, place: usize, event: &XmlEvent) -> Result<Hashes, XmlReadError> {
+        let HashesMachine { machine } = self;
+        Ok(Hashes(machine.finish(place, event)?))
     }
 }
 
@@ -112,11 +114,13 @@ impl Machine for PropertiesMachine {
         })
     }
 
-    fn step(&mut self, place: usize, event: &XmlEvent) -> Result<Option<Properties>, XmlReadError> {
-        match self.machine.step(place, event)? {
-            Some(items) => Ok(Some(Properties(items))),
-            None => Ok(None),
-        }
+    fn step(&mut self, place: usize, event: &XmlEvent) -> Result<bool, XmlReadError> {
+        self.machine.step(place, event)
+    }
+
+    fn finish(self, place: usize, event: &XmlEvent) -> Result<Properties, XmlReadError> {
+        let PropertiesMachine { machine } = self;
+        Ok(Properties(machine.finish(place, event)?))
     }
 }
 

@@ -42,12 +42,12 @@ impl Machine for ContactMachine {
         })
     }
 
-    fn step(
-        &mut self,
-        place: usize,
-        event: &XmlEvent,
-    ) -> Result<Option<OrganizationalContact>, XmlReadError> {
+    fn step(&mut self, place: usize, event: &XmlEvent) -> Result<bool, XmlReadError> {
         self.machine.step(place, event)
+    }
+
+    fn finish(self, place: usize, event: &XmlEvent) -> Result<OrganizationalContact, XmlReadError> {
+        self.machine.finish(place, event)
     }
 }
 
@@ -123,12 +123,13 @@ impl Machine for EntityMachine {
         })
     }
 
-    fn step(
-        &mut self,
-        place: usize,
-        event: &XmlEvent,
-    ) -> Result<Option<OrganizationalEntity>, XmlReadError> {
+    fn step(&mut self, place: usize, event: &XmlEvent) -> Result<bool, XmlReadError> {
         self.machine.step(place, event)
+    }
+
+    fn finish(self, place: usize, event: &XmlEvent) -> Result<OrganizationalEntity, XmlReadError> {
+        let EntityMachine { machine } = self;
+        machine.finish(place, event)
     }
 }
 
@@ -204,12 +205,17 @@ impl Machine for AuthorsMachine {
         })
     }
 
-    fn step(
-        &mut self,
+    fn step(&mut self, place: usize, event: &XmlEvent) -> Result<bool, XmlReadError> {
+        self.machine.step(place, event)
+    }
+
+    fn finish(
+        self,
         place: usize,
         event: &XmlEvent,
-    ) -> Result<Option<List<OrganizationalContact>>, XmlReadError> {
-        self.machine.step(place, event)
+    ) -> Result<List<OrganizationalContact>, XmlReadError> {
+        let AuthorsMachine { machine } = self;
+        machine.finish(place, event)
     }
 }
 

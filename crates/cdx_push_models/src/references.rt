@@ -45,12 +45,12 @@ impl Machine for ReferenceMachine {
         })
     }
 
-    fn step(
-        &mut self,
-        place: usize,
-        event: &XmlEvent,
-    ) -> Result<Option<ExternalReference>, XmlReadError> {
+    fn step(&mut self, place: usize, event: &XmlEvent) -> Result<bool, XmlReadError> {
         self.machine.step(place, event)
+    }
+
+    fn finish(self, place: usize, event: &XmlEvent) -> Result<ExternalReference, XmlReadError> {
+        self.machine.finish(place, event)
     }
 }
 
@@ -129,15 +129,13 @@ impl Machine for ExternalReferencesMachine {
         })
     }
 
-    fn step(
-        &mut self,
-        place: usize,
-        event: &XmlEvent,
-    ) -> Result<Option<ExternalReferences>, XmlReadError> {
-        match self.machine.step(place, event)? {
-            Some(items) => Ok(Some(ExternalReferences(items))),
-            None => Ok(None),
-        }
+    fn step(&mut self, place: usize, event: &XmlEvent) -> Result<bool, XmlReadError> {
+        self.machine.step(place, event)
+    }
+
+    fn finish(self, place: usize, event: &XmlEvent) -> Result<ExternalReferences, XmlReadError> {
+        let ExternalReferencesMachine { machine } = self;
+        Ok(ExternalReferences(machine.finish(place, event)?))
     }
 }
 
@@ -202,8 +200,13 @@ impl Machine for ToolMachine {
         })
     }
 
-    fn step(&mut self, place: usize, event: &XmlEvent) -> Result<Option<Tool>, XmlReadError> {
+    fn step(&mut self, place: usize, event: &XmlEvent) -> Result<bool, XmlReadError> {
         self.machine.step(place, event)
+    }
+
+    fn finish(self, place: usize, event: &XmlEvent) -> Result<Tool, XmlReadError> {
+        let ToolMachine { machine } = self;
+        machine.finish(place, event)
     }
 }
 

@@ -44,8 +44,13 @@ impl Machine for LinksMachine {
         })
     }
 
-    fn step(&mut self, place: usize, event: &XmlEvent) -> Result<Option<List<Text>>, XmlReadError> {
+    fn step(&mut self, place: usize, event: &XmlEvent) -> Result<bool, XmlReadError> {
         self.machine.step(place, event)
+    }
+
+    fn finish(self, place: usize, event: &XmlEvent) -> Result<List<Text>, XmlReadError> {
+        let LinksMachine { machine } = self;
+        machine.finish(place, event)
     }
 }
 
@@ -109,8 +114,13 @@ impl Machine for EndpointsMachine {
         })
     }
 
-    fn step(&mut self, place: usize, event: &XmlEvent) -> Result<Option<List<Text>>, XmlReadError> {
+    fn step(&mut self, place: usize, event: &XmlEvent) -> Result<bool, XmlReadError> {
         self.machine.step(place, event)
+    }
+
+    fn finish(self, place: usize, event: &XmlEvent) -> Result<List<Text>, XmlReadError> {
+        let EndpointsMachine { machine } = self;
+        machine.finish(place, event)
     }
 }
 

@@ -52,8 +52,13 @@ impl Machine for SwidMachine {
         })
     }
 
-    fn step(&mut self, place: usize, event: &XmlEvent) -> Result<Option<Swid>, XmlReadError> {
+    fn step(&mut self, place: usize, event: &XmlEvent) -> Result<bool, XmlReadError> {
         self.machine.step(place, event)
+    }
+
+    fn finish(self, place: usize, event: &XmlEvent) -> Result<Swid, XmlReadError> {
+        let SwidMachine { machine } = self;
+        machine.finish(place, event)
     }
 }
 
@@ -121,15 +126,12 @@ impl Machine for CopyrightTextsMachine {
         })
     }
 
-    fn step(
-        &mut self,
-        place: usize,
-        event: &XmlEvent,
-    ) -> Result<Option<CopyrightTexts>, XmlReadError> {
-        match self.machine.step(place, event)? {
-            Some(items) => Ok(Some(CopyrightTexts(items))),
-            None => Ok(None),
-        }
+    fn step(&mut self, place: usize, event: &XmlEvent) -> Result<bool, XmlReadError> {
+        self.machine.step(place, event)
+    }
+
+    fn finish(self, place: usize, event: &XmlEvent) -> Result<CopyrightTexts, XmlReadError> {
+        Ok(CopyrightTexts(self.machine.finish(place, event)?))
     }
 }
 
@@ -196,12 +198,13 @@ impl Machine for ComponentEvidenceMachine {
         })
     }
 
-    fn step(
-        &mut self,
-        place: usize,
-        event: &XmlEvent,
-    ) -> Result<Option<ComponentEvidence>, XmlReadError> {
+    fn step(&mut self, place: usize, event: &XmlEvent) -> Result<bool, XmlReadError> {
         self.machine.step(place, event)
+    }
+
+    fn finish(self, place: usize, event: &XmlEvent) -> Result<ComponentEvidence, XmlReadError> {
+        let ComponentEvidenceMachine { machine } = self;
+        machine.finish(place, event)
     }
 }
 

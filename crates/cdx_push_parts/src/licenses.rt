@@ -124,12 +124,12 @@ impl Machine for LicenseIdentifierMachine {
         })
     }
 
-    fn step(
-        &mut self,
-        place: usize,
-        event: &XmlEvent,
-    ) -> Result<Option<LicenseIdentifier>, XmlReadError> {
+    fn step(&mut self, place: usize, event: &XmlEvent) -> Result<bool, XmlReadError> {
         self.machine.step(place, event)
+    }
+
+    fn finish(self, place: usize, event: &XmlEvent) -> Result<LicenseIdentifier, XmlReadError> {
+        self.machine.finish(place, event)
     }
 }
 
@@ -216,8 +216,12 @@ impl Machine for LicenseMachine {
         })
     }
 
-    fn step(&mut self, place: usize, event: &XmlEvent) -> Result<Option<License>, XmlReadError> {
+    fn step(&mut self, place: usize, event: &XmlEvent) -> Result<bool, XmlReadError> {
         self.machine.step(place, event)
+    }
+
+    fn finish(self, place: usize, event: &XmlEvent) -> Result<License, XmlReadError> {
+        self.machine.finish(place, event)
     }
 }
 
@@ -316,12 +320,12 @@ impl Machine for LicenseChoiceMachine {
         })
     }
 
-    fn step(
-        &mut self,
-        place: usize,
-        event: &XmlEvent,
-    ) -> Result<Option<LicenseChoice>, XmlReadError> {
+    fn step(&mut self, place: usize, event: &XmlEvent) -> Result<bool, XmlReadError> {
         self.machine.step(place, event)
+    }
+
+    fn finish(self, place: usize, event: &XmlEvent) -> Result<LicenseChoice, XmlReadError> {
+        self.machine.finish(place, event)
     }
 }
 
@@ -415,8 +419,13 @@ impl Machine for LicensesMachine {
         })
     }
 
-    fn step(&mut self, place: usize, event: &XmlEvent) -> Result<Option<Licenses>, XmlReadError> {
+    fn step(&mut self, place: usize, event: &XmlEvent) -> Result<bool, XmlReadError> {
         self.machine.step(place, event)
+    }
+
+    fn finish(self, place: usize, event: &XmlEvent) -> Result<Licenses, XmlReadError> {
+        let LicensesMachine { machine } = self;
+        machine.finish(place, event)
     }
 }
 

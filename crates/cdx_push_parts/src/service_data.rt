@@ -81,12 +81,12 @@ impl Machine for EntryMachine {
         })
     }
 
-    fn step(
-        &mut self,
-        place: usize,
-        event: &XmlEvent,
-    ) -> Result<Option<ServiceData>, XmlReadError> {
+    fn step(&mut self, place: usize, event: &XmlEvent) -> Result<bool, XmlReadError> {
         self.machine.step(place, event)
+    }
+
+    fn finish(self, place: usize, event: &XmlEvent) -> Result<ServiceData, XmlReadError> {
+        self.machine.finish(place, event)
     }
 }
 
@@ -196,8 +196,13 @@ impl Machine for DataMachine {
         })
     }
 
-    fn step(&mut self, place: usize, event: &XmlEvent) -> Result<Option<Data>, XmlReadError> {
+    fn step(&mut self, place: usize, event: &XmlEvent) -> Result<bool, XmlReadError> {
         self.machine.step(place, event)
+    }
+
+    fn finish(self, place: usize, event: &XmlEvent) -> Result<Data, XmlReadError> {
+        let DataMachine { machine } = self;
+        machine.finish(place, event)
     }
 }
 

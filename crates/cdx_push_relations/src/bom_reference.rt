@@ -43,12 +43,12 @@ impl Machine for BomReferenceMachine {
         })
     }
 
-    fn step(
-        &mut self,
-        place: usize,
-        event: &XmlEvent,
-    ) -> Result<Option<BomReference>, XmlReadError> {
+    fn step(&mut self, place: usize, event: &XmlEvent) -> Result<bool, XmlReadError> {
         self.machine.step(place, event)
+    }
+
+    fn finish(self, place: usize, event: &XmlEvent) -> Result<BomReference, XmlReadError> {
+        self.machine.finish(place, event)
     }
 }
 

@@ -49,8 +49,12 @@ impl Machine for DependencyMachine {
         })
     }
 
-    fn step(&mut self, place: usize, event: &XmlEvent) -> Result<Option<Dependency>, XmlReadError> {
+    fn step(&mut self, place: usize, event: &XmlEvent) -> Result<bool, XmlReadError> {
         self.machine.step(place, event)
+    }
+
+    fn finish(self, place: usize, event: &XmlEvent) -> Result<Dependency, XmlReadError> {
+        self.machine.finish(place, event)
     }
 }
 
@@ -121,15 +125,13 @@ impl Machine for DependenciesMachine {
         })
     }
 
-    fn step(
-        &mut self,
-        place: usize,
-        event: &XmlEvent,
-    ) -> Result<Option<Dependencies>, XmlReadError> {
-        match self.machine.step(place, event)? {
-            Some(items) => Ok(Some(Dependencies(items))),
-            None => Ok(None),
-        }
+    fn step(&mut self, place: usize, event: &XmlEvent) -> Result<bool, XmlReadError> {
+        self.machine.step(place, event)
+    }
+
+    fn finish(self, place: usize, event: &XmlEvent) -> Result<Dependencies, XmlReadError> {
+        let DependenciesMachine { machine } = self;
+        Ok(Dependencies(machine.finish(place, event)?))
     }
 }
 
@@ -189,12 +191,12 @@ impl Machine for AssembliesMachine {
         })
     }
 
-    fn step(
-        &mut self,
-        place: usize,
-        event: &XmlEvent,
-    ) -> Result<Option<List<BomReference>>, XmlReadError> {
+    fn step(&mut self, place: usize, event: &XmlEvent) -> Result<bool, XmlReadError> {
         self.machine.step(place, event)
+    }
+
+    fn finish(self, place: usize, event: &XmlEvent) -> Result<List<BomReference>, XmlReadError> {
+        self.machine.finish(place, event)
     }
 }
 
@@ -254,12 +256,12 @@ impl Machine for ComposedMachine {
         })
     }
 
-    fn step(
-        &mut self,
-        place: usize,
-        event: &XmlEvent,
-    ) -> Result<Option<List<BomReference>>, XmlReadError> {
+    fn step(&mut self, place: usize, event: &XmlEvent) -> Result<bool, XmlReadError> {
         self.machine.step(place, event)
+    }
+
+    fn finish(self, place: usize, event: &XmlEvent) -> Result<List<BomReference>, XmlReadError> {
+        self.machine.finish(place, event)
     }
 }
 
@@ -319,12 +321,12 @@ impl Machine for VulnerabilitiesMachine {
         })
     }
 
-    fn step(
-        &mut self,
-        place: usize,
-        event: &XmlEvent,
-    ) -> Result<Option<List<BomReference>>, XmlReadError> {
+    fn step(&mut self, place: usize, event: &XmlEvent) -> Result<bool, XmlReadError> {
         self.machine.step(place, event)
+    }
+
+    fn finish(self, place: usize, event: &XmlEvent) -> Result<List<BomReference>, XmlReadError> {
+        self.machine.finish(place, event)
     }
 }
 
@@ -386,12 +388,12 @@ impl Machine for CompositionMachine {
         })
     }
 
-    fn step(
-        &mut self,
-        place: usize,
-        event: &XmlEvent,
-    ) -> Result<Option<Composition>, XmlReadError> {
+    fn step(&mut self, place: usize, event: &XmlEvent) -> Result<bool, XmlReadError> {
         self.machine.step(place, event)
+    }
+
+    fn finish(self, place: usize, event: &XmlEvent) -> Result<Composition, XmlReadError> {
+        self.machine.finish(place, event)
     }
 }
 
@@ -492,15 +494,13 @@ impl Machine for CompositionsMachine {
         })
     }
 
-    fn step(
-        &mut self,
-        place: usize,
-        event: &XmlEvent,
-    ) -> Result<Option<Compositions>, XmlReadError> {
-        match self.machine.step(place, event)? {
-            Some(items) => Ok(Some(Compositions(items))),
-            None => Ok(None),
-        }
+    fn step(&mut self, place: usize, event: &XmlEvent) -> Result<bool, XmlReadError> {
+        self.machine.step(place, event)
+    }
+
+    fn finish(self, place: usize, event: &XmlEvent) -> Result<Compositions, XmlReadError> {
+        let CompositionsMachine { machine } = self;
+        Ok(Compositions(machine.finish(place, event)?))
     }
 }
 

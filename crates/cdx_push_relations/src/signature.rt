@@ -44,8 +44,12 @@ impl Machine for SignerMachine {
         })
     }
 
-    fn step(&mut self, place: usize, event: &XmlEvent) -> Result<Option<Signer>, XmlReadError> {
+    fn step(&mut self, place: usize, event: &XmlEvent) -> Result<bool, XmlReadError> {
         self.machine.step(place, event)
+    }
+
+    fn finish(self, place: usize, event: &XmlEvent) -> Result<Signer, XmlReadError> {
+        self.machine.finish(place, event)
     }
 }
 
@@ -113,8 +117,12 @@ impl Machine for SignersMachine {
         })
     }
 
-    fn step(&mut self, place: usize, event: &XmlEvent) -> Result<Option<Signature>, XmlReadError> {
+    fn step(&mut self, place: usize, event: &XmlEvent) -> Result<bool, XmlReadError> {
         self.machine.step(place, event)
+    }
+
+    fn finish(self, place: usize, event: &XmlEvent) -> Result<Signature, XmlReadError> {
+        self.machine.finish(place, event)
     }
 }
 
@@ -228,8 +236,12 @@ impl Machine for ChainMachine {
         })
     }
 
-    fn step(&mut self, place: usize, event: &XmlEvent) -> Result<Option<Signature>, XmlReadError> {
+    fn step(&mut self, place: usize, event: &XmlEvent) -> Result<bool, XmlReadError> {
         self.machine.step(place, event)
+    }
+
+    fn finish(self, place: usize, event: &XmlEvent) -> Result<Signature, XmlReadError> {
+        self.machine.finish(place, event)
     }
 }
 
@@ -347,8 +359,13 @@ impl Machine for SignatureMachine {
         })
     }
 
-    fn step(&mut self, place: usize, event: &XmlEvent) -> Result<Option<Signature>, XmlReadError> {
+    fn step(&mut self, place: usize, event: &XmlEvent) -> Result<bool, XmlReadError> {
         self.machine.step(place, event)
+    }
+
+    fn finish(self, place: usize, event: &XmlEvent) -> Result<Signature, XmlReadError> {
+        let SignatureMachine { machine } = self;
+        machine.finish(place, event)
     }
 }
 
