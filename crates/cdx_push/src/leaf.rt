@@ -14,7 +14,6 @@ use cdx_push_relations::{CompositionsMachine, DependenciesMachine, SignatureMach
 use std::alloc::Global;
 
 /// The machine of the kind that its variant names.
-#[derive(Drop)]
 pub enum Leaf {
     /// A text.
     Text(TextMachine),
@@ -54,6 +53,32 @@ pub enum Leaf {
     Evidence(ComponentEvidenceMachine),
     /// The data of a service.
     Data(DataMachine),
+}
+
+impl Drop for Leaf {
+    fn drop(self) {
+        match self {
+            Leaf::Text(_) => {}
+            Leaf::Flag(_) => {}
+            Leaf::AttachedText(_) => {}
+            Leaf::Endpoints(_) => {}
+            Leaf::Authors(_) => {}
+            Leaf::Entity(_) => {}
+            Leaf::Hashes(_) => {}
+            Leaf::Properties(_) => {}
+            Leaf::Commits(_) => {}
+            Leaf::Patches(_) => {}
+            Leaf::ExternalReferences(_) => {}
+            Leaf::Dependencies(_) => {}
+            Leaf::Compositions(_) => {}
+            Leaf::Licenses(_) => {}
+            Leaf::Signature(_) => {}
+            Leaf::Tool(_) => {}
+            Leaf::Swid(_) => {}
+            Leaf::Evidence(_) => {}
+            Leaf::Data(_) => {}
+        }
+    }
 }
 
 impl Leaves for Leaf {
@@ -163,84 +188,59 @@ impl Leaves for Leaf {
         }
     }
 
-    fn step(&mut self, place: usize, event: &XmlEvent) -> Result<Option<LeafValue>, XmlReadError> {
+    fn step(&mut self, place: usize, event: &XmlEvent) -> Result<bool, XmlReadError> {
         match self {
-            Leaf::Text(machine) => match machine.step(place, event)? {
-                None => Ok(None),
-                Some(value) => Ok(Some(LeafValue::Text(value))),
-            },
-            Leaf::Flag(machine) => match machine.step(place, event)? {
-                None => Ok(None),
-                Some(value) => Ok(Some(LeafValue::Flag(value))),
-            },
-            Leaf::AttachedText(machine) => match machine.step(place, event)? {
-                None => Ok(None),
-                Some(value) => Ok(Some(LeafValue::AttachedText(value))),
-            },
-            Leaf::Endpoints(machine) => match machine.step(place, event)? {
-                None => Ok(None),
-                Some(value) => Ok(Some(LeafValue::Endpoints(value))),
-            },
-            Leaf::Authors(machine) => match machine.step(place, event)? {
-                None => Ok(None),
-                Some(value) => Ok(Some(LeafValue::Authors(value))),
-            },
-            Leaf::Entity(machine) => match machine.step(place, event)? {
-                None => Ok(None),
-                Some(value) => Ok(Some(LeafValue::Entity(value))),
-            },
-            Leaf::Hashes(machine) => match machine.step(place, event)? {
-                None => Ok(None),
-                Some(value) => Ok(Some(LeafValue::Hashes(value))),
-            },
-            Leaf::Properties(machine) => match machine.step(place, event)? {
-                None => Ok(None),
-                Some(value) => Ok(Some(LeafValue::Properties(value))),
-            },
-            Leaf::Commits(machine) => match machine.step(place, event)? {
-                None => Ok(None),
-                Some(value) => Ok(Some(LeafValue::Commits(value))),
-            },
-            Leaf::Patches(machine) => match machine.step(place, event)? {
-                None => Ok(None),
-                Some(value) => Ok(Some(LeafValue::Patches(value))),
-            },
-            Leaf::ExternalReferences(machine) => match machine.step(place, event)? {
-                None => Ok(None),
-                Some(value) => Ok(Some(LeafValue::ExternalReferences(value))),
-            },
-            Leaf::Dependencies(machine) => match machine.step(place, event)? {
-                None => Ok(None),
-                Some(value) => Ok(Some(LeafValue::Dependencies(value))),
-            },
-            Leaf::Compositions(machine) => match machine.step(place, event)? {
-                None => Ok(None),
-                Some(value) => Ok(Some(LeafValue::Compositions(value))),
-            },
-            Leaf::Licenses(machine) => match machine.step(place, event)? {
-                None => Ok(None),
-                Some(value) => Ok(Some(LeafValue::Licenses(value))),
-            },
-            Leaf::Signature(machine) => match machine.step(place, event)? {
-                None => Ok(None),
-                Some(value) => Ok(Some(LeafValue::Signature(value))),
-            },
-            Leaf::Tool(machine) => match machine.step(place, event)? {
-                None => Ok(None),
-                Some(value) => Ok(Some(LeafValue::Tool(value))),
-            },
-            Leaf::Swid(machine) => match machine.step(place, event)? {
-                None => Ok(None),
-                Some(value) => Ok(Some(LeafValue::Swid(value))),
-            },
-            Leaf::Evidence(machine) => match machine.step(place, event)? {
-                None => Ok(None),
-                Some(value) => Ok(Some(LeafValue::Evidence(value))),
-            },
-            Leaf::Data(machine) => match machine.step(place, event)? {
-                None => Ok(None),
-                Some(value) => Ok(Some(LeafValue::Data(value))),
-            },
+            Leaf::Text(machine) => machine.step(place, event),
+            Leaf::Flag(machine) => machine.step(place, event),
+            Leaf::AttachedText(machine) => machine.step(place, event),
+            Leaf::Endpoints(machine) => machine.step(place, event),
+            Leaf::Authors(machine) => machine.step(place, event),
+            Leaf::Entity(machine) => machine.step(place, event),
+            Leaf::Hashes(machine) => machine.step(place, event),
+            Leaf::Properties(machine) => machine.step(place, event),
+            Leaf::Commits(machine) => machine.step(place, event),
+            Leaf::Patches(machine) => machine.step(place, event),
+            Leaf::ExternalReferences(machine) => machine.step(place, event),
+            Leaf::Dependencies(machine) => machine.step(place, event),
+            Leaf::Compositions(machine) => machine.step(place, event),
+            Leaf::Licenses(machine) => machine.step(place, event),
+            Leaf::Signature(machine) => machine.step(place, event),
+            Leaf::Tool(machine) => machine.step(place, event),
+            Leaf::Swid(machine) => machine.step(place, event),
+            Leaf::Evidence(machine) => machine.step(place, event),
+            Leaf::Data(machine) => machine.step(place, event),
+        }
+    }
+
+    fn finish(self, place: usize, event: &XmlEvent) -> Result<LeafValue, XmlReadError> {
+        match self {
+            Leaf::Text(machine) => Ok(LeafValue::Text(machine.finish(place, event)?)),
+            Leaf::Flag(machine) => Ok(LeafValue::Flag(machine.finish(place, event)?)),
+            Leaf::AttachedText(machine) => Ok(LeafValue::AttachedText(machine.finish(
+                place, event,
+            )?)),
+            Leaf::Endpoints(machine) => Ok(LeafValue::Endpoints(machine.finish(place, event)?)),
+            Leaf::Authors(machine) => Ok(LeafValue::Authors(machine.finish(place, event)?)),
+            Leaf::Entity(machine) => Ok(LeafValue::Entity(machine.finish(place, event)?)),
+            Leaf::Hashes(machine) => Ok(LeafValue::Hashes(machine.finish(place, event)?)),
+            Leaf::Properties(machine) => Ok(LeafValue::Properties(machine.finish(place, event)?)),
+            Leaf::Commits(machine) => Ok(LeafValue::Commits(machine.finish(place, event)?)),
+            Leaf::Patches(machine) => Ok(LeafValue::Patches(machine.finish(place, event)?)),
+            Leaf::ExternalReferences(machine) => Ok(LeafValue::ExternalReferences(machine.finish(
+                place, event,
+            )?)),
+            Leaf::Dependencies(machine) => Ok(LeafValue::Dependencies(machine.finish(
+                place, event,
+            )?)),
+            Leaf::Compositions(machine) => Ok(LeafValue::Compositions(machine.finish(
+                place, event,
+            )?)),
+            Leaf::Licenses(machine) => Ok(LeafValue::Licenses(machine.finish(place, event)?)),
+            Leaf::Signature(machine) => Ok(LeafValue::Signature(machine.finish(place, event)?)),
+            Leaf::Tool(machine) => Ok(LeafValue::Tool(machine.finish(place, event)?)),
+            Leaf::Swid(machine) => Ok(LeafValue::Swid(machine.finish(place, event)?)),
+            Leaf::Evidence(machine) => Ok(LeafValue::Evidence(machine.finish(place, event)?)),
+            Leaf::Data(machine) => Ok(LeafValue::Data(machine.finish(place, event)?)),
         }
     }
 }

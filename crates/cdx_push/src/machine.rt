@@ -18,13 +18,23 @@ use cdx_models::{SpecVersion, XmlReadError};
 use std::alloc::Global;
 
 /// Reads one element of a kind event by event. It keeps what was read so far, and no events.
-#[derive(Drop)]
 pub struct LeafMachine {
     kind: LeafKind,
     place: usize,
     v: SpecVersion,
     // None once an event was refused or the element has ended.
     machine: Option<Leaf>,
+}
+
+impl Drop for LeafMachine {
+    fn drop(self) {
+        let LeafMachine {
+            kind: _,
+            place: _,
+            v: _,
+            machine: _,
+        } = self;
+    }
 }
 
 impl Listener for LeafMachine {
@@ -86,10 +96,12 @@ impl LeafMachine {
             unreachable!()
         };
         match leaf.step(place, event) {
-            Ok(None) => Ok(LeafStep::More),
-            Ok(Some(value)) => {
-                self.machine = None;
-                Ok(LeafStep::Done(value))
+            Ok(false) => Ok(LeafStep::More),
+            Ok(true) => {
+                let Some(ended) = self.machine.take() else {
+                    unreachable!()
+                };
+                Ok(LeafStep::Done(ended.finish(place, event)?))
             }
             Err(error) => {
                 self.machine = None;
