@@ -134,9 +134,8 @@ module _ {W L K C : Type 0} (s : Shape W L K) (law : (k : K) → IsNested (s.as_
 
     pub skip_more : (inside : Inside C) → inside ≡ skipped depth event → Takes o event → Told (Now ts inside) (Ok false)
     skip_more inside e t =
-        subst (λ (x : Inside C). Told (Now ts x) (Ok false)) (sym e)
-        (more ts (Skipped depth) h ts (skipped depth event)
-        (child_skipped (inner_read (s.as_kind k)) (plan_of (s.as_kind k)) (first_of (s.as_kind k)) (last_of (s.as_kind k)) form (holds k) (λ (x : Trees). x) kept v h.place inner name known ts depth h.top event h.held (top_takes ts (Skipped depth) h t)))
+        more ts (Skipped depth) h ts inside
+        (child_skipped (inner_read (s.as_kind k)) (plan_of (s.as_kind k)) (first_of (s.as_kind k)) (last_of (s.as_kind k)) form (holds k) (λ (x : Trees). x) kept v h.place inner name known ts depth inside h.top event e h.held (top_takes ts (Skipped depth) h t))
 
   -- ---- nothing is open in the top element
   module _ (ts : Trees) (h : Stacked s holds root ws k name inner ts known Nothing v p d o) (is : place ≡ p + count o) (t : Takes o event) where
