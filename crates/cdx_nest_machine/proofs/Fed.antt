@@ -1,31 +1,18 @@
 -- A machine of several kinds, by the root's kind.
-use Rattle.std.proofs.Common.{◌≡◌, ℕ, ◌+◌, List, ◌∷◌, Bool, true, Result, Ok, Err}
+use Rattle.std.proofs.Common.{◌≡◌, ℕ, ◌+◌, Bool, true, Result, Ok, Err}
 use Rattle.std.specs.Prelude.{IfOk}
-use Rattle.cdx_events.specs.declared.name.OwnedName.{OwnedName}
-use Rattle.cdx_events.specs.declared.name.OwnedAttribute.{OwnedAttribute}
-use Rattle.cdx_events.specs.declared.name.Namespace.{Namespace}
 use Rattle.cdx_events.specs.declared.event.XmlEvent.{XmlEvent}
-use Rattle.cdx_events.specs.Cursor.{Cursor}
-use Rattle.cdx_events.specs.Nodes.{Node, Nodes, element}
+use Rattle.cdx_events.specs.Nodes.{Node, element}
 use Rattle.cdx_models.specs.declared.bom.SpecVersion.{SpecVersion}
 use Rattle.cdx_models.specs.declared.errors.XmlReadError.{XmlReadError}
 use Rattle.cdx_models.specs.Trees.{Tree}
 use Rattle.cdx_schema.specs.Depth.{Depth}
 use Rattle.cdx_schema.specs.Kinds.{Kind}
 use Rattle.cdx_schema.specs.XmlReading.{xread}
-use Rattle.cdx_leaf.specs.Reading.{Stands, Reads, after}
 use Rattle.cdx_machine.specs.Begun.{Begun, whole, next, count, Takes}
-use Rattle.cdx_machine.specs.Feeding.{IsNoBill}
-use Rattle.cdx_machine.specs.Machines.{Holding, StepsAs}
-use Rattle.cdx_machine.proofs.Feeding.{Feeding, feeds_fails, feeds_done}
+use Rattle.cdx_machine.specs.Machines.{StepsAs}
 use Rattle.cdx_machine.proofs.Yielding.{ended_with, ends_with, proceeds_whole}
 use Rattle.cdx_nest_machine.specs.Stacks.{RootHolding, CanStepStack, ProceedsStack, CanYieldStack, IsOfRoot, YieldsStack}
-
--- What an element is read as at its end is what is read, or its fault.
-pub feeds_answered : {M X : Type 0} (holds : Holding M) (view : X → Tree) (kind : Kind) (v : SpecVersion) (n : OwnedName) (a : List OwnedAttribute) (s : Namespace) (p : ℕ) (nodes : Nodes) (rest : List XmlEvent) (d : Depth) (old c c' : Cursor) (event : XmlEvent) (took : c.ahead ≡ event ∷ c'.ahead) (moved : c'.place ≡ c.place + 1) (m m' : M) (place : ℕ) (f : Feeding holds v n a s p nodes rest d c m) (st : Stands old n p nodes rest) (is : place ≡ c.place)
-    → (r : Result X XmlReadError) → IsNoBill kind → StepsAs holds view kind m m' place event (ended_with r) → Reads view old c' (after old nodes rest) (xread (element n a s nodes) v kind p d) r
-feeds_answered holds view kind v n a s p nodes rest d old c c' event took moved m m' place f st is (Ok x) nb steps = feeds_done holds view kind v n a s p nodes rest d old c c' event took moved m m' place f st is x steps
-feeds_answered holds view kind v n a s p nodes rest d old c c' event took moved m m' place f st is (Err e) nb steps = feeds_fails holds view kind v n a s p nodes rest d old c c' event took moved m m' place f st is (after old nodes rest) e nb steps
 
 of_root_ok : {X K : Type 0} (sort : X → K) (root : K) (r : Result X XmlReadError) → IsOfRoot sort root r → IfOk r (λ x. sort x ≡ root)
 of_root_ok sort root (Ok x) h = h

@@ -8,10 +8,10 @@ use Rattle.cdx_schema.specs.XmlReading.{xread}
 use Rattle.cdx_machine.specs.Begun.{innermost}
 use Rattle.cdx_machine.specs.Machines.{Refuses}
 use Rattle.cdx_leaf.proofs.Whole.{start_is}
-use Rattle.cdx_machine.proofs.Feeding.{feeds_first, feeds_takes, feeds_on, feeds_never, feeds_refused, feeds_fails}
+use Rattle.cdx_machine.proofs.Feeding.{feeds_first, feeds_takes, feeds_on, feeds_never, feeds_refused, feeds_fails, feeds_ends}
 use Rattle.cdx_machine.proofs.Yielding.{waits, fails}
 use Rattle.cdx_nest_machine.specs.Frames.{leaf_holds, shape_of, stack_holds}
-use Rattle.cdx_nest_machine.proofs.Fed.{feeds_answered, stack_can_yield, root_ends, root_value}
+use Rattle.cdx_nest_machine.proofs.Fed.{stack_can_yield, root_ends, root_value}
 use Rattle.cdx_nest_machine.proofs.reading.read_element.Goals as goal
 
 pub returns-in_err-machine-clause-reads : goal.returns-in_err-machine-clause-reads
@@ -77,7 +77,7 @@ returns-then-branch-clause-reads g c = λ d s p nodes rest st.
     let e = g.F.Leaf.Leaves in
     let x = c.events.invariant.fed s p nodes rest st in
     let t = c.in-Some.ensures.takes in
-    feeds_answered (λ m v p d o. stack_holds (shape_of f.as_kind f.sort_of f.fields f.child_of) (leaf_holds f.as_kind f.child_of e.sort_of e.holds) f.sort_of f.fields c.args.sort m.below.items m.top m.v m.inside v p d o) f.tree (f.as_kind c.args.sort) c.args.v c.args.element.now c.args.attributes.now s p nodes rest (depth_of c.args.depth) c.args.reader.now c.events.reader c.next.new.self c.in-Some.event.now t.0 t.1 c.events.machine c.step.new.self c.place-place.result x st c.place-place.ensures c.finish.result (g.met.F.Nested.no_bill c.args.sort)
+    feeds_ends (λ m v p d o. stack_holds (shape_of f.as_kind f.sort_of f.fields f.child_of) (leaf_holds f.as_kind f.child_of e.sort_of e.holds) f.sort_of f.fields c.args.sort m.below.items m.top m.v m.inside v p d o) f.tree (f.as_kind c.args.sort) c.args.v c.args.element.now c.args.attributes.now s p nodes rest (depth_of c.args.depth) c.args.reader.now c.events.reader c.next.new.self c.in-Some.event.now t.0 t.1 c.events.machine c.step.new.self c.place-place.result x st c.place-place.ensures c.finish.result (g.met.F.Nested.no_bill c.args.sort)
     (root_ends (λ root m v p d o. stack_holds (shape_of f.as_kind f.sort_of f.fields f.child_of) (leaf_holds f.as_kind f.child_of e.sort_of e.holds) f.sort_of f.fields root m.below.items m.top m.v m.inside v p d o) f.as_kind c.events.machine c.step.new.self c.place-place.result c.in-Some.event.now c.in_ok-step.field-0 c.if-branch.true c.in_ok-step.ensures f.tree f.value_sort c.finish.result c.args.sort c.finish.ensures)
 
 pub returns-then-branch-clause-sort : goal.returns-then-branch-clause-sort
