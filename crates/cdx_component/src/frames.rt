@@ -9,7 +9,6 @@ ghost use Rattle.cdx_nest_machine.specs.Children.{Deepens};
 mod children;
 mod names;
 mod putting;
-pub(crate) mod values;
 
 use crate::component::{Component, Components, Pedigree};
 use crate::frames::children::{component_child, pedigree_child};

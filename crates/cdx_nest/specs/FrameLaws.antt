@@ -17,8 +17,8 @@ use Rattle.cdx_component.specs.Frames.{kind_of as component_kind, reader_of as c
 use Rattle.cdx_component.specs.FrameLaws.{children_read as component_children}
 use Rattle.cdx_component.specs.declared.frames.ComponentKind.{ComponentKind}
 use Rattle.cdx_component.specs.declared.frames.ComponentKind.TheVariants as component_kinds
-use Rattle.cdx_service.specs.FrameKinds.{service_kind, child_reader as service_reader}
-use Rattle.cdx_service.specs.FrameLaws.{readers_fit as service_children}
+use Rattle.cdx_service.specs.Frames.{kind_of as service_kind, reader_of as service_reader}
+use Rattle.cdx_service.specs.FrameLaws.{children_read as service_children}
 use Rattle.cdx_service.specs.declared.frames.ServiceKind.{ServiceKind}
 use Rattle.cdx_service.specs.declared.frames.ServiceKind.TheVariants as service_kinds
 use Rattle.cdx_nest.specs.declared.frames.NestKind.{NestKind}

@@ -13,7 +13,7 @@ use Rattle.cdx_component.specs.Frames.{frame_kind as component_frame_kind, frame
 use Rattle.cdx_component.specs.declared.frames.ComponentKind.{ComponentKind}
 use Rattle.cdx_component.specs.declared.frames.ComponentKind.TheVariants as component_kinds
 use Rattle.cdx_service.specs.Trees.{service_tree, services_tree}
-use Rattle.cdx_service.specs.FrameKinds.{frame_sort as service_frame_kind, frame_fields as service_fields, child_reader as service_reader}
+use Rattle.cdx_service.specs.Frames.{frame_kind as service_frame_kind, frame_fields as service_fields, reader_of as service_reader}
 use Rattle.cdx_service.specs.declared.frames.ServiceKind.{ServiceKind}
 use Rattle.cdx_service.specs.declared.frames.ServiceKind.TheVariants as service_kinds
 use Rattle.cdx_nest.specs.Trees.{tools_tree, metadata_tree}

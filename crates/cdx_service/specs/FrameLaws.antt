@@ -6,21 +6,21 @@ use Rattle.cdx_schema.specs.Table.{rows, list}
 use Rattle.cdx_machine.specs.Feeding.{IsNoBill}
 use Rattle.cdx_nest_machine.specs.Children.{ReadsEach, reads_listed}
 use Rattle.cdx_nest_machine.specs.Forms.{plan_of, IsNested, record_nested, list_nested}
-use Rattle.cdx_push.specs.Leaf.{kind_of}
+use Rattle.cdx_push.specs.Leaf.{kind_of as leaf_kind_of}
 use Rattle.cdx_service.specs.declared.frames.ServiceKind.{ServiceKind}
 use Rattle.cdx_service.specs.declared.frames.ServiceKind.TheVariants.{Service, Services}
-use Rattle.cdx_service.specs.FrameKinds.{service_kind, service_readers, services_readers, child_reader}
+use Rattle.cdx_service.specs.Frames.{kind_of, service_readers, services_readers, reader_of}
 
-pub readers_fit : (s : ServiceKind) → ReadsEach kind_of service_kind (child_reader s) (plan_of (service_kind s)).children
+pub children_read : (s : ServiceKind) → ReadsEach leaf_kind_of kind_of (reader_of s) (plan_of (kind_of s)).children
 unfolding rows list
-readers_fit Service = reads_listed kind_of service_kind service_readers (plan_of (service_kind Service)).children refl
-readers_fit Services = reads_listed kind_of service_kind services_readers (plan_of (service_kind Services)).children refl
+children_read Service = reads_listed leaf_kind_of kind_of service_readers (plan_of (kind_of Service)).children refl
+children_read Services = reads_listed leaf_kind_of kind_of services_readers (plan_of (kind_of Services)).children refl
 
-pub services_nested : (s : ServiceKind) → IsNested (service_kind s)
+pub kinds_nested : (s : ServiceKind) → IsNested (kind_of s)
 unfolding rows
-services_nested Service = record_nested service refl
-services_nested Services = list_nested services
+kinds_nested Service = record_nested service refl
+kinds_nested Services = list_nested services
 
-pub services_no_bill : (s : ServiceKind) → IsNoBill (service_kind s)
-services_no_bill Service = refl
-services_no_bill Services = refl
+pub kinds_no_bill : (s : ServiceKind) → IsNoBill (kind_of s)
+kinds_no_bill Service = refl
+kinds_no_bill Services = refl

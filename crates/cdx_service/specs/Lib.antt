@@ -4,5 +4,5 @@ pub mod PartTrees
 pub mod Groups
 pub mod Stays
 pub mod ReadingParts
-pub mod FrameKinds
+pub mod Frames
 pub mod FrameLaws

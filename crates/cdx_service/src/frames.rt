@@ -3,7 +3,7 @@
 mod children;
 mod names;
 mod part;
-mod values;
+mod putting;
 
 use crate::service::{Service, Services};
 use cdx_events::{List, OwnedAttribute, OwnedName};
@@ -14,10 +14,10 @@ use cdx_models::{SpecVersion, XmlReadError};
 use cdx_nest_machine::{Nested, Reads};
 use cdx_push::{Leaf, LeafKind, LeafValue};
 use children::service_child;
-use names::find_service_child;
+use names::find_in_service;
 use part::{ServicePart, begin_service, finish_service};
+use putting::{push_service, put_service_leaf, put_services};
 use std::alloc::{AllocError, Global};
-use values::{push_service, put_service_child, put_services};
 
 /// What an element of services is read as.
 #[derive(Clone, Copy, Debug)]
@@ -51,8 +51,8 @@ pub enum ServiceFrame {
 /// around it.
 #[tactic(auto, unfolding(cdx_machine::proofs::OnRows::on_rows), using(cdx_machine::proofs::OnRows::by_rows))]
 impl Nested for ServiceFrame {
-    ghost use Rattle.cdx_service.specs.FrameKinds.{service_kind, frame_sort, frame_fields, service_value_sort, service_value_tree, child_reader};
-    ghost use Rattle.cdx_service.specs.FrameLaws.{readers_fit, services_nested, services_no_bill};
+    ghost use Rattle.cdx_service.specs.Frames.{kind_of, frame_kind, frame_fields, value_kind, value_tree, reader_of};
+    ghost use Rattle.cdx_service.specs.FrameLaws.{children_read, kinds_nested, kinds_no_bill};
 
     type Sort = ServiceKind;
 
@@ -60,23 +60,23 @@ impl Nested for ServiceFrame {
 
     type Leaf = Leaf;
 
-    ghost as_kind = { service_kind };
+    ghost as_kind = { kind_of };
 
-    ghost sort_of = { frame_sort };
+    ghost sort_of = { frame_kind };
 
     ghost fields = { frame_fields };
 
-    ghost value_sort = { service_value_sort };
+    ghost value_sort = { value_kind };
 
-    ghost tree = { service_value_tree };
+    ghost tree = { value_tree };
 
-    ghost child_of = { child_reader };
+    ghost child_of = { reader_of };
 
-    ghost children = { readers_fit };
+    ghost children = { children_read };
 
-    ghost nested = { services_nested };
+    ghost nested = { kinds_nested };
 
-    ghost no_bill = { services_no_bill };
+    ghost no_bill = { kinds_no_bill };
 
     fn rule(&self) -> Rule {
         match self {
@@ -116,7 +116,7 @@ impl Nested for ServiceFrame {
 
     fn find(&self, v: SpecVersion, name: &OwnedName) -> Found {
         match self {
-            ServiceFrame::Service(_) => find_service_child(v, name),
+            ServiceFrame::Service(_) => find_in_service(v, name),
             ServiceFrame::Services(_) => {
                 if !name.local_name.is("service") {
                     return Found::Unknown;
@@ -157,7 +157,7 @@ impl Nested for ServiceFrame {
         let ServiceFrame::Service(part) = self else {
             unreachable!()
         };
-        put_service_child(part, position, value);
+        put_service_leaf(part, position, value);
         Ok(())
     }
 

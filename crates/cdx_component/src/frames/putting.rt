@@ -20,11 +20,6 @@ ghost use Rattle.cdx_component.specs.declared.frames.ComponentKind.TheVariants.{
 use crate::component::Components;
 use crate::component::parts::{Contents, Marks, Origin};
 use crate::frames::ComponentValue;
-use crate::frames::values::{
-    commits_of, component_of, components_of, entity_of, evidence_of, flag_of, hashes_of,
-    licenses_of, patches_of, pedigree_of, properties_of, references_of, signature_of, swid_of,
-    text_of,
-};
 use crate::reading::parts::{ComponentPart, NamingPart, PedigreePart};
 use cdx_component_parts::Cpe;
 use cdx_push::LeafValue;
@@ -41,10 +36,14 @@ pub(crate) fn push_component(
         (listing_slots component_tree (listed list.old))
         (listing_slots component_tree (listed list.new))) }
 {
-    list.push(component_of(value))
+    match (position, value) {
+        (0, ComponentValue::Component(component)) => list.push(component),
+        _ => unreachable!(),
+    }
 }
 
 /// Puts the pedigree or the components of a component into their field.
+#[tactic(auto, unfolding(cdx_machine::proofs::OnRows::on_rows))]
 pub(crate) fn put_part(part: &mut Contents, position: usize, value: ComponentValue)
     requires { at_position component_reads position ≡ Some (Nested (value_kind value)) }
     ensures { (o : OriginRows) (n : NamingRows) (m : MarksRows)
@@ -52,37 +51,39 @@ pub(crate) fn put_part(part: &mut Contents, position: usize, value: ComponentVal
         (origin_trees o ⧺ (naming_part n ⧺ (marks_trees m ⧺ contents_trees part.old)))
         (origin_trees o ⧺ (naming_part n ⧺ (marks_trees m ⧺ contents_trees part.new))) }
 {
-    match position {
-        15 => part.pedigree = Some(pedigree_of(value)),
-        18 => part.components = Some(components_of(value)),
+    match (position, value) {
+        (15, ComponentValue::Pedigree(pedigree)) => part.pedigree = Some(pedigree),
+        (18, ComponentValue::Components(components)) => part.components = Some(components),
         _ => unreachable!(),
     }
 }
 
 /// Puts the components of a pedigree into the field of their position.
+#[tactic(auto, unfolding(cdx_machine::proofs::OnRows::on_rows))]
 pub(crate) fn put_relatives(part: &mut PedigreePart, position: usize, value: ComponentValue)
     requires { at_position pedigree_reads position ≡ Some (Nested (value_kind value)) }
     ensures { Puts (record_plan pedigree).children position (value_tree value)
         (pedigree_part part.old) (pedigree_part part.new) }
 {
-    match position {
-        0 => part.ancestors = Some(components_of(value)),
-        1 => part.descendants = Some(components_of(value)),
-        2 => part.variants = Some(components_of(value)),
+    match (position, value) {
+        (0, ComponentValue::Components(ancestors)) => part.ancestors = Some(ancestors),
+        (1, ComponentValue::Components(descendants)) => part.descendants = Some(descendants),
+        (2, ComponentValue::Components(variants)) => part.variants = Some(variants),
         _ => unreachable!(),
     }
 }
 
 /// Puts what a child of a pedigree was read as into its field, where it holds no components.
+#[tactic(auto, unfolding(cdx_machine::proofs::OnRows::on_rows))]
 pub(crate) fn put_pedigree_leaf(part: &mut PedigreePart, position: usize, value: LeafValue)
     requires { at_position pedigree_reads position ≡ Some (Leaf (leaf_value_kind value)) }
     ensures { Puts (record_plan pedigree).children position (leaf_value_tree value)
         (pedigree_part part.old) (pedigree_part part.new) }
 {
-    match position {
-        3 => part.commits = Some(commits_of(value)),
-        4 => part.patches = Some(patches_of(value)),
-        5 => part.notes = Some(text_of(value)),
+    match (position, value) {
+        (3, LeafValue::Commits(commits)) => part.commits = Some(commits),
+        (4, LeafValue::Patches(patches)) => part.patches = Some(patches),
+        (5, LeafValue::Text(notes)) => part.notes = Some(notes),
         _ => unreachable!(),
     }
 }
@@ -105,21 +106,23 @@ pub(crate) fn put_component_leaf(part: &mut ComponentPart, position: usize, valu
 }
 
 // The same of the first children, whatever the other fields are.
+#[tactic(auto, unfolding(cdx_machine::proofs::OnRows::on_rows))]
 fn put_origin(part: &mut Origin, position: usize, value: LeafValue)
     requires read { at_position component_reads position ≡ Some (Leaf (leaf_value_kind value)) }
     requires before { position < 3 }
     ensures { (others : Trees) → Puts (record_plan component).children position
         (leaf_value_tree value) (origin_trees part.old ⧺ others) (origin_trees part.new ⧺ others) }
 {
-    match position {
-        0 => part.supplier = Some(entity_of(value)),
-        1 => part.author = Some(text_of(value)),
-        2 => part.publisher = Some(text_of(value)),
+    match (position, value) {
+        (0, LeafValue::Entity(supplier)) => part.supplier = Some(supplier),
+        (1, LeafValue::Text(author)) => part.author = Some(author),
+        (2, LeafValue::Text(publisher)) => part.publisher = Some(publisher),
         _ => unreachable!(),
     }
 }
 
 // The same of the children from the group to the hashes.
+#[tactic(auto, unfolding(cdx_machine::proofs::OnRows::on_rows))]
 fn put_naming(part: &mut NamingPart, position: usize, value: LeafValue)
     requires read { at_position component_reads position ≡ Some (Leaf (leaf_value_kind value)) }
     requires after { 3 ≤ position }
@@ -128,18 +131,19 @@ fn put_naming(part: &mut NamingPart, position: usize, value: LeafValue)
         (leaf_value_tree value) (origin_trees o ⧺ (naming_part part.old ⧺ others))
         (origin_trees o ⧺ (naming_part part.new ⧺ others)) }
 {
-    match position {
-        3 => part.group = Some(text_of(value)),
-        4 => part.name = Some(text_of(value)),
-        5 => part.version = Some(text_of(value)),
-        6 => part.description = Some(text_of(value)),
-        7 => part.scope = Some(text_of(value)),
-        8 => part.hashes = Some(hashes_of(value)),
+    match (position, value) {
+        (3, LeafValue::Text(group)) => part.group = Some(group),
+        (4, LeafValue::Text(name)) => part.name = Some(name),
+        (5, LeafValue::Text(version)) => part.version = Some(version),
+        (6, LeafValue::Text(description)) => part.description = Some(description),
+        (7, LeafValue::Text(scope)) => part.scope = Some(scope),
+        (8, LeafValue::Hashes(hashes)) => part.hashes = Some(hashes),
         _ => unreachable!(),
     }
 }
 
 // The same of the children from the licenses to the mark of a change.
+#[tactic(auto, unfolding(cdx_machine::proofs::OnRows::on_rows))]
 fn put_marks(part: &mut Marks, position: usize, value: LeafValue)
     requires read { at_position component_reads position ≡ Some (Leaf (leaf_value_kind value)) }
     requires after { 9 ≤ position }
@@ -149,18 +153,19 @@ fn put_marks(part: &mut Marks, position: usize, value: LeafValue)
         (origin_trees o ⧺ (naming_part n ⧺ (marks_trees part.old ⧺ others)))
         (origin_trees o ⧺ (naming_part n ⧺ (marks_trees part.new ⧺ others))) }
 {
-    match position {
-        9 => part.licenses = Some(licenses_of(value)),
-        10 => part.copyright = Some(text_of(value)),
-        11 => part.cpe = Some(Cpe(text_of(value))),
-        12 => part.purl = Some(text_of(value)),
-        13 => part.swid = Some(swid_of(value)),
-        14 => part.modified = Some(flag_of(value)),
+    match (position, value) {
+        (9, LeafValue::Licenses(licenses)) => part.licenses = Some(licenses),
+        (10, LeafValue::Text(copyright)) => part.copyright = Some(copyright),
+        (11, LeafValue::Text(cpe)) => part.cpe = Some(Cpe(cpe)),
+        (12, LeafValue::Text(purl)) => part.purl = Some(purl),
+        (13, LeafValue::Swid(swid)) => part.swid = Some(swid),
+        (14, LeafValue::Flag(modified)) => part.modified = Some(modified),
         _ => unreachable!(),
     }
 }
 
 // The same of the children behind those.
+#[tactic(auto, unfolding(cdx_machine::proofs::OnRows::on_rows))]
 fn put_contents(part: &mut Contents, position: usize, value: LeafValue)
     requires read { at_position component_reads position ≡ Some (Leaf (leaf_value_kind value)) }
     requires after { 15 ≤ position }
@@ -169,11 +174,13 @@ fn put_contents(part: &mut Contents, position: usize, value: LeafValue)
         (origin_trees o ⧺ (naming_part n ⧺ (marks_trees m ⧺ contents_trees part.old)))
         (origin_trees o ⧺ (naming_part n ⧺ (marks_trees m ⧺ contents_trees part.new))) }
 {
-    match position {
-        16 => part.external_references = Some(references_of(value)),
-        17 => part.properties = Some(properties_of(value)),
-        19 => part.evidence = Some(evidence_of(value)),
-        20 => part.signature = Some(signature_of(value)),
+    match (position, value) {
+        (16, LeafValue::ExternalReferences(references)) => part.external_references = Some(
+            references,
+        ),
+        (17, LeafValue::Properties(properties)) => part.properties = Some(properties),
+        (19, LeafValue::Evidence(evidence)) => part.evidence = Some(evidence),
+        (20, LeafValue::Signature(signature)) => part.signature = Some(signature),
         _ => unreachable!(),
     }
 }

@@ -1,14 +1,16 @@
 //! Elements that are components, pedigrees and lists of components, which stand in one another.
 
+ghost use Rattle.std.specs.Prelude.{◌≡◌};
 ghost use Rattle.cdx_models.specs.Trees.{component, pedigree};
 ghost use Rattle.cdx_schema.specs.Kinds.{components, a_list, a_record};
 ghost use Rattle.cdx_json.specs.Depths.{depth_of};
 ghost use Rattle.cdx_leaf.specs.Reading.{IsIn, ReadsAs};
 ghost use Rattle.cdx_component.specs.Trees.{component_tree, components_tree, pedigree_tree};
+ghost use Rattle.cdx_component.specs.Frames.{value_kind, value_tree};
+ghost use Rattle.cdx_component.specs.declared.frames.ComponentKind.TheVariants as kinds;
 
 use crate::component::{Component, Components, Pedigree};
-use crate::frames::values::{component_of, components_of, pedigree_of};
-use crate::frames::{ComponentFrame, ComponentKind};
+use crate::frames::{ComponentFrame, ComponentKind, ComponentValue};
 use cdx_events::{EventReader, List, OwnedAttribute, OwnedName};
 use cdx_json::Depth;
 use cdx_models::{SpecVersion, XmlReadError};
@@ -88,4 +90,37 @@ pub(crate) fn read_components_element(
         attributes,
     )?;
     Ok(components_of(value))
+}
+
+// The value, where it was read as a component.
+fn component_of(value: ComponentValue) -> Component
+    requires { value_kind value ≡ kinds.Component }
+    ensures { component_tree result ≡ value_tree value }
+{
+    let ComponentValue::Component(component) = value else {
+        unreachable!()
+    };
+    component
+}
+
+// The value, where it was read as a list of components.
+fn components_of(value: ComponentValue) -> Components
+    requires { value_kind value ≡ kinds.Components }
+    ensures { components_tree result ≡ value_tree value }
+{
+    let ComponentValue::Components(components) = value else {
+        unreachable!()
+    };
+    components
+}
+
+// The value, where it was read as a pedigree.
+fn pedigree_of(value: ComponentValue) -> Pedigree
+    requires { value_kind value ≡ kinds.Pedigree }
+    ensures { pedigree_tree result ≡ value_tree value }
+{
+    let ComponentValue::Pedigree(pedigree) = value else {
+        unreachable!()
+    };
+    pedigree
 }

@@ -7,7 +7,7 @@ ghost use Rattle.cdx_nest_machine.specs.declared.nested.Reads.TheVariants.{Neste
 ghost use Rattle.cdx_nest_machine.specs.Children.{HasReader};
 ghost use Rattle.cdx_nest_machine.specs.Forms.{plan_of, first_of, last_of};
 ghost use Rattle.cdx_service.specs.declared.frames.ServiceKind.{ServiceKind as Kinds};
-ghost use Rattle.cdx_service.specs.FrameKinds.{service_kind, frame_sort as service_frame_kind, frame_fields as service_fields, service_value_sort, service_value_tree};
+ghost use Rattle.cdx_service.specs.Frames.{kind_of, frame_kind as service_frame_kind, frame_fields as service_fields, value_kind as service_value_kind, value_tree as service_value_tree};
 ghost use Rattle.cdx_nest.specs.Frames.{of_service, nest_kind, frame_kind, frame_fields, value_kind, value_tree, reader_of};
 
 use crate::frames::{NestFrame, NestKind, NestValue};
@@ -29,7 +29,7 @@ pub(crate) fn begin_in_services(
 ) -> Result<NestFrame, XmlReadError>
     ensures sort { IfOk result (λ x. frame_kind x ≡ of_service kind) }
     ensures gives { Gives frame_fields (place + 1)
-        (first_of (service_kind kind) element.now.local_name attributes.now v place) result }
+        (first_of (kind_of kind) element.now.local_name attributes.now v place) result }
 {
     let frame = ServiceFrame::begin(alloc, kind, place, v, element, attributes)?;
     Ok(NestFrame::Service(frame))
@@ -58,7 +58,7 @@ pub(crate) fn child_in_services(frame: &ServiceFrame, position: usize) -> Reads<
 // The value, where it is read by the frames of services.
 fn value_within(value: NestValue) -> ServiceValue
     requires { (k : Kinds) × (value_kind value ≡ of_service k) }
-    ensures sort { of_service (service_value_sort result) ≡ value_kind value }
+    ensures sort { of_service (service_value_kind result) ≡ value_kind value }
     ensures tree { service_value_tree result ≡ value_tree value }
 {
     match value {

@@ -3,7 +3,7 @@
 ghost use Rattle.std.specs.Prelude.{◌≡◌, Some};
 ghost use Rattle.cdx_machine.specs.Several.{at_position};
 ghost use Rattle.cdx_nest_machine.specs.Children.{HasReader};
-ghost use Rattle.cdx_service.specs.FrameKinds.{service_readers};
+ghost use Rattle.cdx_service.specs.Frames.{service_readers};
 
 use crate::frames::ServiceKind;
 use cdx_nest_machine::Reads;

@@ -66,8 +66,8 @@ fn find_contents(v: SpecVersion, name: &OwnedName) -> Found
     }
 }
 
-/// The child of a service that `v` knows by the name. None may stand but once, so none is a second one.
-pub(crate) fn find_service_child(v: SpecVersion, name: &OwnedName) -> Found
+/// The child of a service that has the name, where `v` knows it. The last of several counts, so none is a second one.
+pub(crate) fn find_in_service(v: SpecVersion, name: &OwnedName) -> Found
     ensures { (ts : Trees) → result ≡
         found_from 0 (record_plan service).children ts v name.now.local_name }
 {

@@ -1,11 +1,7 @@
-use Rattle.cdx_component.specs.Frames.{value_kind, value_tree}
-use Rattle.cdx_component.specs.Trees.{listed}
-use Rattle.cdx_component.proofs.Readers.{item_at, pushed}
+use Rattle.cdx_models.specs.Trees.{one}
+use Rattle.cdx_machine.proofs.Names.{push_put}
+use Rattle.cdx_component.specs.Trees.{component_tree, listed}
 use Rattle.cdx_component.proofs.frames.putting.push_component.Goals as goal
 
-pub component_of-requires : goal.component_of-requires
-component_of-requires c = item_at c.args.position (value_kind c.args.value) c.requires
-
 pub returns : goal.returns
-returns c =
-    pushed c.args.position (value_tree c.args.value) (listed c.args.list.now) (listed c.push.new.self) c.component_of.result c.push.result c.component_of.ensures c.push.ensures.ok
+returns c = rw (c.in-0-Component.is-0, c.in-0-Component.is-1) (push_put component_tree (λ t. one t) (listed c.args.list.now) (listed c.push.new.self) c.in-0-Component.component c.push.result c.push.ensures.ok)

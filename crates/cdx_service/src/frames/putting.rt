@@ -7,8 +7,8 @@ ghost use Rattle.cdx_schema.specs.XmlReading.{record_plan, plan_of_list};
 ghost use Rattle.cdx_machine.specs.Records.{items_slots};
 ghost use Rattle.cdx_machine.specs.Several.{at_position, Puts};
 ghost use Rattle.cdx_nest_machine.specs.declared.nested.Reads.TheVariants.{Leaf, Nested};
-ghost use Rattle.cdx_push.specs.Leaf.{value_kind, value_tree};
-ghost use Rattle.cdx_service.specs.FrameKinds.{service_value_sort, service_value_tree, service_readers, services_readers, naming_readers, access_readers, contents_readers};
+ghost use Rattle.cdx_push.specs.Leaf.{value_kind as leaf_value_kind, value_tree as leaf_value_tree};
+ghost use Rattle.cdx_service.specs.Frames.{value_kind, value_tree, service_readers, services_readers, naming_readers, access_readers, contents_readers};
 ghost use Rattle.cdx_service.specs.Trees.{service_tree, services_listed};
 ghost use Rattle.cdx_service.specs.ReadingParts.{service_part};
 
@@ -20,8 +20,8 @@ use std::alloc::AllocError;
 
 #[tactic(auto, unfolding(cdx_machine::proofs::OnRows::on_rows))]
 fn put_naming(part: &mut ServicePart, position: usize, value: LeafValue)
-    requires { at_position naming_readers position ≡ Some (Leaf (value_kind value)) }
-    ensures { Puts (record_plan service).children position (value_tree value)
+    requires { at_position naming_readers position ≡ Some (Leaf (leaf_value_kind value)) }
+    ensures { Puts (record_plan service).children position (leaf_value_tree value)
         (service_part part.old) (service_part part.new) }
 {
     match (position, value) {
@@ -37,8 +37,8 @@ fn put_naming(part: &mut ServicePart, position: usize, value: LeafValue)
 // The position counts from the group's first child on.
 #[tactic(auto, unfolding(cdx_machine::proofs::OnRows::on_rows))]
 fn put_access(part: &mut ServicePart, position: usize, value: LeafValue)
-    requires { at_position access_readers position ≡ Some (Leaf (value_kind value)) }
-    ensures { Puts (record_plan service).children (5 + position) (value_tree value)
+    requires { at_position access_readers position ≡ Some (Leaf (leaf_value_kind value)) }
+    ensures { Puts (record_plan service).children (5 + position) (leaf_value_tree value)
         (service_part part.old) (service_part part.new) }
 {
     match (position, value) {
@@ -57,8 +57,8 @@ fn put_access(part: &mut ServicePart, position: usize, value: LeafValue)
 // The position counts from the group's first child on.
 #[tactic(auto, unfolding(cdx_machine::proofs::OnRows::on_rows))]
 fn put_contents(part: &mut ServicePart, position: usize, value: LeafValue)
-    requires { at_position contents_readers position ≡ Some (Leaf (value_kind value)) }
-    ensures { Puts (record_plan service).children (11 + position) (value_tree value)
+    requires { at_position contents_readers position ≡ Some (Leaf (leaf_value_kind value)) }
+    ensures { Puts (record_plan service).children (11 + position) (leaf_value_tree value)
         (service_part part.old) (service_part part.new) }
 {
     match (position, value) {
@@ -70,9 +70,9 @@ fn put_contents(part: &mut ServicePart, position: usize, value: LeafValue)
 }
 
 /// Puts what the child of the position, which holds no service, was read as into its row.
-pub(crate) fn put_service_child(part: &mut ServicePart, position: usize, value: LeafValue)
-    requires { at_position service_readers position ≡ Some (Leaf (value_kind value)) }
-    ensures { Puts (record_plan service).children position (value_tree value)
+pub(crate) fn put_service_leaf(part: &mut ServicePart, position: usize, value: LeafValue)
+    requires { at_position service_readers position ≡ Some (Leaf (leaf_value_kind value)) }
+    ensures { Puts (record_plan service).children position (leaf_value_tree value)
         (service_part part.old) (service_part part.new) }
 {
     match position {
@@ -85,8 +85,8 @@ pub(crate) fn put_service_child(part: &mut ServicePart, position: usize, value: 
 /// Puts the services that the child of the position was read as into their row.
 #[tactic(auto, unfolding(cdx_machine::proofs::OnRows::on_rows))]
 pub(crate) fn put_services(part: &mut ServicePart, position: usize, value: ServiceValue)
-    requires { at_position service_readers position ≡ Some (Nested (service_value_sort value)) }
-    ensures { Puts (record_plan service).children position (service_value_tree value)
+    requires { at_position service_readers position ≡ Some (Nested (value_kind value)) }
+    ensures { Puts (record_plan service).children position (value_tree value)
         (service_part part.old) (service_part part.new) }
 {
     match (position, value) {
@@ -101,9 +101,9 @@ pub(crate) fn push_service(
     position: usize,
     value: ServiceValue,
 ) -> Result<(), AllocError>
-    requires { at_position services_readers position ≡ Some (Nested (service_value_sort value)) }
+    requires { at_position services_readers position ≡ Some (Nested (value_kind value)) }
     ensures { OnOk result (Puts (plan_of_list services).children position
-        (service_value_tree value) (items_slots service_tree (services_listed list.old))
+        (value_tree value) (items_slots service_tree (services_listed list.old))
         (items_slots service_tree (services_listed list.new))) }
 {
     match (position, value) {

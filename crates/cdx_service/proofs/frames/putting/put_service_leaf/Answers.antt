@@ -1,8 +1,8 @@
 use Rattle.std.proofs.Common.{◌≡◌, ◌++◌, ◌-◌, sym, ap, ◌∙◌, arith}
 use Rattle.cdx_machine.specs.Several.{at_position}
-use Rattle.cdx_service.specs.FrameKinds.{naming_readers, access_readers, contents_readers}
+use Rattle.cdx_service.specs.Frames.{naming_readers, access_readers, contents_readers}
 use Rattle.cdx_service.proofs.Found.{at_first, at_later}
-use Rattle.cdx_service.proofs.frames.values.put_service_child.Goals as goal
+use Rattle.cdx_service.proofs.frames.putting.put_service_leaf.Goals as goal
 
 pub put_access-requires : goal.put_access-requires
 put_access-requires c =

@@ -2,7 +2,7 @@ use Rattle.cdx_schema.specs.Table.{list}
 use Rattle.cdx_models.specs.Trees.{one}
 use Rattle.cdx_machine.proofs.Names.{push_put}
 use Rattle.cdx_service.specs.Trees.{service_tree, services_listed}
-use Rattle.cdx_service.proofs.frames.values.push_service.Goals as goal
+use Rattle.cdx_service.proofs.frames.putting.push_service.Goals as goal
 
 pub returns : goal.returns
 unfolding list

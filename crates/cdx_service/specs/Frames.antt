@@ -9,7 +9,7 @@ use Rattle.cdx_nest_machine.specs.declared.nested.Reads.TheVariants.{Leaf, Neste
 use Rattle.cdx_push.specs.declared.kinds.LeafKind.{LeafKind}
 use Rattle.cdx_push.specs.declared.kinds.LeafKind.TheVariants as leaf_kinds
 use Rattle.cdx_service.specs.declared.frames.ServiceKind.{ServiceKind}
-use Rattle.cdx_service.specs.declared.frames.ServiceKind.TheVariants as sorts
+use Rattle.cdx_service.specs.declared.frames.ServiceKind.TheVariants as kinds
 use Rattle.cdx_service.specs.declared.frames.ServiceValue.{ServiceValue}
 use Rattle.cdx_service.specs.declared.frames.ServiceValue.TheVariants as values
 use Rattle.cdx_service.specs.declared.frames.ServiceFrame.{ServiceFrame}
@@ -18,25 +18,25 @@ use Rattle.cdx_service.specs.Trees.{service_tree, services_tree, services_listed
 use Rattle.cdx_service.specs.ReadingParts.{service_part}
 
 -- the kind in the schema
-abbrev pub service_kind : ServiceKind → Kind
-service_kind sorts.Service = a_record service
-service_kind sorts.Services = a_list services
+abbrev pub kind_of : ServiceKind → Kind
+kind_of kinds.Service = a_record service
+kind_of kinds.Services = a_list services
 
-abbrev pub frame_sort : ServiceFrame → ServiceKind
-frame_sort (frames.Service part) = sorts.Service
-frame_sort (frames.Services list) = sorts.Services
+abbrev pub frame_kind : ServiceFrame → ServiceKind
+frame_kind (frames.Service part) = kinds.Service
+frame_kind (frames.Services list) = kinds.Services
 
 abbrev pub frame_fields : ServiceFrame → Trees
 frame_fields (frames.Service part) = service_part part
 frame_fields (frames.Services list) = items_slots service_tree (services_listed list)
 
-abbrev pub service_value_sort : ServiceValue → ServiceKind
-service_value_sort (values.Service x) = sorts.Service
-service_value_sort (values.Services xs) = sorts.Services
+abbrev pub value_kind : ServiceValue → ServiceKind
+value_kind (values.Service x) = kinds.Service
+value_kind (values.Services xs) = kinds.Services
 
-abbrev pub service_value_tree : ServiceValue → Tree
-service_value_tree (values.Service x) = service_tree x
-service_value_tree (values.Services xs) = services_tree xs
+abbrev pub value_tree : ServiceValue → Tree
+value_tree (values.Service x) = service_tree x
+value_tree (values.Services xs) = services_tree xs
 
 -- ---- what reads each child, in the plan's order
 
@@ -53,15 +53,15 @@ access_readers = Leaf leaf_kinds.Endpoints ∷ Leaf leaf_kinds.Flag ∷ Leaf lea
 
 -- properties, services, signature and trustZone
 abbrev pub contents_readers : List Reader
-contents_readers = Leaf leaf_kinds.Properties ∷ Nested sorts.Services ∷ Leaf leaf_kinds.Signature ∷ Leaf leaf_kinds.Text ∷ []
+contents_readers = Leaf leaf_kinds.Properties ∷ Nested kinds.Services ∷ Leaf leaf_kinds.Signature ∷ Leaf leaf_kinds.Text ∷ []
 
 abbrev pub service_readers : List Reader
 service_readers = naming_readers ++ (access_readers ++ contents_readers)
 
 -- each item is a service
 abbrev pub services_readers : List Reader
-services_readers = Nested sorts.Service ∷ []
+services_readers = Nested kinds.Service ∷ []
 
-abbrev pub child_reader : ServiceKind → ℕ → Option Reader
-child_reader sorts.Service = at_position service_readers
-child_reader sorts.Services = at_position services_readers
+abbrev pub reader_of : ServiceKind → ℕ → Option Reader
+reader_of kinds.Service = at_position service_readers
+reader_of kinds.Services = at_position services_readers

@@ -1,5 +1,5 @@
 use Rattle.cdx_service.proofs.FrameGroups.{found_naming, found_access, found_contents}
-use Rattle.cdx_service.proofs.frames.names.find_service_child.Goals as goal
+use Rattle.cdx_service.proofs.frames.names.find_in_service.Goals as goal
 
 pub returns-in-Unknown-find_access : goal.returns-in-Unknown-find_access
 returns-in-Unknown-find_access c = λ ts. found_contents ts c.args.v c.args.name.now.local_name c.find_naming.result c.find_access.result c.find_contents.result (c.find_naming.ensures ts c.args.v) c.in-Unknown.is (c.find_access.ensures ts c.args.v) c.in-Unknown-find_access.is (c.find_contents.ensures ts)
