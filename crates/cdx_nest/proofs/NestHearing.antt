@@ -23,7 +23,7 @@ use Rattle.cdx_nest_machine.specs.declared.stack.Open.{Open}
 use Rattle.cdx_nest_machine.specs.declared.stack.Waiting.{Waiting}
 use Rattle.cdx_nest_machine.specs.declared.stack.LeafChild.{LeafChild}
 use Rattle.cdx_nest_machine.specs.Frames.{leaf_holds, shape_of, stack_holds}
-use Rattle.cdx_nest_machine.specs.Stacks.{RootHolding, CanYieldStack, ProceedsStack, YieldsStack}
+use Rattle.cdx_nest_machine.specs.Stacks.{RootHolding, CanYieldStack, IsOfRoot, ProceedsStack, YieldsStack}
 use Rattle.cdx_push.specs.declared.leaf.Leaf.{Leaf}
 use Rattle.cdx_push.specs.contracts.leaf.LeafLeaves.TheImpl.{ghosts}
 use Rattle.cdx_nest.specs.declared.frames.NestFrame.{NestFrame}
@@ -43,10 +43,18 @@ module _ {M X K : Type 0} (holds : RootHolding K M) (as_kind : K → Kind) (view
       let y : CanYield (holds root) new place event = can_yield (holds root) view (as_kind root) old new place event b ends h (proceeds root) in
       record { root = root; v = y.v; p = y.p; d = y.d; o = y.o; held = subst (λ (m : M). holds root m y.v y.p y.d y.o) (sym (some_same is)) y.held; place_is = y.place_is; takes = y.takes; all = y.all; ends = y.ends }
 
-  pub stack_ended : (r : Result X XmlReadError) → YieldsStack holds as_kind view sort ended place event r → StepsAs (holds root) view (as_kind root) old new place event (ended_with r)
-  stack_ended r yields =
-      let y : YieldsStack holds as_kind view sort new place event r = subst (λ (m : M). YieldsStack holds as_kind view sort m place event r) (some_same is) yields in
-      ends_with (holds root) view (as_kind root) old new place event b r ends (proceeds root) (λ v p d o k h at t w. (y root v p d o k h at t w).0)
+  module _ (r : Result X XmlReadError) (yields : YieldsStack holds as_kind view sort ended place event r) where
+    of_new : YieldsStack holds as_kind view sort new place event r
+    of_new = subst (λ (m : M). YieldsStack holds as_kind view sort m place event r) (some_same is) yields
+
+    pub stack_ended : StepsAs (holds root) view (as_kind root) old new place event (ended_with r)
+    stack_ended = ends_with (holds root) view (as_kind root) old new place event b r ends (proceeds root) (λ v p d o k h at t w. (of_new root v p d o k h at t w).0)
+
+    -- A value is of the root's kind.
+    pub stack_of_root : CanStep (holds root) old place event → IsOfRoot sort root r
+    stack_of_root h =
+        let y : CanYield (holds root) new place event = can_yield (holds root) view (as_kind root) old new place event b ends h (proceeds root) in
+        (of_new root y.v y.p y.d y.o y.all y.held y.place_is y.takes y.ends).1
 
 -- ---- an element's start that is refused, by a machine that is none yet
 

@@ -4,7 +4,7 @@ use Rattle.cdx_json.specs.Depths.{depth_of}
 use Rattle.cdx_machine.proofs.Hearing.{listener_can, listener_answers, listener_heard}
 use Rattle.cdx_machine.proofs.Yielding.{waits, fails}
 use Rattle.cdx_nest.specs.Frames.{nest_kind, value_kind, value_tree}
-use Rattle.cdx_nest.proofs.NestHearing.{held, stack_can_end, stack_ended}
+use Rattle.cdx_nest.proofs.NestHearing.{held, stack_can_end, stack_ended, stack_of_root}
 use Rattle.cdx_nest.proofs.machine.NestMachine.step.Goals as goal
 
 pub step-requires : goal.step-requires
@@ -44,9 +44,8 @@ returns-in_ok-finish-in-Ok-true-clause-kind c =
     let m = c.args.self.now in
     let k = m.kind in
     let r = c.requires in
-    let y = stack_can_end (λ k m v p d o. held k m.below.items m.top m.v m.inside v p d o) nest_kind value_tree value_kind k c.in-Some.machine c.step.new.self c.in-Some-take.machine (sym c.in-Some-take.is ∙ c.take.ensures.value) c.args.place c.args.event.now c.in-Ok-true.field-0 c.in-Ok-true.field-0-test c.in-Ok-true.ensures
-    (listener_can (λ m v p d o. held k m.below.items m.top m.v m.inside v p d o) (λ _. k) nest_kind value_tree k m.v m.place (depth_of m.depth) m.machine c.in-Some.machine c.in-Some.is c.args.place c.args.event.now r.events r.were_heard r.place_is r.goes_on) in
-    (c.in_ok-finish-in-Ok-true.ensures k y.v y.p y.d y.o y.all y.held y.place_is y.takes y.ends).1
+    stack_of_root (λ k m v p d o. held k m.below.items m.top m.v m.inside v p d o) nest_kind value_tree value_kind k c.in-Some.machine c.step.new.self c.in-Some-take.machine (sym c.in-Some-take.is ∙ c.take.ensures.value) c.args.place c.args.event.now c.in-Ok-true.field-0 c.in-Ok-true.field-0-test c.in-Ok-true.ensures (Ok c.in_ok-finish-in-Ok-true.field-0) c.in_ok-finish-in-Ok-true.ensures
+    (listener_can (λ m v p d o. held k m.below.items m.top m.v m.inside v p d o) (λ _. k) nest_kind value_tree k m.v m.place (depth_of m.depth) m.machine c.in-Some.machine c.in-Some.is c.args.place c.args.event.now r.events r.were_heard r.place_is r.goes_on)
 
 pub returns-in-Ok-false-clause-answers : goal.returns-in-Ok-false-clause-answers
 returns-in-Ok-false-clause-answers c = λ events h at b.
