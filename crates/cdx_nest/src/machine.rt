@@ -20,7 +20,6 @@ use std::alloc::Global;
 
 /// Reads one element of a kind event by event. It keeps what was read so far, and no events: elements in one another take
 /// memory, and no recursion.
-#[derive(Drop)]
 pub struct NestMachine {
     kind: NestKind,
     place: usize,
@@ -28,6 +27,19 @@ pub struct NestMachine {
     depth: Depth,
     // None once an event was refused or the element has ended.
     machine: Option<StackMachine<NestFrame>>,
+}
+
+// By hand, so that one is freed by a call wherever it ends, and not field by field.
+impl Drop for NestMachine {
+    fn drop(self) {
+        let NestMachine {
+            kind: _,
+            place: _,
+            v: _,
+            depth: _,
+            machine: _,
+        } = self;
+    }
 }
 
 impl Listener for NestMachine {

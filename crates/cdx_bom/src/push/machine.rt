@@ -11,9 +11,15 @@ use std::alloc::Global;
 
 /// Reads a bill, whatever its root's name and namespace are. The frames of the open elements wait in a stack, so depth
 /// takes memory and no recursion.
-#[derive(Drop)]
 pub(crate) struct BillMachine {
     stack: StackMachine<BillFrame>,
+}
+
+// By hand, so that one is freed by a call wherever it ends, and not field by field.
+impl Drop for BillMachine {
+    fn drop(self) {
+        let BillMachine { stack: _ } = self;
+    }
 }
 
 impl RootMachine for BillMachine {
@@ -55,6 +61,7 @@ impl RootMachine for BillMachine {
     }
 
     fn finish(self, place: usize, event: &XmlEvent) -> Result<Bom, XmlReadError> {
-        Ok(bill_of(self.stack.finish(place, event)?))
+        let BillMachine { stack } = self;
+        Ok(bill_of(stack.finish(place, event)?))
     }
 }
