@@ -77,7 +77,7 @@ impl<M: RootMachine> Hearing<M> {
                 }
                 // The root has ended: only here the stage itself is moved.
                 let Stage::Within { machine } = replace(&mut self.stage, Stage::Before) else {
-                    return Ok(());
+                    unreachable!()
                 };
                 let value = machine.finish(place, event)?;
                 self.stage = Stage::After { value };
