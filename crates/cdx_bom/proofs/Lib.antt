@@ -15,7 +15,6 @@ pub mod Settled
 pub mod Outputs
 pub mod BillStart
 pub mod Readers
-pub mod RootSteps
 pub mod BillWhole
 pub mod BillWritten
 pub mod EmptyTexts
