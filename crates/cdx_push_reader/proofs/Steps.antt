@@ -9,6 +9,7 @@ use Rattle.cdx_events.specs.declared.event.XmlEvent.TheVariants.{StartDocument, 
 use Rattle.cdx_events.specs.Nodes.{element, Nodes, events_of, GoesOn}
 use Rattle.cdx_models.specs.declared.bom.SpecVersion.{SpecVersion}
 use Rattle.cdx_models.specs.declared.errors.XmlReadError.{XmlReadError}
+use Rattle.cdx_models.specs.declared.errors.XmlReadError.TheVariants.{Memory}
 use Rattle.cdx_models.specs.Trees.{bill, Tree}
 use Rattle.cdx_schema.specs.Depth.{top}
 use Rattle.cdx_schema.specs.Kinds.{a_record}
@@ -21,9 +22,10 @@ use Rattle.cdx_machine.specs.Machines.{Holding, CanStep, CanYield, ProceedsAs, Y
 use Rattle.cdx_machine.proofs.Heard.{not_whole, can_step, answers_step}
 use Rattle.cdx_machine.proofs.Yielding.{waits, fails, ends_with, ended_with, can_yield}
 use Rattle.cdx_push_reader.specs.declared.hearing.Stage.{Stage}
-use Rattle.cdx_push_reader.specs.declared.hearing.Stage.TheVariants.{Within}
+use Rattle.cdx_push_reader.specs.declared.hearing.Stage.TheVariants.{Before, Within, After}
 use Rattle.cdx_push_reader.specs.Starting.{IsBillStart}
-use Rattle.cdx_push_reader.specs.Pushed.{IsOpen, IsDone, Outcome}
+use Rattle.cdx_push_reader.specs.Pushed.{IsOpen, IsDone, Stands, Outcome}
+use Rattle.cdx_push_reader.specs.PushSteps.{Closes}
 use Rattle.cdx_push_reader.proofs.Starts.{same_start, root_early, soon_outcome}
 
 -- ---- an event goes on with the root
@@ -69,9 +71,6 @@ unfolding xread
 root_denotes v n a s xs c = rw (c.0, c.1) refl
 
 -- ---- what the machine answers
-
-pub same_machine : {M X : Type 0} (s : Stage M X) (m n : M) → s ≡ Within m → s ≡ Within n → m ≡ n
-same_machine s m n i j = cc
 
 module _ {M X : Type 0} (holds : Holding M) (tree : X → Tree) (v : SpecVersion) (old : M) (events : List XmlEvent) (event : XmlEvent) (w : IsOpen holds v old events) (g : GoesOn (events ++ event ∷ [])) where
   abbrev heard : List XmlEvent
@@ -121,23 +120,31 @@ module _ {M X : Type 0} (holds : Holding M) (tree : X → Tree) (v : SpecVersion
   pub reads_fault : (new : M) (place : ℕ) (f : XmlReadError) → ProceedsAs holds (a_record bill) old new place event (Err f) → place ≡ length events → Outcome {A = Unit {0}} (λ u. Unit {0}) v (events ++ event ∷ []) (Err f)
   reads_fault new place f s p = faulty new place f (fails holds tree (a_record bill) old new place event f s) p
 
-  -- ---- the root has ended, and this machine is asked what it is read as
+  -- ---- the root has ended, and the machine is asked what it is read as
 
-  pub closes : (new last : M) (place : ℕ) (b : Bool) → b ≡ true → ProceedsAs holds (a_record bill) old new place event (Ok b) → place ≡ length events → new ≡ last → CanYield holds last place event
-  closes new last place b i s p e = subst (λ m. CanYield holds m place event) e (can_yield holds tree (a_record bill) old new place event b i (listens place p) s)
+  module _ (new : M) (place : ℕ) (b : Bool) (i : b ≡ true) (s : ProceedsAs holds (a_record bill) old new place event (Ok b)) (p : place ≡ length events) where
+    pub can_close : CanYield holds new place event
+    can_close = can_yield holds tree (a_record bill) old new place event b i (listens place p) s
 
-  ended : (new last : M) (place : ℕ) (b : Bool) (r : Result X XmlReadError) → b ≡ true → ProceedsAs holds (a_record bill) old new place event (Ok b) → new ≡ last → YieldsAs holds tree (a_record bill) last place event r → StepsAs holds tree (a_record bill) old new place event (ended_with r)
-  ended new last place b r i s e y = ends_with holds tree (a_record bill) old new place event b r i s (subst (λ m. YieldsAs holds tree (a_record bill) m place event r) (sym e) y)
+    ended : (r : Result X XmlReadError) → YieldsAs holds tree (a_record bill) new place event r → StepsAs holds tree (a_record bill) old new place event (ended_with r)
+    ended r y = ends_with holds tree (a_record bill) old new place event b r i s y
 
-  pub reads_done : (new last : M) (place : ℕ) (b : Bool) (x : X) → b ≡ true → ProceedsAs holds (a_record bill) old new place event (Ok b) → place ≡ length events → new ≡ last → YieldsAs holds tree (a_record bill) last place event (Ok x) → IsDone tree v x (events ++ event ∷ [])
-  reads_done new last place b x i s p e y =
-      let a : Said new place (Ok (Some x)) = said new place (Ok (Some x)) (ended new last place b (Ok x) i s e y) p in
-      let e : IsRead v (a_record bill) 1 top (StartElement w.name w.attributes w.namespace ∷ w.inside ++ event ∷ []) (tree x) = a.answers.1 in
-      record {
-        root = record { name = e.name; attributes = e.attributes; namespace = e.namespace; before = e.nodes };
-        denotes = root_denotes v e.name e.attributes e.namespace e.nodes (same_start v w.name e.name w.attributes e.attributes w.namespace e.namespace _ _ e.whole w.begins) ∙ e.reads;
-        events_are = inl (now ∙ ap (λ es. StartDocument ∷ es) e.whole);
-      }
+    read : (x : X) → YieldsAs holds tree (a_record bill) new place event (Ok x) → IsDone tree v x (events ++ event ∷ [])
+    read x y =
+        let a : Said new place (Ok (Some x)) = said new place (Ok (Some x)) (ended (Ok x) y) p in
+        let e : IsRead v (a_record bill) 1 top (StartElement w.name w.attributes w.namespace ∷ w.inside ++ event ∷ []) (tree x) = a.answers.1 in
+        record {
+          root = record { name = e.name; attributes = e.attributes; namespace = e.namespace; before = e.nodes };
+          denotes = root_denotes v e.name e.attributes e.namespace e.nodes (same_start v w.name e.name w.attributes e.attributes w.namespace e.namespace _ _ e.whole w.begins) ∙ e.reads;
+          events_are = inl (now ∙ ap (λ es. StartDocument ∷ es) e.whole);
+        }
 
-  pub ends_faulty : (new last : M) (place : ℕ) (b : Bool) (f : XmlReadError) → b ≡ true → ProceedsAs holds (a_record bill) old new place event (Ok b) → place ≡ length events → new ≡ last → YieldsAs holds tree (a_record bill) last place event (Err f) → Outcome {A = Unit {0}} (λ u. Unit {0}) v (events ++ event ∷ []) (Err f)
-  ends_faulty new last place b f i s p e y = faulty new place f (ended new last place b (Err f) i s e y) p
+    pub closes : (stage : Stage M X) (r : Result (Unit {0}) XmlReadError) → Closes holds tree new place event stage r → Outcome {A = Unit {0}} (λ u. Stands holds tree v stage (events ++ event ∷ [])) v (events ++ event ∷ []) r
+    closes Before (Ok u) h = absurd h
+    closes (Within n) (Ok u) h = absurd h
+    closes (After x) (Ok u) h = read x h
+    closes stage (Err f) h = faulted f (faulty new place f (ended (Err f) h) p)
+      where
+        faulted : (f : XmlReadError) → Outcome {A = Unit {0}} (λ u. Unit {0}) v (events ++ event ∷ []) (Err f) → Outcome {A = Unit {0}} (λ u. Stands holds tree v stage (events ++ event ∷ [])) v (events ++ event ∷ []) (Err f)
+        faulted (Memory m) o = o
+        faulted f o = o

@@ -3,7 +3,9 @@
 ghost use Rattle.std.specs.Prelude.{◌≡◌, ◌+◌, ◌≤◌, List, [], ◌∷◌, ◌++◌, length, false};
 ghost use Rattle.cdx_events.specs.declared.event.XmlEvent.{XmlEvent};
 ghost use Rattle.cdx_push_reader.specs.Pushed.{Stands, Hears, Outcome};
-ghost use Rattle.cdx_push_reader.specs.PushSteps.{CanGoOn, Moves};
+ghost use Rattle.cdx_machine.specs.Machines.{CanYield};
+ghost use Rattle.cdx_push_reader.specs.PushSteps.{CanGoOn, Closes, Moves};
+ghost use Rattle.cdx_push_reader.specs.declared.hearing.Stage.TheVariants.{Within};
 ghost use Rattle.cdx_push_reader.specs.PushAnswers.{is_want, Finishes};
 
 use crate::machine::RootMachine;
@@ -58,6 +60,23 @@ impl<M: RootMachine> Hearing<M> {
         }
     }
 
+    // Asks the root's machine what the root is read as, which this event ends. It stands apart, since what it moves is
+    // large, and room for it would be cleared with each event.
+    fn close(&mut self, place: usize, event: &XmlEvent) -> Result<(), XmlReadError>
+        requires { (m : M) × (self.old.stage ≡ Within m) × CanYield M.holds m place event.now }
+        ensures closes { (m : M) → self.old.stage ≡ Within m
+            → Closes M.holds M.tree m place event.now self.new.stage result }
+        ensures balance { self.new.balance ≡ self.old.balance }
+        ensures version { self.new.version ≡ self.old.version }
+    {
+        let Stage::Within { machine } = replace(&mut self.stage, Stage::Before) else {
+            unreachable!()
+        };
+        let value = machine.finish(place, event)?;
+        self.stage = Stage::After { value };
+        Ok(())
+    }
+
     // Goes on with an event that is in balance.
     pub(crate) fn go_on(&mut self, place: usize, event: &XmlEvent) -> Result<(), XmlReadError>
         requires { CanGoOn M.holds M.tree self.old.version self.old.stage place event.now }
@@ -75,13 +94,7 @@ impl<M: RootMachine> Hearing<M> {
                 if !machine.step(place, event)? {
                     return Ok(());
                 }
-                // The root has ended: only here the stage itself is moved.
-                let Stage::Within { machine } = replace(&mut self.stage, Stage::Before) else {
-                    unreachable!()
-                };
-                let value = machine.finish(place, event)?;
-                self.stage = Stage::After { value };
-                Ok(())
+                self.close(place, event)
             }
             Stage::After { .. } => Ok(()),
         }

@@ -1,7 +1,8 @@
-use Rattle.std.proofs.Common.{sym, subst, [], ◌∷◌, ◌++◌}
+use Rattle.std.proofs.Common.{refl, sym, subst, [], ◌∷◌, ◌++◌}
 use Rattle.std.proofs.lemmas.Result.{err_from_is_err_and}
-use Rattle.cdx_push_reader.specs.Pushed.{Stands}
-use Rattle.cdx_push_reader.proofs.Steps.{listens, reads_more, reads_fault, same_machine, closes, reads_done, ends_faulty}
+use Rattle.cdx_models.specs.declared.bom.SpecVersion.{SpecVersion}
+use Rattle.cdx_push_reader.specs.Pushed.{Stands, Outcome}
+use Rattle.cdx_push_reader.proofs.Steps.{listens, reads_more, reads_fault, can_close, closes}
 use Rattle.cdx_push_reader.proofs.Stands.{after_goes}
 use Rattle.cdx_push_reader.proofs.hearing.Hearing.go_on.Goals as goal
 
@@ -24,26 +25,17 @@ returns-then-not-branch-clause-moves g c = λ events st go p.
     reads_more g.M.RootMachine.holds g.M.RootMachine.tree h.version c.in-Within.machine events c.args.event.now
     (subst (λ x. Stands g.M.RootMachine.holds g.M.RootMachine.tree h.version x events) c.in-Within.is st) go c.step.new.self c.args.place c.in_ok-step-in-Within.field-0 c.if-not-branch.true c.in_ok-step-in-Within.ensures p
 
-pub finish-requires : goal.finish-requires
-finish-requires g c =
+pub close-requires : goal.close-requires
+close-requires g c =
     let h = c.args.self.now in
     let r = c.requires in
-    closes g.M.RootMachine.holds g.M.RootMachine.tree h.version c.in-Within.machine r.events c.args.event.now
-    (subst (λ x. Stands g.M.RootMachine.holds g.M.RootMachine.tree h.version x r.events) c.in-Within.is r.stands) r.goes c.step.new.self c.in-Within-replace.machine c.args.place c.in_ok-step-in-Within.field-0 c.if-not-branch.false c.in_ok-step-in-Within.ensures r.place_is (same_machine c.replace.result c.step.new.self c.in-Within-replace.machine c.replace.ensures.value c.in-Within-replace.is)
+    (c.step.new.self, refl, can_close g.M.RootMachine.holds g.M.RootMachine.tree h.version c.in-Within.machine r.events c.args.event.now (subst (λ x. Stands g.M.RootMachine.holds g.M.RootMachine.tree h.version x r.events) c.in-Within.is r.stands) r.goes c.step.new.self c.args.place c.in_ok-step-in-Within.field-0 c.if-not-branch.false c.in_ok-step-in-Within.ensures r.place_is)
 
-pub returns-in_err-value-in-Within-clause-moves : goal.returns-in_err-value-in-Within-clause-moves
-returns-in_err-value-in-Within-clause-moves g c = λ events st go p.
-    let r = c.from_residual-in_err-value-in-Within in
-    let q = err_from_is_err_and r.result r.ensures.1 in
+pub returns-else-not-branch-clause-moves : goal.returns-else-not-branch-clause-moves
+returns-else-not-branch-clause-moves g c = λ events st go p.
     let h = c.args.self.now in
-    rw (q.1, q.2) (ends_faulty g.M.RootMachine.holds g.M.RootMachine.tree h.version c.in-Within.machine events c.args.event.now
-    (subst (λ x. Stands g.M.RootMachine.holds g.M.RootMachine.tree h.version x events) c.in-Within.is st) go c.step.new.self c.in-Within-replace.machine c.args.place c.in_ok-step-in-Within.field-0 c.in_err-value-in-Within.field-0.0 c.if-not-branch.false c.in_ok-step-in-Within.ensures p (same_machine c.replace.result c.step.new.self c.in-Within-replace.machine c.replace.ensures.value c.in-Within-replace.is) c.in_err-value-in-Within.ensures)
-
-pub returns-in_ok-value-in-Within-clause-moves : goal.returns-in_ok-value-in-Within-clause-moves
-returns-in_ok-value-in-Within-clause-moves g c = λ events st go p.
-    let h = c.args.self.now in
-    reads_done g.M.RootMachine.holds g.M.RootMachine.tree h.version c.in-Within.machine events c.args.event.now
-    (subst (λ x. Stands g.M.RootMachine.holds g.M.RootMachine.tree h.version x events) c.in-Within.is st) go c.step.new.self c.in-Within-replace.machine c.args.place c.in_ok-step-in-Within.field-0 c.in_ok-value-in-Within.value c.if-not-branch.false c.in_ok-step-in-Within.ensures p (same_machine c.replace.result c.step.new.self c.in-Within-replace.machine c.replace.ensures.value c.in-Within-replace.is) c.in_ok-value-in-Within.ensures
+    subst (λ (v : SpecVersion). Outcome {A = Unit {0}} (λ u. Stands g.M.RootMachine.holds g.M.RootMachine.tree v c.close.new.self.stage (events ++ c.args.event.now ∷ [])) h.version (events ++ c.args.event.now ∷ []) c.close.result) (sym c.close.ensures.version)
+    (closes g.M.RootMachine.holds g.M.RootMachine.tree h.version c.in-Within.machine events c.args.event.now (subst (λ x. Stands g.M.RootMachine.holds g.M.RootMachine.tree h.version x events) c.in-Within.is st) go c.step.new.self c.args.place c.in_ok-step-in-Within.field-0 c.if-not-branch.false c.in_ok-step-in-Within.ensures p c.close.new.self.stage c.close.result (c.close.ensures.closes c.step.new.self refl))
 
 pub returns-in-After-clause-moves : goal.returns-in-After-clause-moves
 returns-in-After-clause-moves g c = λ events st go p.
