@@ -4,5 +4,7 @@
 
 pub mod kinded;
 pub mod laws;
+pub mod target;
 
 pub use kinded::{Kinded, Record};
+pub use target::Target;
