@@ -33,17 +33,14 @@ pub(crate) fn read_component(value: &Value, context: Context) -> Result<Componen
     match value.as_object() {
         None => Err(here(context.alloc, JsonKind::WrongKind)),
         Some(map) => {
-            let inner = Depth {
-                components: context.depth.components + 1,
-                services: context.depth.services,
-            };
-            component_from_members(
-                map,
-                Context {
-                    depth: inner,
-                    ..context
+            let inner = Context {
+                depth: Depth {
+                    components: context.depth.components + 1,
+                    services: context.depth.services,
                 },
-            )
+                ..context
+            };
+            component_from_members(map, inner)
         }
     }
 }

@@ -33,17 +33,14 @@ pub(crate) fn read_service(value: &Value, context: Context) -> Result<Service, J
     match value.as_object() {
         None => Err(here(context.alloc, JsonKind::WrongKind)),
         Some(map) => {
-            let inner = Depth {
-                components: context.depth.components,
-                services: context.depth.services + 1,
-            };
-            service_from_members(
-                map,
-                Context {
-                    depth: inner,
-                    ..context
+            let inner = Context {
+                depth: Depth {
+                    components: context.depth.components,
+                    services: context.depth.services + 1,
                 },
-            )
+                ..context
+            };
+            service_from_members(map, inner)
         }
     }
 }
