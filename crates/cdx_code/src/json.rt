@@ -5,24 +5,20 @@ ghost use Rattle.cdx_json.specs.Stays.{list_stays};
 
 use crate::{Commit, Commits, IdentifiableAction};
 use cdx_json::{
-    Depth, FromJson, JsonRecord, Kept, ToJson, keep_list, keep_row, list_from_value, list_to_value,
-    optional_row, put_row,
+    Context, FromJson, JsonRecord, Keeping, Kept, Members, ToJson, keep_list, keep_row,
+    list_from_value, list_to_value, optional_row, put_row,
 };
 use cdx_models::{JsonReadError, SpecVersion};
-use serde_json::{Map, Value};
+use cdx_schema::Target;
+use serde_json::Value;
 use std::alloc::{AllocError, Global};
 
 impl JsonRecord for IdentifiableAction {
     #[tactic(auto, unfolding(cdx_json::proofs::OnRows::on_rows))]
-    fn from_members(
-        alloc: Global,
-        map: &Map<String, Value>,
-        version: SpecVersion,
-        depth: Depth,
-    ) -> Result<IdentifiableAction, JsonReadError> {
-        let timestamp = optional_row(alloc, map, "timestamp", version, depth)?;
-        let name = optional_row(alloc, map, "name", version, depth)?;
-        let email = optional_row(alloc, map, "email", version, depth)?;
+    fn from_members(map: &Members, context: Context) -> Result<IdentifiableAction, JsonReadError> {
+        let timestamp = optional_row(map, "timestamp", context)?;
+        let name = optional_row(map, "name", context)?;
+        let email = optional_row(map, "email", context)?;
         Ok(IdentifiableAction {
             timestamp,
             name,
@@ -31,45 +27,30 @@ impl JsonRecord for IdentifiableAction {
     }
 
     #[tactic(auto, unfolding(cdx_json::proofs::OnRows::on_rows))]
-    fn kept_rows(
-        &self,
-        alloc: Global,
-        version: SpecVersion,
-        label: SpecVersion,
-    ) -> Result<IdentifiableAction, AllocError> {
+    fn kept_rows(&self, keeping: Keeping) -> Result<IdentifiableAction, AllocError> {
         Ok(IdentifiableAction {
-            timestamp: keep_row(alloc, &self.timestamp, version, label)?,
-            name: keep_row(alloc, &self.name, version, label)?,
-            email: keep_row(alloc, &self.email, version, label)?,
+            timestamp: keep_row(&self.timestamp, keeping)?,
+            name: keep_row(&self.name, keeping)?,
+            email: keep_row(&self.email, keeping)?,
         })
     }
 
     #[tactic(auto, unfolding(cdx_json::proofs::OnRows::on_rows))]
-    fn put_members(
-        &self,
-        alloc: Global,
-        map: &mut Map<String, Value>,
-        version: SpecVersion,
-    ) -> Result<(), AllocError> {
-        put_row(alloc, map, "timestamp", &self.timestamp, version)?;
-        put_row(alloc, map, "name", &self.name, version)?;
-        put_row(alloc, map, "email", &self.email, version)
+    fn put_members(&self, map: &mut Members, target: Target) -> Result<(), AllocError> {
+        put_row(map, "timestamp", &self.timestamp, target)?;
+        put_row(map, "name", &self.name, target)?;
+        put_row(map, "email", &self.email, target)
     }
 }
 
 impl JsonRecord for Commit {
     #[tactic(auto, unfolding(cdx_json::proofs::OnRows::on_rows))]
-    fn from_members(
-        alloc: Global,
-        map: &Map<String, Value>,
-        version: SpecVersion,
-        depth: Depth,
-    ) -> Result<Commit, JsonReadError> {
-        let uid = optional_row(alloc, map, "uid", version, depth)?;
-        let url = optional_row(alloc, map, "url", version, depth)?;
-        let author = optional_row(alloc, map, "author", version, depth)?;
-        let committer = optional_row(alloc, map, "committer", version, depth)?;
-        let message = optional_row(alloc, map, "message", version, depth)?;
+    fn from_members(map: &Members, context: Context) -> Result<Commit, JsonReadError> {
+        let uid = optional_row(map, "uid", context)?;
+        let url = optional_row(map, "url", context)?;
+        let author = optional_row(map, "author", context)?;
+        let committer = optional_row(map, "committer", context)?;
+        let message = optional_row(map, "message", context)?;
         Ok(Commit {
             uid,
             url,
@@ -80,46 +61,31 @@ impl JsonRecord for Commit {
     }
 
     #[tactic(auto, unfolding(cdx_json::proofs::OnRows::on_rows))]
-    fn kept_rows(
-        &self,
-        alloc: Global,
-        version: SpecVersion,
-        label: SpecVersion,
-    ) -> Result<Commit, AllocError> {
+    fn kept_rows(&self, keeping: Keeping) -> Result<Commit, AllocError> {
         Ok(Commit {
-            uid: keep_row(alloc, &self.uid, version, label)?,
-            url: keep_row(alloc, &self.url, version, label)?,
-            author: keep_row(alloc, &self.author, version, label)?,
-            committer: keep_row(alloc, &self.committer, version, label)?,
-            message: keep_row(alloc, &self.message, version, label)?,
+            uid: keep_row(&self.uid, keeping)?,
+            url: keep_row(&self.url, keeping)?,
+            author: keep_row(&self.author, keeping)?,
+            committer: keep_row(&self.committer, keeping)?,
+            message: keep_row(&self.message, keeping)?,
         })
     }
 
     #[tactic(auto, unfolding(cdx_json::proofs::OnRows::on_rows))]
-    fn put_members(
-        &self,
-        alloc: Global,
-        map: &mut Map<String, Value>,
-        version: SpecVersion,
-    ) -> Result<(), AllocError> {
-        put_row(alloc, map, "uid", &self.uid, version)?;
-        put_row(alloc, map, "url", &self.url, version)?;
-        put_row(alloc, map, "author", &self.author, version)?;
-        put_row(alloc, map, "committer", &self.committer, version)?;
-        put_row(alloc, map, "message", &self.message, version)?;
+    fn put_members(&self, map: &mut Members, target: Target) -> Result<(), AllocError> {
+        put_row(map, "uid", &self.uid, target)?;
+        put_row(map, "url", &self.url, target)?;
+        put_row(map, "author", &self.author, target)?;
+        put_row(map, "committer", &self.committer, target)?;
+        put_row(map, "message", &self.message, target)?;
         Ok(())
     }
 }
 
 impl FromJson for Commits {
     #[tactic(auto, unfolding(cdx_schema::specs::Table::list))]
-    fn from_json_at(
-        alloc: Global,
-        value: &Value,
-        version: SpecVersion,
-        depth: Depth,
-    ) -> Result<Commits, JsonReadError> {
-        Ok(Commits(list_from_value(alloc, value, version, depth)?))
+    fn from_json_at(value: &Value, context: Context) -> Result<Commits, JsonReadError> {
+        Ok(Commits(list_from_value(value, context)?))
     }
 }
 
@@ -127,13 +93,8 @@ impl Kept for Commits {
     ghost stays = { λ w l x. list_stays w l commits _ };
 
     #[tactic(auto, unfolding(cdx_schema::specs::Table::list))]
-    fn kept_as(
-        &self,
-        alloc: Global,
-        version: SpecVersion,
-        label: SpecVersion,
-    ) -> Result<Commits, AllocError> {
-        Ok(Commits(keep_list(alloc, &self.0, version, label)?))
+    fn kept_as(&self, keeping: Keeping) -> Result<Commits, AllocError> {
+        Ok(Commits(keep_list(&self.0, keeping)?))
     }
 }
 

@@ -7,8 +7,9 @@ mod reading;
 mod writing;
 
 use crate::component::{Component, Components, Pedigree};
-use cdx_json::{Depth, FromJson, Kept, ToJson};
+use cdx_json::{Context, FromJson, Keeping, Kept, ToJson};
 use cdx_models::{JsonReadError, SpecVersion};
+use cdx_schema::Target;
 use keeping::{keep_component, keep_components, keep_pedigree};
 use reading::{read_component, read_components, read_pedigree};
 use serde_json::Value;
@@ -16,91 +17,61 @@ use std::alloc::{AllocError, Global};
 use writing::{write_component, write_components, write_pedigree};
 
 impl FromJson for Component {
-    fn from_json_at(
-        alloc: Global,
-        value: &Value,
-        version: SpecVersion,
-        depth: Depth,
-    ) -> Result<Component, JsonReadError> {
-        read_component(alloc, value, version, depth)
+    fn from_json_at(value: &Value, context: Context) -> Result<Component, JsonReadError> {
+        read_component(value, context)
     }
 }
 
 impl Kept for Component {
     ghost stays = { component_stays };
 
-    fn kept_as(
-        &self,
-        alloc: Global,
-        version: SpecVersion,
-        label: SpecVersion,
-    ) -> Result<Component, AllocError> {
-        keep_component(self, alloc, version, label)
+    fn kept_as(&self, keeping: Keeping) -> Result<Component, AllocError> {
+        keep_component(self, keeping)
     }
 }
 
 impl ToJson for Component {
     fn to_value(&self, alloc: Global, version: SpecVersion) -> Result<Value, AllocError> {
-        write_component(self, alloc, version)
+        write_component(self, Target { alloc, version })
     }
 }
 
 impl FromJson for Components {
-    fn from_json_at(
-        alloc: Global,
-        value: &Value,
-        version: SpecVersion,
-        depth: Depth,
-    ) -> Result<Components, JsonReadError> {
-        read_components(alloc, value, version, depth)
+    fn from_json_at(value: &Value, context: Context) -> Result<Components, JsonReadError> {
+        read_components(value, context)
     }
 }
 
 impl Kept for Components {
     ghost stays = { components_stay };
 
-    fn kept_as(
-        &self,
-        alloc: Global,
-        version: SpecVersion,
-        label: SpecVersion,
-    ) -> Result<Components, AllocError> {
-        keep_components(self, alloc, version, label)
+    fn kept_as(&self, keeping: Keeping) -> Result<Components, AllocError> {
+        keep_components(self, keeping)
     }
 }
 
 impl ToJson for Components {
     fn to_value(&self, alloc: Global, version: SpecVersion) -> Result<Value, AllocError> {
-        write_components(self, alloc, version)
+        write_components(self, Target { alloc, version })
     }
 }
 
 impl FromJson for Pedigree {
-    fn from_json_at(
-        alloc: Global,
-        value: &Value,
-        version: SpecVersion,
-        depth: Depth,
-    ) -> Result<Pedigree, JsonReadError> {
-        read_pedigree(alloc, value, version, depth)
+    fn from_json_at(value: &Value, context: Context) -> Result<Pedigree, JsonReadError> {
+        read_pedigree(value, context)
     }
 }
 
 impl Kept for Pedigree {
     ghost stays = { pedigree_stays };
 
-    fn kept_as(
-        &self,
-        alloc: Global,
-        version: SpecVersion,
-        label: SpecVersion,
-    ) -> Result<Pedigree, AllocError> {
-        keep_pedigree(self, alloc, version, label)
+    fn kept_as(&self, keeping: Keeping) -> Result<Pedigree, AllocError> {
+        keep_pedigree(self, keeping)
     }
 }
 
 impl ToJson for Pedigree {
     fn to_value(&self, alloc: Global, version: SpecVersion) -> Result<Value, AllocError> {
-        write_pedigree(self, alloc, version)
+        write_pedigree(self, Target { alloc, version })
     }
 }

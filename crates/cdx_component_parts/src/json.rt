@@ -6,28 +6,24 @@ ghost use Rattle.cdx_json.specs.Stays.{text_stays, list_stays};
 use crate::component::{ComponentEvidence, Copyright, CopyrightTexts, Cpe, MimeType, Swid};
 use cdx_events::Text;
 use cdx_json::{
-    Depth, FromJson, JsonRecord, Kept, ToJson, keep_list, keep_row, list_from_value, list_to_value,
-    optional_row, put_required, put_row, required_row,
+    Context, FromJson, JsonRecord, Keeping, Kept, Members, ToJson, keep_list, keep_row,
+    list_from_value, list_to_value, optional_row, put_required, put_row, required_row,
 };
 use cdx_models::{HasTree, JsonReadError, SpecVersion};
-use serde_json::{Map, Value};
+use cdx_schema::Target;
+use serde_json::Value;
 use std::alloc::{AllocError, Global};
 
 impl JsonRecord for Swid {
     #[tactic(auto, unfolding(cdx_json::proofs::OnRows::on_rows))]
-    fn from_members(
-        alloc: Global,
-        map: &Map<String, Value>,
-        version: SpecVersion,
-        depth: Depth,
-    ) -> Result<Swid, JsonReadError> {
-        let tag_id = required_row(alloc, map, "tagId", version, depth)?;
-        let name = required_row(alloc, map, "name", version, depth)?;
-        let held_version = optional_row(alloc, map, "version", version, depth)?;
-        let tag_version = optional_row(alloc, map, "tagVersion", version, depth)?;
-        let patch = optional_row(alloc, map, "patch", version, depth)?;
-        let text = optional_row(alloc, map, "text", version, depth)?;
-        let url = optional_row(alloc, map, "url", version, depth)?;
+    fn from_members(map: &Members, context: Context) -> Result<Swid, JsonReadError> {
+        let tag_id = required_row(map, "tagId", context)?;
+        let name = required_row(map, "name", context)?;
+        let held_version = optional_row(map, "version", context)?;
+        let tag_version = optional_row(map, "tagVersion", context)?;
+        let patch = optional_row(map, "patch", context)?;
+        let text = optional_row(map, "text", context)?;
+        let url = optional_row(map, "url", context)?;
         Ok(Swid {
             tag_id,
             name,
@@ -40,49 +36,34 @@ impl JsonRecord for Swid {
     }
 
     #[tactic(auto, unfolding(cdx_json::proofs::OnRows::on_rows))]
-    fn kept_rows(
-        &self,
-        alloc: Global,
-        version: SpecVersion,
-        label: SpecVersion,
-    ) -> Result<Swid, AllocError> {
+    fn kept_rows(&self, keeping: Keeping) -> Result<Swid, AllocError> {
         Ok(Swid {
-            tag_id: self.tag_id.kept_as(alloc, version, label)?,
-            name: self.name.kept_as(alloc, version, label)?,
-            version: keep_row(alloc, &self.version, version, label)?,
-            tag_version: keep_row(alloc, &self.tag_version, version, label)?,
-            patch: keep_row(alloc, &self.patch, version, label)?,
-            text: keep_row(alloc, &self.text, version, label)?,
-            url: keep_row(alloc, &self.url, version, label)?,
+            tag_id: self.tag_id.kept_as(keeping)?,
+            name: self.name.kept_as(keeping)?,
+            version: keep_row(&self.version, keeping)?,
+            tag_version: keep_row(&self.tag_version, keeping)?,
+            patch: keep_row(&self.patch, keeping)?,
+            text: keep_row(&self.text, keeping)?,
+            url: keep_row(&self.url, keeping)?,
         })
     }
 
     #[tactic(auto, unfolding(cdx_json::proofs::OnRows::on_rows))]
-    fn put_members(
-        &self,
-        alloc: Global,
-        map: &mut Map<String, Value>,
-        version: SpecVersion,
-    ) -> Result<(), AllocError> {
-        put_required(alloc, map, "tagId", &self.tag_id, version)?;
-        put_required(alloc, map, "name", &self.name, version)?;
-        put_row(alloc, map, "version", &self.version, version)?;
-        put_row(alloc, map, "tagVersion", &self.tag_version, version)?;
-        put_row(alloc, map, "patch", &self.patch, version)?;
-        put_row(alloc, map, "text", &self.text, version)?;
-        put_row(alloc, map, "url", &self.url, version)?;
+    fn put_members(&self, map: &mut Members, target: Target) -> Result<(), AllocError> {
+        put_required(map, "tagId", &self.tag_id, target)?;
+        put_required(map, "name", &self.name, target)?;
+        put_row(map, "version", &self.version, target)?;
+        put_row(map, "tagVersion", &self.tag_version, target)?;
+        put_row(map, "patch", &self.patch, target)?;
+        put_row(map, "text", &self.text, target)?;
+        put_row(map, "url", &self.url, target)?;
         Ok(())
     }
 }
 
 impl FromJson for Cpe {
-    fn from_json_at(
-        alloc: Global,
-        value: &Value,
-        version: SpecVersion,
-        depth: Depth,
-    ) -> Result<Cpe, JsonReadError> {
-        Ok(Cpe(Text::from_json_at(alloc, value, version, depth)?))
+    fn from_json_at(value: &Value, context: Context) -> Result<Cpe, JsonReadError> {
+        Ok(Cpe(Text::from_json_at(value, context)?))
     }
 }
 
@@ -90,13 +71,8 @@ impl Kept for Cpe {
     ghost stays = { λ w l x. text_stays w l _ };
 
     #[tactic(auto, unfolding(cdx_schema::specs::Keeping::kept))]
-    fn kept_as(
-        &self,
-        alloc: Global,
-        version: SpecVersion,
-        label: SpecVersion,
-    ) -> Result<Cpe, AllocError> {
-        self.copy(alloc)
+    fn kept_as(&self, keeping: Keeping) -> Result<Cpe, AllocError> {
+        self.copy(keeping.alloc)
     }
 }
 
@@ -108,13 +84,8 @@ impl ToJson for Cpe {
 }
 
 impl FromJson for MimeType {
-    fn from_json_at(
-        alloc: Global,
-        value: &Value,
-        version: SpecVersion,
-        depth: Depth,
-    ) -> Result<MimeType, JsonReadError> {
-        Ok(MimeType(Text::from_json_at(alloc, value, version, depth)?))
+    fn from_json_at(value: &Value, context: Context) -> Result<MimeType, JsonReadError> {
+        Ok(MimeType(Text::from_json_at(value, context)?))
     }
 }
 
@@ -122,13 +93,8 @@ impl Kept for MimeType {
     ghost stays = { λ w l x. text_stays w l _ };
 
     #[tactic(auto, unfolding(cdx_schema::specs::Keeping::kept))]
-    fn kept_as(
-        &self,
-        alloc: Global,
-        version: SpecVersion,
-        label: SpecVersion,
-    ) -> Result<MimeType, AllocError> {
-        self.copy(alloc)
+    fn kept_as(&self, keeping: Keeping) -> Result<MimeType, AllocError> {
+        self.copy(keeping.alloc)
     }
 }
 
@@ -141,14 +107,9 @@ impl ToJson for MimeType {
 
 impl JsonRecord for ComponentEvidence {
     #[tactic(auto, unfolding(cdx_json::proofs::OnRows::on_rows))]
-    fn from_members(
-        alloc: Global,
-        map: &Map<String, Value>,
-        version: SpecVersion,
-        depth: Depth,
-    ) -> Result<ComponentEvidence, JsonReadError> {
-        let licenses = optional_row(alloc, map, "licenses", version, depth)?;
-        let copyright = optional_row(alloc, map, "copyright", version, depth)?;
+    fn from_members(map: &Members, context: Context) -> Result<ComponentEvidence, JsonReadError> {
+        let licenses = optional_row(map, "licenses", context)?;
+        let copyright = optional_row(map, "copyright", context)?;
         Ok(ComponentEvidence {
             licenses,
             copyright,
@@ -156,74 +117,44 @@ impl JsonRecord for ComponentEvidence {
     }
 
     #[tactic(auto, unfolding(cdx_json::proofs::OnRows::on_rows))]
-    fn kept_rows(
-        &self,
-        alloc: Global,
-        version: SpecVersion,
-        label: SpecVersion,
-    ) -> Result<ComponentEvidence, AllocError> {
+    fn kept_rows(&self, keeping: Keeping) -> Result<ComponentEvidence, AllocError> {
         Ok(ComponentEvidence {
-            licenses: keep_row(alloc, &self.licenses, version, label)?,
-            copyright: keep_row(alloc, &self.copyright, version, label)?,
+            licenses: keep_row(&self.licenses, keeping)?,
+            copyright: keep_row(&self.copyright, keeping)?,
         })
     }
 
     #[tactic(auto, unfolding(cdx_json::proofs::OnRows::on_rows))]
-    fn put_members(
-        &self,
-        alloc: Global,
-        map: &mut Map<String, Value>,
-        version: SpecVersion,
-    ) -> Result<(), AllocError> {
-        put_row(alloc, map, "licenses", &self.licenses, version)?;
-        put_row(alloc, map, "copyright", &self.copyright, version)
+    fn put_members(&self, map: &mut Members, target: Target) -> Result<(), AllocError> {
+        put_row(map, "licenses", &self.licenses, target)?;
+        put_row(map, "copyright", &self.copyright, target)
     }
 }
 
 impl JsonRecord for Copyright {
     #[tactic(auto, unfolding(cdx_json::proofs::OnRows::on_rows))]
-    fn from_members(
-        alloc: Global,
-        map: &Map<String, Value>,
-        version: SpecVersion,
-        depth: Depth,
-    ) -> Result<Copyright, JsonReadError> {
-        let text = required_row(alloc, map, "text", version, depth)?;
+    fn from_members(map: &Members, context: Context) -> Result<Copyright, JsonReadError> {
+        let text = required_row(map, "text", context)?;
         Ok(Copyright { text })
     }
 
     #[tactic(auto, unfolding(cdx_json::proofs::OnRows::on_rows))]
-    fn kept_rows(
-        &self,
-        alloc: Global,
-        version: SpecVersion,
-        label: SpecVersion,
-    ) -> Result<Copyright, AllocError> {
+    fn kept_rows(&self, keeping: Keeping) -> Result<Copyright, AllocError> {
         Ok(Copyright {
-            text: self.text.kept_as(alloc, version, label)?,
+            text: self.text.kept_as(keeping)?,
         })
     }
 
     #[tactic(auto, unfolding(cdx_json::proofs::OnRows::on_rows))]
-    fn put_members(
-        &self,
-        alloc: Global,
-        map: &mut Map<String, Value>,
-        version: SpecVersion,
-    ) -> Result<(), AllocError> {
-        put_required(alloc, map, "text", &self.text, version)
+    fn put_members(&self, map: &mut Members, target: Target) -> Result<(), AllocError> {
+        put_required(map, "text", &self.text, target)
     }
 }
 
 impl FromJson for CopyrightTexts {
     #[tactic(auto, unfolding(cdx_schema::specs::Table::list))]
-    fn from_json_at(
-        alloc: Global,
-        value: &Value,
-        version: SpecVersion,
-        depth: Depth,
-    ) -> Result<CopyrightTexts, JsonReadError> {
-        Ok(CopyrightTexts(list_from_value(alloc, value, version, depth)?))
+    fn from_json_at(value: &Value, context: Context) -> Result<CopyrightTexts, JsonReadError> {
+        Ok(CopyrightTexts(list_from_value(value, context)?))
     }
 }
 
@@ -231,13 +162,8 @@ impl Kept for CopyrightTexts {
     ghost stays = { λ w l x. list_stays w l copyright_texts _ };
 
     #[tactic(auto, unfolding(cdx_schema::specs::Table::list))]
-    fn kept_as(
-        &self,
-        alloc: Global,
-        version: SpecVersion,
-        label: SpecVersion,
-    ) -> Result<CopyrightTexts, AllocError> {
-        Ok(CopyrightTexts(keep_list(alloc, &self.0, version, label)?))
+    fn kept_as(&self, keeping: Keeping) -> Result<CopyrightTexts, AllocError> {
+        Ok(CopyrightTexts(keep_list(&self.0, keeping)?))
     }
 }
 

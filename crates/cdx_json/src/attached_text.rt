@@ -1,24 +1,20 @@
 //! Attached texts in JSON.
 
-use crate::depth::Depth;
+use crate::context::Context;
+use crate::keeping::Keeping;
 use crate::reading::{optional_row, required_row};
-use crate::traits::{JsonRecord, Kept};
+use crate::traits::{JsonRecord, Kept, Members};
 use crate::writing::{keep_row, put_required, put_row};
-use cdx_models::{AttachedText, JsonReadError, SpecVersion};
-use serde_json::{Map, Value};
-use std::alloc::{AllocError, Global};
+use cdx_models::{AttachedText, JsonReadError};
+use cdx_schema::Target;
+use std::alloc::AllocError;
 
 impl JsonRecord for AttachedText {
     #[tactic(auto, unfolding(crate::proofs::OnRows::on_rows))]
-    fn from_members(
-        alloc: Global,
-        map: &Map<String, Value>,
-        version: SpecVersion,
-        depth: Depth,
-    ) -> Result<AttachedText, JsonReadError> {
-        let content_type = optional_row(alloc, map, "contentType", version, depth)?;
-        let encoding = optional_row(alloc, map, "encoding", version, depth)?;
-        let content = required_row(alloc, map, "content", version, depth)?;
+    fn from_members(map: &Members, context: Context) -> Result<AttachedText, JsonReadError> {
+        let content_type = optional_row(map, "contentType", context)?;
+        let encoding = optional_row(map, "encoding", context)?;
+        let content = required_row(map, "content", context)?;
         Ok(AttachedText {
             content_type,
             encoding,
@@ -27,28 +23,18 @@ impl JsonRecord for AttachedText {
     }
 
     #[tactic(auto, unfolding(crate::proofs::OnRows::on_rows))]
-    fn kept_rows(
-        &self,
-        alloc: Global,
-        version: SpecVersion,
-        label: SpecVersion,
-    ) -> Result<AttachedText, AllocError> {
+    fn kept_rows(&self, keeping: Keeping) -> Result<AttachedText, AllocError> {
         Ok(AttachedText {
-            content_type: keep_row(alloc, &self.content_type, version, label)?,
-            encoding: keep_row(alloc, &self.encoding, version, label)?,
-            content: self.content.kept_as(alloc, version, label)?,
+            content_type: keep_row(&self.content_type, keeping)?,
+            encoding: keep_row(&self.encoding, keeping)?,
+            content: self.content.kept_as(keeping)?,
         })
     }
 
     #[tactic(auto, unfolding(crate::proofs::OnRows::on_rows))]
-    fn put_members(
-        &self,
-        alloc: Global,
-        map: &mut Map<String, Value>,
-        version: SpecVersion,
-    ) -> Result<(), AllocError> {
-        put_row(alloc, map, "contentType", &self.content_type, version)?;
-        put_row(alloc, map, "encoding", &self.encoding, version)?;
-        put_required(alloc, map, "content", &self.content, version)
+    fn put_members(&self, map: &mut Members, target: Target) -> Result<(), AllocError> {
+        put_row(map, "contentType", &self.content_type, target)?;
+        put_row(map, "encoding", &self.encoding, target)?;
+        put_required(map, "content", &self.content, target)
     }
 }

@@ -2,7 +2,8 @@
 
 ghost use Rattle.cdx_json.specs.Stays.{text_stays};
 
-use crate::depth::Depth;
+use crate::context::Context;
+use crate::keeping::Keeping;
 use crate::traits::{FromJson, Kept, ToJson};
 use cdx_events::Text;
 use cdx_models::{HasTree, JsonReadError, SpecVersion, UrnUuid};
@@ -10,13 +11,8 @@ use serde_json::Value;
 use std::alloc::{AllocError, Global};
 
 impl FromJson for UrnUuid {
-    fn from_json_at(
-        alloc: Global,
-        value: &Value,
-        version: SpecVersion,
-        depth: Depth,
-    ) -> Result<UrnUuid, JsonReadError> {
-        Ok(UrnUuid(Text::from_json_at(alloc, value, version, depth)?))
+    fn from_json_at(value: &Value, context: Context) -> Result<UrnUuid, JsonReadError> {
+        Ok(UrnUuid(Text::from_json_at(value, context)?))
     }
 }
 
@@ -24,13 +20,8 @@ impl Kept for UrnUuid {
     ghost stays = { λ w l x. text_stays w l _ };
 
     #[tactic(auto, unfolding(cdx_schema::specs::Keeping::kept))]
-    fn kept_as(
-        &self,
-        alloc: Global,
-        version: SpecVersion,
-        label: SpecVersion,
-    ) -> Result<UrnUuid, AllocError> {
-        self.copy(alloc)
+    fn kept_as(&self, keeping: Keeping) -> Result<UrnUuid, AllocError> {
+        self.copy(keeping.alloc)
     }
 }
 

@@ -12,34 +12,31 @@ ghost use Rattle.cdx_schema.specs.JsonReading.{jread};
 ghost use Rattle.cdx_json.specs.Depths.{depth_of};
 ghost use Rattle.cdx_json.specs.Gives.{Gives};
 
-use crate::depth::Depth;
+use crate::context::Context;
 use crate::fault::here;
+use crate::keeping::Keeping;
 use crate::reading::{list_from_value, optional_row, required_row};
-use crate::traits::{FromJson, JsonRecord, Kept, ToJson};
+use crate::traits::{FromJson, JsonRecord, Kept, Members, ToJson};
 use crate::writing::{keep_list, keep_row, list_to_value, put_required, put_row};
 use cdx_events::Text;
 use cdx_models::{
     ExternalReference, ExternalReferences, HasTree, JsonKind, JsonReadError, SpecVersion, Uri,
 };
-use serde_json::{Map, Value};
+use cdx_schema::Target;
+use serde_json::Value;
 use std::alloc::{AllocError, Global};
 
 impl FromJson for Uri {
     /// A text, as any `Uri` that a text gives: the variant is the one that `Uri::from_text` gives.
-    fn from_json_at(
-        alloc: Global,
-        value: &Value,
-        version: SpecVersion,
-        depth: Depth,
-    ) -> Result<Uri, JsonReadError>
+    fn from_json_at(value: &Value, context: Context) -> Result<Uri, JsonReadError>
         ensures gives { Gives uri_tree result
-            (jread (view value.now) version a_text (depth_of depth)) }
+            (jread (view value.now) context.version a_text (depth_of context.depth)) }
         ensures variant { IfOk result
             (λ r. option_map uri_of (as_str (view value.now)) ≡ Some r) }
     {
         match value.as_str() {
-            None => Err(here(alloc, JsonKind::WrongKind)),
-            Some(text) => Ok(Uri::from_text(Text::new(alloc, text)?)),
+            None => Err(here(context.alloc, JsonKind::WrongKind)),
+            Some(text) => Ok(Uri::from_text(Text::new(context.alloc, text)?)),
         }
     }
 }
@@ -48,17 +45,12 @@ impl Kept for Uri {
     ghost stays = { λ w l x. text_stays w l _ };
 
     #[tactic(auto, unfolding(cdx_schema::specs::Keeping::kept))]
-    fn kept_as(
-        &self,
-        alloc: Global,
-        version: SpecVersion,
-        label: SpecVersion,
-    ) -> Result<Uri, AllocError>
+    fn kept_as(&self, keeping: Keeping) -> Result<Uri, AllocError>
         ensures gives { IfOk result
-            (λ r. uri_tree r ≡ kept version label (uri_tree self.now) a_text) }
+            (λ r. uri_tree r ≡ kept keeping.version keeping.label (uri_tree self.now) a_text) }
         ensures variant { IfOk result (λ r. r ≡ self.now) }
     {
-        self.copy(alloc)
+        self.copy(keeping.alloc)
     }
 }
 
@@ -71,16 +63,11 @@ impl ToJson for Uri {
 
 impl JsonRecord for ExternalReference {
     #[tactic(auto, unfolding(crate::proofs::OnRows::on_rows))]
-    fn from_members(
-        alloc: Global,
-        map: &Map<String, Value>,
-        version: SpecVersion,
-        depth: Depth,
-    ) -> Result<ExternalReference, JsonReadError> {
-        let external_reference_type = required_row(alloc, map, "type", version, depth)?;
-        let url = required_row(alloc, map, "url", version, depth)?;
-        let comment = optional_row(alloc, map, "comment", version, depth)?;
-        let hashes = optional_row(alloc, map, "hashes", version, depth)?;
+    fn from_members(map: &Members, context: Context) -> Result<ExternalReference, JsonReadError> {
+        let external_reference_type = required_row(map, "type", context)?;
+        let url = required_row(map, "url", context)?;
+        let comment = optional_row(map, "comment", context)?;
+        let hashes = optional_row(map, "hashes", context)?;
         Ok(ExternalReference {
             external_reference_type,
             url,
@@ -90,43 +77,28 @@ impl JsonRecord for ExternalReference {
     }
 
     #[tactic(auto, unfolding(crate::proofs::OnRows::on_rows))]
-    fn kept_rows(
-        &self,
-        alloc: Global,
-        version: SpecVersion,
-        label: SpecVersion,
-    ) -> Result<ExternalReference, AllocError> {
+    fn kept_rows(&self, keeping: Keeping) -> Result<ExternalReference, AllocError> {
         Ok(ExternalReference {
-            external_reference_type: self.external_reference_type.kept_as(alloc, version, label)?,
-            url: self.url.kept_as(alloc, version, label)?,
-            comment: keep_row(alloc, &self.comment, version, label)?,
-            hashes: keep_row(alloc, &self.hashes, version, label)?,
+            external_reference_type: self.external_reference_type.kept_as(keeping)?,
+            url: self.url.kept_as(keeping)?,
+            comment: keep_row(&self.comment, keeping)?,
+            hashes: keep_row(&self.hashes, keeping)?,
         })
     }
 
     #[tactic(auto, unfolding(crate::proofs::OnRows::on_rows))]
-    fn put_members(
-        &self,
-        alloc: Global,
-        map: &mut Map<String, Value>,
-        version: SpecVersion,
-    ) -> Result<(), AllocError> {
-        put_required(alloc, map, "type", &self.external_reference_type, version)?;
-        put_required(alloc, map, "url", &self.url, version)?;
-        put_row(alloc, map, "comment", &self.comment, version)?;
-        put_row(alloc, map, "hashes", &self.hashes, version)
+    fn put_members(&self, map: &mut Members, target: Target) -> Result<(), AllocError> {
+        put_required(map, "type", &self.external_reference_type, target)?;
+        put_required(map, "url", &self.url, target)?;
+        put_row(map, "comment", &self.comment, target)?;
+        put_row(map, "hashes", &self.hashes, target)
     }
 }
 
 impl FromJson for ExternalReferences {
     #[tactic(auto, unfolding(cdx_schema::specs::Table::list))]
-    fn from_json_at(
-        alloc: Global,
-        value: &Value,
-        version: SpecVersion,
-        depth: Depth,
-    ) -> Result<ExternalReferences, JsonReadError> {
-        Ok(ExternalReferences(list_from_value(alloc, value, version, depth)?))
+    fn from_json_at(value: &Value, context: Context) -> Result<ExternalReferences, JsonReadError> {
+        Ok(ExternalReferences(list_from_value(value, context)?))
     }
 }
 
@@ -134,13 +106,8 @@ impl Kept for ExternalReferences {
     ghost stays = { λ w l x. list_stays w l external_references _ };
 
     #[tactic(auto, unfolding(cdx_schema::specs::Table::list))]
-    fn kept_as(
-        &self,
-        alloc: Global,
-        version: SpecVersion,
-        label: SpecVersion,
-    ) -> Result<ExternalReferences, AllocError> {
-        Ok(ExternalReferences(keep_list(alloc, &self.0, version, label)?))
+    fn kept_as(&self, keeping: Keeping) -> Result<ExternalReferences, AllocError> {
+        Ok(ExternalReferences(keep_list(&self.0, keeping)?))
     }
 }
 

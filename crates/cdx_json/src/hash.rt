@@ -3,23 +3,20 @@
 ghost use Rattle.cdx_schema.specs.Kinds.{hashes};
 ghost use Rattle.cdx_json.specs.Stays.{text_stays, list_stays};
 
-use crate::depth::Depth;
+use crate::context::Context;
+use crate::keeping::Keeping;
 use crate::reading::{list_from_value, required_row};
-use crate::traits::{FromJson, JsonRecord, Kept, ToJson};
+use crate::traits::{FromJson, JsonRecord, Kept, Members, ToJson};
 use crate::writing::{keep_list, list_to_value, put_required};
 use cdx_events::Text;
 use cdx_models::{HasTree, Hash, HashValue, Hashes, JsonReadError, SpecVersion};
-use serde_json::{Map, Value};
+use cdx_schema::Target;
+use serde_json::Value;
 use std::alloc::{AllocError, Global};
 
 impl FromJson for HashValue {
-    fn from_json_at(
-        alloc: Global,
-        value: &Value,
-        version: SpecVersion,
-        depth: Depth,
-    ) -> Result<HashValue, JsonReadError> {
-        Ok(HashValue(Text::from_json_at(alloc, value, version, depth)?))
+    fn from_json_at(value: &Value, context: Context) -> Result<HashValue, JsonReadError> {
+        Ok(HashValue(Text::from_json_at(value, context)?))
     }
 }
 
@@ -27,13 +24,8 @@ impl Kept for HashValue {
     ghost stays = { λ w l x. text_stays w l _ };
 
     #[tactic(auto, unfolding(cdx_schema::specs::Keeping::kept))]
-    fn kept_as(
-        &self,
-        alloc: Global,
-        version: SpecVersion,
-        label: SpecVersion,
-    ) -> Result<HashValue, AllocError> {
-        self.copy(alloc)
+    fn kept_as(&self, keeping: Keeping) -> Result<HashValue, AllocError> {
+        self.copy(keeping.alloc)
     }
 }
 
@@ -46,51 +38,31 @@ impl ToJson for HashValue {
 
 impl JsonRecord for Hash {
     #[tactic(auto, unfolding(crate::proofs::OnRows::on_rows))]
-    fn from_members(
-        alloc: Global,
-        map: &Map<String, Value>,
-        version: SpecVersion,
-        depth: Depth,
-    ) -> Result<Hash, JsonReadError> {
-        let alg = required_row(alloc, map, "alg", version, depth)?;
-        let content = required_row(alloc, map, "content", version, depth)?;
+    fn from_members(map: &Members, context: Context) -> Result<Hash, JsonReadError> {
+        let alg = required_row(map, "alg", context)?;
+        let content = required_row(map, "content", context)?;
         Ok(Hash { alg, content })
     }
 
     #[tactic(auto, unfolding(crate::proofs::OnRows::on_rows))]
-    fn kept_rows(
-        &self,
-        alloc: Global,
-        version: SpecVersion,
-        label: SpecVersion,
-    ) -> Result<Hash, AllocError> {
+    fn kept_rows(&self, keeping: Keeping) -> Result<Hash, AllocError> {
         Ok(Hash {
-            alg: self.alg.kept_as(alloc, version, label)?,
-            content: self.content.kept_as(alloc, version, label)?,
+            alg: self.alg.kept_as(keeping)?,
+            content: self.content.kept_as(keeping)?,
         })
     }
 
     #[tactic(auto, unfolding(crate::proofs::OnRows::on_rows))]
-    fn put_members(
-        &self,
-        alloc: Global,
-        map: &mut Map<String, Value>,
-        version: SpecVersion,
-    ) -> Result<(), AllocError> {
-        put_required(alloc, map, "alg", &self.alg, version)?;
-        put_required(alloc, map, "content", &self.content, version)
+    fn put_members(&self, map: &mut Members, target: Target) -> Result<(), AllocError> {
+        put_required(map, "alg", &self.alg, target)?;
+        put_required(map, "content", &self.content, target)
     }
 }
 
 impl FromJson for Hashes {
     #[tactic(auto, unfolding(cdx_schema::specs::Table::list))]
-    fn from_json_at(
-        alloc: Global,
-        value: &Value,
-        version: SpecVersion,
-        depth: Depth,
-    ) -> Result<Hashes, JsonReadError> {
-        Ok(Hashes(list_from_value(alloc, value, version, depth)?))
+    fn from_json_at(value: &Value, context: Context) -> Result<Hashes, JsonReadError> {
+        Ok(Hashes(list_from_value(value, context)?))
     }
 }
 
@@ -98,13 +70,8 @@ impl Kept for Hashes {
     ghost stays = { λ w l x. list_stays w l hashes _ };
 
     #[tactic(auto, unfolding(cdx_schema::specs::Table::list))]
-    fn kept_as(
-        &self,
-        alloc: Global,
-        version: SpecVersion,
-        label: SpecVersion,
-    ) -> Result<Hashes, AllocError> {
-        Ok(Hashes(keep_list(alloc, &self.0, version, label)?))
+    fn kept_as(&self, keeping: Keeping) -> Result<Hashes, AllocError> {
+        Ok(Hashes(keep_list(&self.0, keeping)?))
     }
 }
 

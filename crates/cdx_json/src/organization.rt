@@ -2,27 +2,26 @@
 
 ghost use Rattle.cdx_models.specs.Trees.{contact};
 
-use crate::depth::Depth;
+use crate::context::Context;
+use crate::keeping::Keeping;
 use crate::reading::{first_or_old, optional_list_row, optional_row};
-use crate::traits::JsonRecord;
+use crate::traits::{JsonRecord, Members};
 use crate::writing::{keep_optional_list, keep_row, put_optional_list, put_row};
-use cdx_models::{JsonReadError, OrganizationalContact, OrganizationalEntity, SpecVersion};
-use serde_json::{Map, Value};
-use std::alloc::{AllocError, Global};
+use cdx_models::{JsonReadError, OrganizationalContact, OrganizationalEntity};
+use cdx_schema::Target;
+use std::alloc::AllocError;
 
 impl JsonRecord for OrganizationalContact {
     #[tactic(auto, unfolding(crate::proofs::OnRows::on_rows))]
     fn from_members(
-        alloc: Global,
-        map: &Map<String, Value>,
-        version: SpecVersion,
-        depth: Depth,
+        map: &Members,
+        context: Context,
     ) -> Result<OrganizationalContact, JsonReadError> {
         let reference = first_or_old(map, "bom-ref", "bomRef");
-        let bom_ref = optional_row(alloc, map, reference, version, depth)?;
-        let name = optional_row(alloc, map, "name", version, depth)?;
-        let email = optional_row(alloc, map, "email", version, depth)?;
-        let phone = optional_row(alloc, map, "phone", version, depth)?;
+        let bom_ref = optional_row(map, reference, context)?;
+        let name = optional_row(map, "name", context)?;
+        let email = optional_row(map, "email", context)?;
+        let phone = optional_row(map, "phone", context)?;
         Ok(OrganizationalContact {
             bom_ref,
             name,
@@ -32,47 +31,35 @@ impl JsonRecord for OrganizationalContact {
     }
 
     #[tactic(auto, unfolding(crate::proofs::OnRows::on_rows))]
-    fn kept_rows(
-        &self,
-        alloc: Global,
-        version: SpecVersion,
-        label: SpecVersion,
-    ) -> Result<OrganizationalContact, AllocError> {
+    fn kept_rows(&self, keeping: Keeping) -> Result<OrganizationalContact, AllocError> {
         Ok(OrganizationalContact {
-            bom_ref: keep_row(alloc, &self.bom_ref, version, label)?,
-            name: keep_row(alloc, &self.name, version, label)?,
-            email: keep_row(alloc, &self.email, version, label)?,
-            phone: keep_row(alloc, &self.phone, version, label)?,
+            bom_ref: keep_row(&self.bom_ref, keeping)?,
+            name: keep_row(&self.name, keeping)?,
+            email: keep_row(&self.email, keeping)?,
+            phone: keep_row(&self.phone, keeping)?,
         })
     }
 
     #[tactic(auto, unfolding(crate::proofs::OnRows::on_rows))]
-    fn put_members(
-        &self,
-        alloc: Global,
-        map: &mut Map<String, Value>,
-        version: SpecVersion,
-    ) -> Result<(), AllocError> {
-        put_row(alloc, map, "bom-ref", &self.bom_ref, version)?;
-        put_row(alloc, map, "name", &self.name, version)?;
-        put_row(alloc, map, "email", &self.email, version)?;
-        put_row(alloc, map, "phone", &self.phone, version)
+    fn put_members(&self, map: &mut Members, target: Target) -> Result<(), AllocError> {
+        put_row(map, "bom-ref", &self.bom_ref, target)?;
+        put_row(map, "name", &self.name, target)?;
+        put_row(map, "email", &self.email, target)?;
+        put_row(map, "phone", &self.phone, target)
     }
 }
 
 impl JsonRecord for OrganizationalEntity {
     #[tactic(auto, unfolding(crate::proofs::OnRows::on_rows))]
     fn from_members(
-        alloc: Global,
-        map: &Map<String, Value>,
-        version: SpecVersion,
-        depth: Depth,
+        map: &Members,
+        context: Context,
     ) -> Result<OrganizationalEntity, JsonReadError> {
         let reference = first_or_old(map, "bom-ref", "bomRef");
-        let bom_ref = optional_row(alloc, map, reference, version, depth)?;
-        let name = optional_row(alloc, map, "name", version, depth)?;
-        let url = optional_list_row(alloc, map, "url", version, depth)?;
-        let contact = optional_list_row(alloc, map, "contact", version, depth)?;
+        let bom_ref = optional_row(map, reference, context)?;
+        let name = optional_row(map, "name", context)?;
+        let url = optional_list_row(map, "url", context)?;
+        let contact = optional_list_row(map, "contact", context)?;
         Ok(OrganizationalEntity {
             bom_ref,
             name,
@@ -82,30 +69,20 @@ impl JsonRecord for OrganizationalEntity {
     }
 
     #[tactic(auto, unfolding(crate::proofs::OnRows::on_rows))]
-    fn kept_rows(
-        &self,
-        alloc: Global,
-        version: SpecVersion,
-        label: SpecVersion,
-    ) -> Result<OrganizationalEntity, AllocError> {
+    fn kept_rows(&self, keeping: Keeping) -> Result<OrganizationalEntity, AllocError> {
         Ok(OrganizationalEntity {
-            bom_ref: keep_row(alloc, &self.bom_ref, version, label)?,
-            name: keep_row(alloc, &self.name, version, label)?,
-            url: keep_optional_list(alloc, &self.url, version, label)?,
-            contact: keep_optional_list(alloc, &self.contact, version, label)?,
+            bom_ref: keep_row(&self.bom_ref, keeping)?,
+            name: keep_row(&self.name, keeping)?,
+            url: keep_optional_list(&self.url, keeping)?,
+            contact: keep_optional_list(&self.contact, keeping)?,
         })
     }
 
     #[tactic(auto, unfolding(crate::proofs::OnRows::on_rows))]
-    fn put_members(
-        &self,
-        alloc: Global,
-        map: &mut Map<String, Value>,
-        version: SpecVersion,
-    ) -> Result<(), AllocError> {
-        put_row(alloc, map, "bom-ref", &self.bom_ref, version)?;
-        put_row(alloc, map, "name", &self.name, version)?;
-        put_optional_list(alloc, map, "url", &self.url, version)?;
-        put_optional_list(alloc, map, "contact", &self.contact, version)
+    fn put_members(&self, map: &mut Members, target: Target) -> Result<(), AllocError> {
+        put_row(map, "bom-ref", &self.bom_ref, target)?;
+        put_row(map, "name", &self.name, target)?;
+        put_optional_list(map, "url", &self.url, target)?;
+        put_optional_list(map, "contact", &self.contact, target)
     }
 }

@@ -3,61 +3,43 @@
 ghost use Rattle.cdx_schema.specs.Kinds.{properties};
 ghost use Rattle.cdx_json.specs.Stays.{list_stays};
 
-use crate::depth::Depth;
+use crate::context::Context;
+use crate::keeping::Keeping;
 use crate::reading::{list_from_value, required_row};
-use crate::traits::{FromJson, JsonRecord, Kept, ToJson};
+use crate::traits::{FromJson, JsonRecord, Kept, Members, ToJson};
 use crate::writing::{keep_list, list_to_value, put_required};
 use cdx_models::{JsonReadError, Properties, Property, SpecVersion};
-use serde_json::{Map, Value};
+use cdx_schema::Target;
+use serde_json::Value;
 use std::alloc::{AllocError, Global};
 
 impl JsonRecord for Property {
     #[tactic(auto, unfolding(crate::proofs::OnRows::on_rows))]
-    fn from_members(
-        alloc: Global,
-        map: &Map<String, Value>,
-        version: SpecVersion,
-        depth: Depth,
-    ) -> Result<Property, JsonReadError> {
-        let name = required_row(alloc, map, "name", version, depth)?;
-        let value = required_row(alloc, map, "value", version, depth)?;
+    fn from_members(map: &Members, context: Context) -> Result<Property, JsonReadError> {
+        let name = required_row(map, "name", context)?;
+        let value = required_row(map, "value", context)?;
         Ok(Property { name, value })
     }
 
     #[tactic(auto, unfolding(crate::proofs::OnRows::on_rows))]
-    fn kept_rows(
-        &self,
-        alloc: Global,
-        version: SpecVersion,
-        label: SpecVersion,
-    ) -> Result<Property, AllocError> {
+    fn kept_rows(&self, keeping: Keeping) -> Result<Property, AllocError> {
         Ok(Property {
-            name: self.name.kept_as(alloc, version, label)?,
-            value: self.value.kept_as(alloc, version, label)?,
+            name: self.name.kept_as(keeping)?,
+            value: self.value.kept_as(keeping)?,
         })
     }
 
     #[tactic(auto, unfolding(crate::proofs::OnRows::on_rows))]
-    fn put_members(
-        &self,
-        alloc: Global,
-        map: &mut Map<String, Value>,
-        version: SpecVersion,
-    ) -> Result<(), AllocError> {
-        put_required(alloc, map, "name", &self.name, version)?;
-        put_required(alloc, map, "value", &self.value, version)
+    fn put_members(&self, map: &mut Members, target: Target) -> Result<(), AllocError> {
+        put_required(map, "name", &self.name, target)?;
+        put_required(map, "value", &self.value, target)
     }
 }
 
 impl FromJson for Properties {
     #[tactic(auto, unfolding(cdx_schema::specs::Table::list))]
-    fn from_json_at(
-        alloc: Global,
-        value: &Value,
-        version: SpecVersion,
-        depth: Depth,
-    ) -> Result<Properties, JsonReadError> {
-        Ok(Properties(list_from_value(alloc, value, version, depth)?))
+    fn from_json_at(value: &Value, context: Context) -> Result<Properties, JsonReadError> {
+        Ok(Properties(list_from_value(value, context)?))
     }
 }
 
@@ -65,13 +47,8 @@ impl Kept for Properties {
     ghost stays = { λ w l x. list_stays w l properties _ };
 
     #[tactic(auto, unfolding(cdx_schema::specs::Table::list))]
-    fn kept_as(
-        &self,
-        alloc: Global,
-        version: SpecVersion,
-        label: SpecVersion,
-    ) -> Result<Properties, AllocError> {
-        Ok(Properties(keep_list(alloc, &self.0, version, label)?))
+    fn kept_as(&self, keeping: Keeping) -> Result<Properties, AllocError> {
+        Ok(Properties(keep_list(&self.0, keeping)?))
     }
 }
 

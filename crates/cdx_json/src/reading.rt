@@ -11,16 +11,15 @@ ghost use Rattle.cdx_json.specs.Depths.{depth_of};
 ghost use Rattle.cdx_json.specs.ByRows.{IsListOf, member_of, late_read, list_read};
 ghost use Rattle.cdx_json.specs.Gives.{Gives, stands, is_found, non_null};
 
-use crate::depth::Depth;
+use crate::context::Context;
 use crate::fault::{at_item, at_member, here, missing};
-use crate::traits::FromJson;
+use crate::traits::{FromJson, Members};
 use cdx_events::{List, Text};
 use cdx_models::{JsonKind, JsonReadError, SpecVersion};
-use serde_json::{Map, Value};
-use std::alloc::Global;
+use serde_json::Value;
 
 /// The member of that name.
-pub fn member<'v>(map: &'v Map<String, Value>, name: &str) -> Option<&'v Value>
+pub fn member<'v>(map: &'v Members, name: &str) -> Option<&'v Value>
     ensures { option_map (λ v. view v.now) result
         ≡ get_member name.now (members_view map.now.entries) }
 {
@@ -28,7 +27,7 @@ pub fn member<'v>(map: &'v Map<String, Value>, name: &str) -> Option<&'v Value>
 }
 
 /// The member of that name, where it is not null.
-pub fn member_not_null<'v>(map: &'v Map<String, Value>, name: &str) -> Option<&'v Value>
+pub fn member_not_null<'v>(map: &'v Members, name: &str) -> Option<&'v Value>
     ensures { option_map (λ v. view v.now) result
         ≡ non_null (get_member name.now (members_view map.now.entries)) }
 {
@@ -39,14 +38,14 @@ pub fn member_not_null<'v>(map: &'v Map<String, Value>, name: &str) -> Option<&'
 }
 
 /// Whether there is a member of that name, maybe a null.
-pub fn has_member(map: &Map<String, Value>, name: &str) -> bool
+pub fn has_member(map: &Members, name: &str) -> bool
     ensures { result ≡ stands (seen (members_view map.now.entries) name.now) }
 {
     member(map, name).is_some()
 }
 
 /// Whether there is a member of that name that is not null.
-pub fn has_value(map: &Map<String, Value>, name: &str) -> bool
+pub fn has_value(map: &Members, name: &str) -> bool
     ensures { result ≡ is_found (seen (members_view map.now.entries) name.now) }
 {
     member_not_null(map, name).is_some()
@@ -54,7 +53,7 @@ pub fn has_value(map: &Map<String, Value>, name: &str) -> bool
 
 /// The name of the member that a row is read from which old documents spell otherwise: its name where that member is
 /// there and not null, else its old name.
-pub fn first_or_old<'n>(map: &Map<String, Value>, name: &'n str, old_name: &'n str) -> &'n str
+pub fn first_or_old<'n>(map: &Members, name: &'n str, old_name: &'n str) -> &'n str
     ensures { result.now
         ≡ reading.first_or_old (seen (members_view map.now.entries) name.now) name.now old_name.now }
 {
@@ -62,53 +61,38 @@ pub fn first_or_old<'n>(map: &Map<String, Value>, name: &'n str, old_name: &'n s
 }
 
 impl FromJson for Text {
-    fn from_json_at(
-        alloc: Global,
-        value: &Value,
-        version: SpecVersion,
-        depth: Depth,
-    ) -> Result<Text, JsonReadError> {
+    fn from_json_at(value: &Value, context: Context) -> Result<Text, JsonReadError> {
         match value.as_str() {
-            None => Err(here(alloc, JsonKind::WrongKind)),
-            Some(held) => Ok(Text::new(alloc, held)?),
+            None => Err(here(context.alloc, JsonKind::WrongKind)),
+            Some(held) => Ok(Text::new(context.alloc, held)?),
         }
     }
 }
 
 impl FromJson for bool {
-    fn from_json_at(
-        alloc: Global,
-        value: &Value,
-        version: SpecVersion,
-        depth: Depth,
-    ) -> Result<bool, JsonReadError> {
+    fn from_json_at(value: &Value, context: Context) -> Result<bool, JsonReadError> {
         match value.as_bool() {
-            None => Err(here(alloc, JsonKind::WrongKind)),
+            None => Err(here(context.alloc, JsonKind::WrongKind)),
             Some(held) => Ok(held),
         }
     }
 }
 
 impl FromJson for u32 {
-    fn from_json_at(
-        alloc: Global,
-        value: &Value,
-        version: SpecVersion,
-        depth: Depth,
-    ) -> Result<u32, JsonReadError> {
+    fn from_json_at(value: &Value, context: Context) -> Result<u32, JsonReadError> {
         match value.as_u64() {
             Some(held) => {
                 if held < 4294967296 {
                     Ok(held as u32)
                 } else {
-                    Err(here(alloc, JsonKind::OutOfRange))
+                    Err(here(context.alloc, JsonKind::OutOfRange))
                 }
             }
             None => {
                 if value.is_i64() {
-                    Err(here(alloc, JsonKind::OutOfRange))
+                    Err(here(context.alloc, JsonKind::OutOfRange))
                 } else {
-                    Err(here(alloc, JsonKind::WrongKind))
+                    Err(here(context.alloc, JsonKind::WrongKind))
                 }
             }
         }
@@ -117,17 +101,15 @@ impl FromJson for u32 {
 
 /// The items of an array, each read as the kind of `T`, or the first fault. Its path begins with the item's number.
 pub fn list_from_items<T: FromJson + Drop>(
-    alloc: Global,
     items: &Vec<Value>,
-    version: SpecVersion,
-    depth: Depth,
+    context: Context,
 ) -> Result<List<T>, JsonReadError>
     ensures { Gives (list_tree T.tree) result
-        (list_read (items_view items.now.items) version T.kind (depth_of depth)) }
+        (list_read (items_view items.now.items) context.version T.kind (depth_of context.depth)) }
 {
-    let mut held = List::with_capacity(alloc, items.len())?;
+    let mut held = List::with_capacity(context.alloc, items.len())?;
     for (i, item) in items.iter().enumerate() {
-        match T::from_json_at(alloc, item, version, depth) {
+        match T::from_json_at(item, context) {
             Ok(one) => held.push(one)?,
             Err(e) => return Err(at_item(i, e)),
         }
@@ -137,61 +119,59 @@ pub fn list_from_items<T: FromJson + Drop>(
 
 /// An array as any of the schema's lists whose items are of the kind of `T`.
 pub fn list_from_value<T: FromJson + Drop>(
-    alloc: Global,
     value: &Value,
-    version: SpecVersion,
-    depth: Depth,
+    context: Context,
 ) -> Result<List<T>, JsonReadError>
     ensures { (l : Lists) → IsListOf T.kind l → Gives (list_tree T.tree) result
-        (jread (view value.now) version (a_list l) (depth_of depth)) }
+        (jread (view value.now) context.version (a_list l) (depth_of context.depth)) }
 {
     match value.as_array() {
-        None => Err(here(alloc, JsonKind::WrongKind)),
-        Some(items) => list_from_items(alloc, items, version, depth),
+        None => Err(here(context.alloc, JsonKind::WrongKind)),
+        Some(items) => list_from_items(items, context),
     }
 }
 
 /// A member that has to be there and may not be null.
 pub fn required_row<T: FromJson + Drop>(
-    alloc: Global,
-    map: &Map<String, Value>,
+    map: &Members,
     name: &str,
-    version: SpecVersion,
-    depth: Depth,
+    context: Context,
 ) -> Result<T, JsonReadError>
     ensures { Gives T.tree result
-        (member_of (seen (members_view map.now.entries)) name.now required T.kind version
-        (depth_of depth)) }
+        (member_of (seen (members_view map.now.entries)) name.now required T.kind context.version
+        (depth_of context.depth)) }
 {
     match member_not_null(map, name) {
         None => match member(map, name) {
-            None => Err(missing(alloc, name)),
-            Some(_) => Err(at_member(alloc, name, here(alloc, JsonKind::WrongKind))),
+            None => Err(missing(context.alloc, name)),
+            Some(_) => Err(at_member(
+                context.alloc,
+                name,
+                here(context.alloc, JsonKind::WrongKind),
+            )),
         },
-        Some(value) => match T::from_json_at(alloc, value, version, depth) {
+        Some(value) => match T::from_json_at(value, context) {
             Ok(held) => Ok(held),
-            Err(e) => Err(at_member(alloc, name, e)),
+            Err(e) => Err(at_member(context.alloc, name, e)),
         },
     }
 }
 
 /// A member that may be left out or null.
 pub fn optional_row<T: FromJson + Drop>(
-    alloc: Global,
-    map: &Map<String, Value>,
+    map: &Members,
     name: &str,
-    version: SpecVersion,
-    depth: Depth,
+    context: Context,
 ) -> Result<Option<T>, JsonReadError>
     ensures { Gives (present T.tree) result
-        (member_of (seen (members_view map.now.entries)) name.now optional T.kind version
-        (depth_of depth)) }
+        (member_of (seen (members_view map.now.entries)) name.now optional T.kind context.version
+        (depth_of context.depth)) }
 {
     match member_not_null(map, name) {
         None => Ok(None),
-        Some(value) => match T::from_json_at(alloc, value, version, depth) {
+        Some(value) => match T::from_json_at(value, context) {
             Ok(held) => Ok(Some(held)),
-            Err(e) => Err(at_member(alloc, name, e)),
+            Err(e) => Err(at_member(context.alloc, name, e)),
         },
     }
 }
@@ -199,20 +179,18 @@ pub fn optional_row<T: FromJson + Drop>(
 /// A member that may be left out or null, and that versions before `since` pass over.
 #[tactic(auto, unfolding(crate::specs::ByRows::late_read))]
 pub fn optional_row_since<T: FromJson + Drop>(
-    alloc: Global,
-    map: &Map<String, Value>,
+    map: &Members,
     name: &str,
     since: SpecVersion,
-    version: SpecVersion,
-    depth: Depth,
+    context: Context,
 ) -> Result<Option<T>, JsonReadError>
     ensures { Gives (present T.tree) result
-        (late_read since version
-        (member_of (seen (members_view map.now.entries)) name.now optional T.kind version
-        (depth_of depth))) }
+        (late_read since context.version
+        (member_of (seen (members_view map.now.entries)) name.now optional T.kind context.version
+        (depth_of context.depth))) }
 {
-    if since.is_known_to(version) {
-        optional_row(alloc, map, name, version, depth)
+    if since.is_known_to(context.version) {
+        optional_row(map, name, context)
     } else {
         Ok(None)
     }
@@ -221,87 +199,83 @@ pub fn optional_row_since<T: FromJson + Drop>(
 /// A member that only 1.3 requires.
 #[tactic(auto, using(crate::proofs::Rows::first_rules))]
 pub fn first_row<T: FromJson + Drop>(
-    alloc: Global,
-    map: &Map<String, Value>,
+    map: &Members,
     name: &str,
-    version: SpecVersion,
-    depth: Depth,
+    context: Context,
 ) -> Result<Option<T>, JsonReadError>
     ensures { Gives (present T.tree) result
-        (member_of (seen (members_view map.now.entries)) name.now required_first T.kind version
-        (depth_of depth)) }
+        (member_of (seen (members_view map.now.entries)) name.now required_first T.kind
+        context.version (depth_of context.depth)) }
 {
-    match version {
-        SpecVersion::V1_3 => match required_row(alloc, map, name, version, depth) {
+    match context.version {
+        SpecVersion::V1_3 => match required_row(map, name, context) {
             Ok(held) => Ok(Some(held)),
             Err(e) => Err(e),
         },
-        SpecVersion::V1_4 => optional_row(alloc, map, name, version, depth),
-        SpecVersion::V1_5 => optional_row(alloc, map, name, version, depth),
+        SpecVersion::V1_4 => optional_row(map, name, context),
+        SpecVersion::V1_5 => optional_row(map, name, context),
     }
 }
 
 /// A list that is empty where it is left out, and that may not be null.
 pub fn list_row<T: FromJson + Drop>(
-    alloc: Global,
-    map: &Map<String, Value>,
+    map: &Members,
     name: &str,
-    version: SpecVersion,
-    depth: Depth,
+    context: Context,
 ) -> Result<List<T>, JsonReadError>
     ensures { (l : Lists) → IsListOf T.kind l → Gives (list_tree T.tree) result
-        (member_of (seen (members_view map.now.entries)) name.now else_empty (a_list l) version
-        (depth_of depth)) }
+        (member_of (seen (members_view map.now.entries)) name.now else_empty (a_list l)
+        context.version (depth_of context.depth)) }
 {
     match member_not_null(map, name) {
         None => match member(map, name) {
-            None => Ok(List::new(alloc)),
-            Some(_) => Err(at_member(alloc, name, here(alloc, JsonKind::WrongKind))),
+            None => Ok(List::new(context.alloc)),
+            Some(_) => Err(at_member(
+                context.alloc,
+                name,
+                here(context.alloc, JsonKind::WrongKind),
+            )),
         },
-        Some(value) => match list_from_value(alloc, value, version, depth) {
+        Some(value) => match list_from_value(value, context) {
             Ok(held) => Ok(held),
-            Err(e) => Err(at_member(alloc, name, e)),
+            Err(e) => Err(at_member(context.alloc, name, e)),
         },
     }
 }
 
 /// A list that may be left out or null.
 pub fn optional_list_row<T: FromJson + Drop>(
-    alloc: Global,
-    map: &Map<String, Value>,
+    map: &Members,
     name: &str,
-    version: SpecVersion,
-    depth: Depth,
+    context: Context,
 ) -> Result<Option<List<T>>, JsonReadError>
     ensures { (l : Lists) → IsListOf T.kind l → Gives (present (list_tree T.tree)) result
-        (member_of (seen (members_view map.now.entries)) name.now optional (a_list l) version
-        (depth_of depth)) }
+        (member_of (seen (members_view map.now.entries)) name.now optional (a_list l)
+        context.version (depth_of context.depth)) }
 {
     match member_not_null(map, name) {
         None => Ok(None),
-        Some(value) => match list_from_value(alloc, value, version, depth) {
+        Some(value) => match list_from_value(value, context) {
             Ok(held) => Ok(Some(held)),
-            Err(e) => Err(at_member(alloc, name, e)),
+            Err(e) => Err(at_member(context.alloc, name, e)),
         },
     }
 }
 
 /// A list that may be left out or null, and that versions before `since` pass over.
 pub fn optional_list_row_since<T: FromJson + Drop>(
-    alloc: Global,
-    map: &Map<String, Value>,
+    map: &Members,
     name: &str,
     since: SpecVersion,
-    version: SpecVersion,
-    depth: Depth,
+    context: Context,
 ) -> Result<Option<List<T>>, JsonReadError>
     ensures { (l : Lists) → IsListOf T.kind l → Gives (present (list_tree T.tree)) result
-        (late_read since version
-        (member_of (seen (members_view map.now.entries)) name.now optional (a_list l) version
-        (depth_of depth))) }
+        (late_read since context.version
+        (member_of (seen (members_view map.now.entries)) name.now optional (a_list l)
+        context.version (depth_of context.depth))) }
 {
-    if since.is_known_to(version) {
-        optional_list_row(alloc, map, name, version, depth)
+    if since.is_known_to(context.version) {
+        optional_list_row(map, name, context)
     } else {
         Ok(None)
     }

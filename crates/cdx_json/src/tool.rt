@@ -1,32 +1,26 @@
 //! Tools in JSON.
 
-use crate::depth::Depth;
+use crate::context::Context;
+use crate::keeping::Keeping;
 use crate::reading::{optional_row, optional_row_since};
-use crate::traits::JsonRecord;
+use crate::traits::{JsonRecord, Members};
 use crate::writing::{keep_row, keep_row_since, put_row, put_row_since};
 use cdx_models::{JsonReadError, SpecVersion, Tool};
-use serde_json::{Map, Value};
-use std::alloc::{AllocError, Global};
+use cdx_schema::Target;
+use std::alloc::AllocError;
 
 impl JsonRecord for Tool {
     #[tactic(auto, unfolding(crate::proofs::OnRows::on_rows))]
-    fn from_members(
-        alloc: Global,
-        map: &Map<String, Value>,
-        version: SpecVersion,
-        depth: Depth,
-    ) -> Result<Tool, JsonReadError> {
-        let vendor = optional_row(alloc, map, "vendor", version, depth)?;
-        let name = optional_row(alloc, map, "name", version, depth)?;
-        let held_version = optional_row(alloc, map, "version", version, depth)?;
-        let hashes = optional_row(alloc, map, "hashes", version, depth)?;
+    fn from_members(map: &Members, context: Context) -> Result<Tool, JsonReadError> {
+        let vendor = optional_row(map, "vendor", context)?;
+        let name = optional_row(map, "name", context)?;
+        let held_version = optional_row(map, "version", context)?;
+        let hashes = optional_row(map, "hashes", context)?;
         let external_references = optional_row_since(
-            alloc,
             map,
             "externalReferences",
             SpecVersion::V1_4,
-            version,
-            depth,
+            context,
         )?;
         Ok(Tool {
             vendor,
@@ -38,45 +32,32 @@ impl JsonRecord for Tool {
     }
 
     #[tactic(auto, unfolding(crate::proofs::OnRows::on_rows))]
-    fn kept_rows(
-        &self,
-        alloc: Global,
-        version: SpecVersion,
-        label: SpecVersion,
-    ) -> Result<Tool, AllocError> {
+    fn kept_rows(&self, keeping: Keeping) -> Result<Tool, AllocError> {
         Ok(Tool {
-            vendor: keep_row(alloc, &self.vendor, version, label)?,
-            name: keep_row(alloc, &self.name, version, label)?,
-            version: keep_row(alloc, &self.version, version, label)?,
-            hashes: keep_row(alloc, &self.hashes, version, label)?,
+            vendor: keep_row(&self.vendor, keeping)?,
+            name: keep_row(&self.name, keeping)?,
+            version: keep_row(&self.version, keeping)?,
+            hashes: keep_row(&self.hashes, keeping)?,
             external_references: keep_row_since(
-                alloc,
                 &self.external_references,
                 SpecVersion::V1_4,
-                version,
-                label,
+                keeping,
             )?,
         })
     }
 
     #[tactic(auto, unfolding(crate::proofs::OnRows::on_rows))]
-    fn put_members(
-        &self,
-        alloc: Global,
-        map: &mut Map<String, Value>,
-        version: SpecVersion,
-    ) -> Result<(), AllocError> {
-        put_row(alloc, map, "vendor", &self.vendor, version)?;
-        put_row(alloc, map, "name", &self.name, version)?;
-        put_row(alloc, map, "version", &self.version, version)?;
-        put_row(alloc, map, "hashes", &self.hashes, version)?;
+    fn put_members(&self, map: &mut Members, target: Target) -> Result<(), AllocError> {
+        put_row(map, "vendor", &self.vendor, target)?;
+        put_row(map, "name", &self.name, target)?;
+        put_row(map, "version", &self.version, target)?;
+        put_row(map, "hashes", &self.hashes, target)?;
         put_row_since(
-            alloc,
             map,
             "externalReferences",
             &self.external_references,
             SpecVersion::V1_4,
-            version,
+            target,
         )?;
         Ok(())
     }

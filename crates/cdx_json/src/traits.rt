@@ -14,25 +14,25 @@ ghost use Rattle.cdx_json.specs.Gives.{Gives, Makes};
 ghost use Rattle.cdx_json.specs.ByRows.{by_rows};
 ghost use Rattle.cdx_json.specs.KeptRows.{rows_held, rows_put};
 
+use crate::context::Context;
 use crate::depth::Depth;
 use crate::fault::here;
+use crate::keeping::Keeping;
 use cdx_models::{JsonKind, JsonReadError, JsonWriteError, SpecVersion};
-use cdx_schema::{Kinded, Record};
+use cdx_schema::{Kinded, Record, Target};
 use serde_json::{Map, Value};
 use std::alloc::{AllocError, Global};
+
+/// The members of an object.
+pub type Members = Map<String, Value>;
 
 /// A value that is read from JSON.
 pub trait FromJson: Kinded {
     /// What the value denotes in a version as a part that stands at a depth, or its first fault. The fault's path is
     /// counted from the value. Only where memory runs out the answer is `Memory` instead.
-    fn from_json_at(
-        alloc: Global,
-        value: &Value,
-        version: SpecVersion,
-        depth: Depth,
-    ) -> Result<Self, JsonReadError>
+    fn from_json_at(value: &Value, context: Context) -> Result<Self, JsonReadError>
         ensures { Gives Self.tree result
-            (jread (view value.now) version Self.kind (depth_of depth)) };
+            (jread (view value.now) context.version Self.kind (depth_of context.depth)) };
 
     /// What the value denotes in a version outside all components and services, or its first fault. The fault's path
     /// is counted from the value. Only where memory runs out the answer is `Memory` instead.
@@ -43,27 +43,32 @@ pub trait FromJson: Kinded {
     ) -> Result<Self, JsonReadError>
         ensures { Gives Self.tree result (jread (view value.now) version Self.kind top) }
     {
-        Self::from_json_at(alloc, value, version, Depth::top())
+        let context = Context {
+            alloc,
+            version,
+            depth: Depth::top(),
+        };
+        Self::from_json_at(value, context)
     }
 }
 
 /// A value of which a version keeps what it knows.
 pub trait Kept: Kinded {
     /// What a version keeps of it, where a bill's label becomes the one given. Only want of memory is refused.
-    fn kept_as(
-        &self,
-        alloc: Global,
-        version: SpecVersion,
-        label: SpecVersion,
-    ) -> Result<Self, AllocError>
+    fn kept_as(&self, keeping: Keeping) -> Result<Self, AllocError>
         ensures { IfOk result
-            (λ r. Self.tree r ≡ kept version label (Self.tree self.now) Self.kind) };
+            (λ r. Self.tree r ≡ kept keeping.version keeping.label (Self.tree self.now)
+            Self.kind) };
 
     /// What a version keeps of it: the fields that the version doesn't know are gone. Only want of memory is refused.
     final fn kept(&self, alloc: Global, version: SpecVersion) -> Result<Self, AllocError>
         ensures { IfOk result (λ r. Self.tree r ≡ keep version (Self.tree self.now) Self.kind) }
     {
-        self.kept_as(alloc, version, version)
+        self.kept_as(Keeping {
+            alloc,
+            version,
+            label: version,
+        })
     }
 
     // What is there stays there.
@@ -96,49 +101,31 @@ pub trait ToJson: Kept {
 pub trait JsonRecord: Record {
     /// The record whose members these are, or the first fault. Only where memory runs out the answer is `Memory`
     /// instead.
-    fn from_members(
-        alloc: Global,
-        map: &Map<String, Value>,
-        version: SpecVersion,
-        depth: Depth,
-    ) -> Result<Self, JsonReadError>
+    fn from_members(map: &Members, context: Context) -> Result<Self, JsonReadError>
         ensures { Gives Self.tree result
-            (by_rows Self.name (seen (members_view map.now.entries)) version (depth_of depth)) };
+            (by_rows Self.name (seen (members_view map.now.entries)) context.version
+            (depth_of context.depth)) };
 
     /// What a version keeps of its rows, where a bill's label becomes the one given. Only want of memory is refused.
-    fn kept_rows(
-        &self,
-        alloc: Global,
-        version: SpecVersion,
-        label: SpecVersion,
-    ) -> Result<Self, AllocError>
+    fn kept_rows(&self, keeping: Keeping) -> Result<Self, AllocError>
         ensures { IfOk result (λ r. Self.tree r
             ≡ fields Self.name
-            (rows_held version label (fields_of (Self.tree self.now)) (rows Self.name))) };
+            (rows_held keeping.version keeping.label (fields_of (Self.tree self.now))
+            (rows Self.name))) };
 
     /// Sets the members of what the version keeps. Only want of memory is refused.
-    fn put_members(
-        &self,
-        alloc: Global,
-        map: &mut Map<String, Value>,
-        version: SpecVersion,
-    ) -> Result<(), AllocError>
+    fn put_members(&self, map: &mut Members, target: Target) -> Result<(), AllocError>
         ensures { OnOk result (members_view map.new.entries
-            ≡ rows_put (fields_of (Self.tree self.now)) version (rows Self.name)
+            ≡ rows_put (fields_of (Self.tree self.now)) target.version (rows Self.name)
             (members_view map.old.entries)) };
 }
 
 /// A record is read from an object, row by row.
 impl<T: JsonRecord> FromJson for T {
-    fn from_json_at(
-        alloc: Global,
-        value: &Value,
-        version: SpecVersion,
-        depth: Depth,
-    ) -> Result<T, JsonReadError> {
+    fn from_json_at(value: &Value, context: Context) -> Result<T, JsonReadError> {
         match value.as_object() {
-            None => Err(here(alloc, JsonKind::WrongKind)),
-            Some(map) => T::from_members(alloc, map, version, depth),
+            None => Err(here(context.alloc, JsonKind::WrongKind)),
+            Some(map) => T::from_members(map, context),
         }
     }
 }
@@ -149,13 +136,8 @@ impl<T: JsonRecord> Kept for T {
 
     ghost stays = { λ w l x. record_tree_stays w l T.name (T.tree x) (T.is_record x) };
 
-    fn kept_as(
-        &self,
-        alloc: Global,
-        version: SpecVersion,
-        label: SpecVersion,
-    ) -> Result<T, AllocError> {
-        self.kept_rows(alloc, version, label)
+    fn kept_as(&self, keeping: Keeping) -> Result<T, AllocError> {
+        self.kept_rows(keeping)
     }
 }
 
@@ -163,7 +145,7 @@ impl<T: JsonRecord> Kept for T {
 impl<T: JsonRecord> ToJson for T {
     fn to_value(&self, alloc: Global, version: SpecVersion) -> Result<Value, AllocError> {
         let mut map = Map::new(alloc);
-        self.put_members(alloc, &mut map, version)?;
+        self.put_members(&mut map, Target { alloc, version })?;
         Ok(Value::Object(map))
     }
 }

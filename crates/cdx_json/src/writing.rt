@@ -9,10 +9,12 @@ ghost use Rattle.cdx_schema.specs.JsonSpelling.{jspell};
 ghost use Rattle.cdx_json.specs.ByRows.{IsListOf};
 ghost use Rattle.cdx_json.specs.KeptRows.{put_kept, put_filled, late_put, late_kept};
 
-use crate::traits::{Kept, ToJson};
+use crate::keeping::Keeping;
+use crate::traits::{Kept, Members, ToJson};
 use cdx_events::{List, Text};
 use cdx_models::{HasTree, SpecVersion};
-use serde_json::{Map, Value};
+use cdx_schema::Target;
+use serde_json::Value;
 use std::alloc::{AllocError, Global};
 
 impl Kept for Text {
@@ -21,13 +23,8 @@ impl Kept for Text {
     ghost stays = { text_stays };
 
     #[tactic(auto, unfolding(cdx_schema::specs::Keeping::kept))]
-    fn kept_as(
-        &self,
-        alloc: Global,
-        version: SpecVersion,
-        label: SpecVersion,
-    ) -> Result<Text, AllocError> {
-        self.copy(alloc)
+    fn kept_as(&self, keeping: Keeping) -> Result<Text, AllocError> {
+        self.copy(keeping.alloc)
     }
 }
 
@@ -44,12 +41,7 @@ impl Kept for bool {
     ghost stays = { boolean_stays };
 
     #[tactic(auto, unfolding(cdx_schema::specs::Keeping::kept))]
-    fn kept_as(
-        &self,
-        alloc: Global,
-        version: SpecVersion,
-        label: SpecVersion,
-    ) -> Result<bool, AllocError> {
+    fn kept_as(&self, keeping: Keeping) -> Result<bool, AllocError> {
         Ok(*self)
     }
 }
@@ -67,12 +59,7 @@ impl Kept for u32 {
     ghost stays = { number_stays };
 
     #[tactic(auto, unfolding(cdx_schema::specs::Keeping::kept))]
-    fn kept_as(
-        &self,
-        alloc: Global,
-        version: SpecVersion,
-        label: SpecVersion,
-    ) -> Result<u32, AllocError> {
+    fn kept_as(&self, keeping: Keeping) -> Result<u32, AllocError> {
         Ok(*self)
     }
 }
@@ -85,18 +72,14 @@ impl ToJson for u32 {
 }
 
 /// What a version keeps of a list, as any of the schema's lists whose items are of the kind of `T`.
-pub fn keep_list<T: Kept + Drop>(
-    alloc: Global,
-    held: &List<T>,
-    version: SpecVersion,
-    label: SpecVersion,
-) -> Result<List<T>, AllocError>
+pub fn keep_list<T: Kept + Drop>(held: &List<T>, keeping: Keeping) -> Result<List<T>, AllocError>
     ensures { (l : Lists) → IsListOf T.kind l → IfOk result
-        (λ r. list_tree T.tree r ≡ kept version label (list_tree T.tree held.now) (a_list l)) }
+        (λ r. list_tree T.tree r ≡ kept keeping.version keeping.label (list_tree T.tree held.now)
+        (a_list l)) }
 {
-    let mut copies = List::with_capacity(alloc, held.len())?;
+    let mut copies = List::with_capacity(keeping.alloc, held.len())?;
     for item in held.as_slice() {
-        copies.push(item.kept_as(alloc, version, label)?)?;
+        copies.push(item.kept_as(keeping)?)?;
     }
     Ok(copies)
 }
@@ -120,52 +103,55 @@ pub fn list_to_value<T: ToJson + Drop>(
 
 /// Sets a member that is always there.
 pub fn put_required<T: ToJson>(
-    alloc: Global,
-    map: &mut Map<String, Value>,
+    map: &mut Members,
     name: &str,
     held: &T,
-    version: SpecVersion,
+    target: Target,
 ) -> Result<(), AllocError>
     ensures { OnOk result (members_view map.new.entries
-        ≡ put_kept name.now T.kind (T.tree held.now) version (members_view map.old.entries)) }
+        ≡ put_kept name.now T.kind (T.tree held.now) target.version
+        (members_view map.old.entries)) }
 {
-    serde_json::put(map, alloc, name, held.to_value(alloc, version)?)
+    serde_json::put(
+        map,
+        target.alloc,
+        name,
+        held.to_value(target.alloc, target.version)?,
+    )
 }
 
 /// Sets a member, where it is there.
 pub fn put_row<T: ToJson>(
-    alloc: Global,
-    map: &mut Map<String, Value>,
+    map: &mut Members,
     name: &str,
     held: &Option<T>,
-    version: SpecVersion,
+    target: Target,
 ) -> Result<(), AllocError>
     ensures { OnOk result (members_view map.new.entries
-        ≡ put_kept name.now T.kind (present T.tree held.now) version
+        ≡ put_kept name.now T.kind (present T.tree held.now) target.version
         (members_view map.old.entries)) }
 {
     match held {
         None => Ok(()),
-        Some(held) => put_required(alloc, map, name, held, version),
+        Some(held) => put_required(map, name, held, target),
     }
 }
 
 /// Sets a member, where it is there and the version is not before `since`.
 pub fn put_row_since<T: ToJson>(
-    alloc: Global,
-    map: &mut Map<String, Value>,
+    map: &mut Members,
     name: &str,
     held: &Option<T>,
     since: SpecVersion,
-    version: SpecVersion,
+    target: Target,
 ) -> Result<(), AllocError>
     ensures { OnOk result (members_view map.new.entries
-        ≡ late_put since version (members_view map.old.entries)
-        (put_kept name.now T.kind (present T.tree held.now) version
+        ≡ late_put since target.version (members_view map.old.entries)
+        (put_kept name.now T.kind (present T.tree held.now) target.version
         (members_view map.old.entries))) }
 {
-    if since.is_known_to(version) {
-        put_row(alloc, map, name, held, version)
+    if since.is_known_to(target.version) {
+        put_row(map, name, held, target)
     } else {
         Ok(())
     }
@@ -173,71 +159,77 @@ pub fn put_row_since<T: ToJson>(
 
 /// Sets a list that is written even where it is empty.
 pub fn put_required_list<T: ToJson + Drop>(
-    alloc: Global,
-    map: &mut Map<String, Value>,
+    map: &mut Members,
     name: &str,
     held: &List<T>,
-    version: SpecVersion,
+    target: Target,
 ) -> Result<(), AllocError>
     ensures { (l : Lists) → IsListOf T.kind l → OnOk result (members_view map.new.entries
-        ≡ put_kept name.now (a_list l) (list_tree T.tree held.now) version
+        ≡ put_kept name.now (a_list l) (list_tree T.tree held.now) target.version
         (members_view map.old.entries)) }
 {
-    serde_json::put(map, alloc, name, list_to_value(alloc, held, version)?)
+    serde_json::put(
+        map,
+        target.alloc,
+        name,
+        list_to_value(target.alloc, held, target.version)?,
+    )
 }
 
 /// Sets a list that is not written where it is empty.
 pub fn put_list<T: ToJson + Drop>(
-    alloc: Global,
-    map: &mut Map<String, Value>,
+    map: &mut Members,
     name: &str,
     held: &List<T>,
-    version: SpecVersion,
+    target: Target,
 ) -> Result<(), AllocError>
     ensures { (l : Lists) → IsListOf T.kind l → OnOk result (members_view map.new.entries
-        ≡ put_filled name.now (a_list l) (list_tree T.tree held.now) version
+        ≡ put_filled name.now (a_list l) (list_tree T.tree held.now) target.version
         (members_view map.old.entries)) }
 {
     if held.len() == 0 {
         return Ok(());
     }
-    serde_json::put(map, alloc, name, list_to_value(alloc, held, version)?)
+    serde_json::put(
+        map,
+        target.alloc,
+        name,
+        list_to_value(target.alloc, held, target.version)?,
+    )
 }
 
 /// Sets a list, where it is there.
 pub fn put_optional_list<T: ToJson + Drop>(
-    alloc: Global,
-    map: &mut Map<String, Value>,
+    map: &mut Members,
     name: &str,
     held: &Option<List<T>>,
-    version: SpecVersion,
+    target: Target,
 ) -> Result<(), AllocError>
     ensures { (l : Lists) → IsListOf T.kind l → OnOk result (members_view map.new.entries
-        ≡ put_kept name.now (a_list l) (present (list_tree T.tree) held.now) version
+        ≡ put_kept name.now (a_list l) (present (list_tree T.tree) held.now) target.version
         (members_view map.old.entries)) }
 {
     match held {
         None => Ok(()),
-        Some(held) => put_required_list(alloc, map, name, held, version),
+        Some(held) => put_required_list(map, name, held, target),
     }
 }
 
 /// Sets a list, where it is there and the version is not before `since`.
 pub fn put_optional_list_since<T: ToJson + Drop>(
-    alloc: Global,
-    map: &mut Map<String, Value>,
+    map: &mut Members,
     name: &str,
     held: &Option<List<T>>,
     since: SpecVersion,
-    version: SpecVersion,
+    target: Target,
 ) -> Result<(), AllocError>
     ensures { (l : Lists) → IsListOf T.kind l → OnOk result (members_view map.new.entries
-        ≡ late_put since version (members_view map.old.entries)
-        (put_kept name.now (a_list l) (present (list_tree T.tree) held.now) version
+        ≡ late_put since target.version (members_view map.old.entries)
+        (put_kept name.now (a_list l) (present (list_tree T.tree) held.now) target.version
         (members_view map.old.entries))) }
 {
-    if since.is_known_to(version) {
-        put_optional_list(alloc, map, name, held, version)
+    if since.is_known_to(target.version) {
+        put_optional_list(map, name, held, target)
     } else {
         Ok(())
     }
@@ -245,35 +237,30 @@ pub fn put_optional_list_since<T: ToJson + Drop>(
 
 /// What a version keeps of a field that may be absent.
 #[tactic(auto, unfolding(cdx_schema::specs::Keeping::kept))]
-pub fn keep_row<T: Kept>(
-    alloc: Global,
-    held: &Option<T>,
-    version: SpecVersion,
-    label: SpecVersion,
-) -> Result<Option<T>, AllocError>
+pub fn keep_row<T: Kept>(held: &Option<T>, keeping: Keeping) -> Result<Option<T>, AllocError>
     ensures { IfOk result
-        (λ r. present T.tree r ≡ kept version label (present T.tree held.now) T.kind) }
+        (λ r. present T.tree r ≡ kept keeping.version keeping.label (present T.tree held.now)
+        T.kind) }
 {
     match held {
         None => Ok(None),
-        Some(held) => Ok(Some(held.kept_as(alloc, version, label)?)),
+        Some(held) => Ok(Some(held.kept_as(keeping)?)),
     }
 }
 
 /// What a version keeps of a field that may be absent: nothing where the version is before `since`.
 #[tactic(auto, unfolding(crate::specs::KeptRows::late_kept))]
 pub fn keep_row_since<T: Kept>(
-    alloc: Global,
     held: &Option<T>,
     since: SpecVersion,
-    version: SpecVersion,
-    label: SpecVersion,
+    keeping: Keeping,
 ) -> Result<Option<T>, AllocError>
     ensures { IfOk result (λ r. present T.tree r
-        ≡ late_kept since version (kept version label (present T.tree held.now) T.kind)) }
+        ≡ late_kept since keeping.version (kept keeping.version keeping.label
+        (present T.tree held.now) T.kind)) }
 {
-    if since.is_known_to(version) {
-        keep_row(alloc, held, version, label)
+    if since.is_known_to(keeping.version) {
+        keep_row(held, keeping)
     } else {
         Ok(None)
     }
@@ -281,35 +268,31 @@ pub fn keep_row_since<T: Kept>(
 
 /// What a version keeps of a list that may be absent.
 pub fn keep_optional_list<T: Kept + Drop>(
-    alloc: Global,
     held: &Option<List<T>>,
-    version: SpecVersion,
-    label: SpecVersion,
+    keeping: Keeping,
 ) -> Result<Option<List<T>>, AllocError>
     ensures { (l : Lists) → IsListOf T.kind l → IfOk result
         (λ r. present (list_tree T.tree) r
-        ≡ kept version label (present (list_tree T.tree) held.now) (a_list l)) }
+        ≡ kept keeping.version keeping.label (present (list_tree T.tree) held.now) (a_list l)) }
 {
     match held {
         None => Ok(None),
-        Some(held) => Ok(Some(keep_list(alloc, held, version, label)?)),
+        Some(held) => Ok(Some(keep_list(held, keeping)?)),
     }
 }
 
 /// What a version keeps of a list that may be absent: nothing where the version is before `since`.
 pub fn keep_optional_list_since<T: Kept + Drop>(
-    alloc: Global,
     held: &Option<List<T>>,
     since: SpecVersion,
-    version: SpecVersion,
-    label: SpecVersion,
+    keeping: Keeping,
 ) -> Result<Option<List<T>>, AllocError>
     ensures { (l : Lists) → IsListOf T.kind l → IfOk result (λ r. present (list_tree T.tree) r
-        ≡ late_kept since version
-        (kept version label (present (list_tree T.tree) held.now) (a_list l))) }
+        ≡ late_kept since keeping.version
+        (kept keeping.version keeping.label (present (list_tree T.tree) held.now) (a_list l))) }
 {
-    if since.is_known_to(version) {
-        keep_optional_list(alloc, held, version, label)
+    if since.is_known_to(keeping.version) {
+        keep_optional_list(held, keeping)
     } else {
         Ok(None)
     }

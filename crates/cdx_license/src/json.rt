@@ -15,25 +15,21 @@ ghost use Rattle.cdx_json.specs.KeptRows.{put_own};
 
 use crate::license::{Expression, License, LicenseChoice, LicenseIdentifier, Licenses};
 use cdx_json::{
-    Depth, FromJson, JsonRecord, Kept, ToJson, first_or_old, has_member, here, keep_list, keep_row,
-    keep_row_since, list_from_value, list_to_value, missing, optional_row, optional_row_since,
-    put_required, put_row, put_row_since, required_row,
+    Context, FromJson, JsonRecord, Keeping, Kept, Members, ToJson, first_or_old, has_member, here,
+    keep_list, keep_row, keep_row_since, list_from_value, list_to_value, missing, optional_row,
+    optional_row_since, put_required, put_row, put_row_since, required_row,
 };
 use cdx_models::{JsonKind, JsonReadError, SpecVersion};
+use cdx_schema::Target;
 use serde_json::{Map, Value};
 use std::alloc::{AllocError, Global};
 
 impl JsonRecord for Expression {
     #[tactic(auto, unfolding(cdx_json::proofs::OnRows::on_rows))]
-    fn from_members(
-        alloc: Global,
-        map: &Map<String, Value>,
-        version: SpecVersion,
-        depth: Depth,
-    ) -> Result<Expression, JsonReadError> {
+    fn from_members(map: &Members, context: Context) -> Result<Expression, JsonReadError> {
         let reference = first_or_old(map, "bom-ref", "bomRef");
-        let bom_ref = optional_row(alloc, map, reference, version, depth)?;
-        let expression = required_row(alloc, map, "expression", version, depth)?;
+        let bom_ref = optional_row(map, reference, context)?;
+        let expression = required_row(map, "expression", context)?;
         Ok(Expression {
             bom_ref,
             expression,
@@ -41,51 +37,29 @@ impl JsonRecord for Expression {
     }
 
     #[tactic(auto, unfolding(cdx_json::proofs::OnRows::on_rows))]
-    fn kept_rows(
-        &self,
-        alloc: Global,
-        version: SpecVersion,
-        label: SpecVersion,
-    ) -> Result<Expression, AllocError> {
+    fn kept_rows(&self, keeping: Keeping) -> Result<Expression, AllocError> {
         Ok(Expression {
-            bom_ref: keep_row(alloc, &self.bom_ref, version, label)?,
-            expression: self.expression.kept_as(alloc, version, label)?,
+            bom_ref: keep_row(&self.bom_ref, keeping)?,
+            expression: self.expression.kept_as(keeping)?,
         })
     }
 
     #[tactic(auto, unfolding(cdx_json::proofs::OnRows::on_rows))]
-    fn put_members(
-        &self,
-        alloc: Global,
-        map: &mut Map<String, Value>,
-        version: SpecVersion,
-    ) -> Result<(), AllocError> {
-        put_row(alloc, map, "bom-ref", &self.bom_ref, version)?;
-        put_required(alloc, map, "expression", &self.expression, version)
+    fn put_members(&self, map: &mut Members, target: Target) -> Result<(), AllocError> {
+        put_row(map, "bom-ref", &self.bom_ref, target)?;
+        put_required(map, "expression", &self.expression, target)
     }
 }
 
 impl JsonRecord for License {
     #[tactic(auto, unfolding(cdx_json::proofs::OnRows::on_rows))]
-    fn from_members(
-        alloc: Global,
-        map: &Map<String, Value>,
-        version: SpecVersion,
-        depth: Depth,
-    ) -> Result<License, JsonReadError> {
+    fn from_members(map: &Members, context: Context) -> Result<License, JsonReadError> {
         let reference = first_or_old(map, "bom-ref", "bomRef");
-        let bom_ref = optional_row_since(alloc, map, reference, SpecVersion::V1_5, version, depth)?;
-        let license_identifier = identifier_from_members(alloc, map, version, depth)?;
-        let text = optional_row(alloc, map, "text", version, depth)?;
-        let url = optional_row(alloc, map, "url", version, depth)?;
-        let properties = optional_row_since(
-            alloc,
-            map,
-            "properties",
-            SpecVersion::V1_5,
-            version,
-            depth,
-        )?;
+        let bom_ref = optional_row_since(map, reference, SpecVersion::V1_5, context)?;
+        let license_identifier = identifier_from_members(map, context)?;
+        let text = optional_row(map, "text", context)?;
+        let url = optional_row(map, "url", context)?;
+        let properties = optional_row_since(map, "properties", SpecVersion::V1_5, context)?;
         Ok(License {
             bom_ref,
             license_identifier,
@@ -96,46 +70,28 @@ impl JsonRecord for License {
     }
 
     #[tactic(auto, unfolding(cdx_json::proofs::OnRows::on_rows))]
-    fn kept_rows(
-        &self,
-        alloc: Global,
-        version: SpecVersion,
-        label: SpecVersion,
-    ) -> Result<License, AllocError> {
+    fn kept_rows(&self, keeping: Keeping) -> Result<License, AllocError> {
         Ok(License {
-            bom_ref: keep_row_since(alloc, &self.bom_ref, SpecVersion::V1_5, version, label)?,
-            license_identifier: self.license_identifier.kept_as(alloc, version, label)?,
-            text: keep_row(alloc, &self.text, version, label)?,
-            url: keep_row(alloc, &self.url, version, label)?,
-            properties: keep_row_since(alloc, &self.properties, SpecVersion::V1_5, version, label)?,
+            bom_ref: keep_row_since(&self.bom_ref, SpecVersion::V1_5, keeping)?,
+            license_identifier: self.license_identifier.kept_as(keeping)?,
+            text: keep_row(&self.text, keeping)?,
+            url: keep_row(&self.url, keeping)?,
+            properties: keep_row_since(&self.properties, SpecVersion::V1_5, keeping)?,
         })
     }
 
     #[tactic(auto, unfolding(cdx_json::proofs::OnRows::on_rows))]
-    fn put_members(
-        &self,
-        alloc: Global,
-        map: &mut Map<String, Value>,
-        version: SpecVersion,
-    ) -> Result<(), AllocError> {
+    fn put_members(&self, map: &mut Members, target: Target) -> Result<(), AllocError> {
+        put_row_since(map, "bom-ref", &self.bom_ref, SpecVersion::V1_5, target)?;
+        put_identifier(map, &self.license_identifier, target)?;
+        put_row(map, "text", &self.text, target)?;
+        put_row(map, "url", &self.url, target)?;
         put_row_since(
-            alloc,
-            map,
-            "bom-ref",
-            &self.bom_ref,
-            SpecVersion::V1_5,
-            version,
-        )?;
-        put_identifier(alloc, map, &self.license_identifier, version)?;
-        put_row(alloc, map, "text", &self.text, version)?;
-        put_row(alloc, map, "url", &self.url, version)?;
-        put_row_since(
-            alloc,
             map,
             "properties",
             &self.properties,
             SpecVersion::V1_5,
-            version,
+            target,
         )?;
         Ok(())
     }
@@ -143,13 +99,8 @@ impl JsonRecord for License {
 
 impl FromJson for Licenses {
     #[tactic(auto, unfolding(cdx_schema::specs::Table::list))]
-    fn from_json_at(
-        alloc: Global,
-        value: &Value,
-        version: SpecVersion,
-        depth: Depth,
-    ) -> Result<Licenses, JsonReadError> {
-        Ok(Licenses(list_from_value(alloc, value, version, depth)?))
+    fn from_json_at(value: &Value, context: Context) -> Result<Licenses, JsonReadError> {
+        Ok(Licenses(list_from_value(value, context)?))
     }
 }
 
@@ -157,13 +108,8 @@ impl Kept for Licenses {
     ghost stays = { λ w l x. list_stays w l licenses _ };
 
     #[tactic(auto, unfolding(cdx_schema::specs::Table::list))]
-    fn kept_as(
-        &self,
-        alloc: Global,
-        version: SpecVersion,
-        label: SpecVersion,
-    ) -> Result<Licenses, AllocError> {
-        Ok(Licenses(keep_list(alloc, &self.0, version, label)?))
+    fn kept_as(&self, keeping: Keeping) -> Result<Licenses, AllocError> {
+        Ok(Licenses(keep_list(&self.0, keeping)?))
     }
 }
 
@@ -176,54 +122,41 @@ impl ToJson for Licenses {
 
 impl FromJson for LicenseIdentifier {
     /// It is read from the license's object.
-    fn from_json_at(
-        alloc: Global,
-        value: &Value,
-        version: SpecVersion,
-        depth: Depth,
-    ) -> Result<LicenseIdentifier, JsonReadError> {
+    fn from_json_at(value: &Value, context: Context) -> Result<LicenseIdentifier, JsonReadError> {
         match value.as_object() {
-            None => Err(here(alloc, JsonKind::WrongKind)),
-            Some(map) => identifier_from_members(alloc, map, version, depth),
+            None => Err(here(context.alloc, JsonKind::WrongKind)),
+            Some(map) => identifier_from_members(map, context),
         }
     }
 }
 
 /// The SPDX id where there is an `id`, else the name.
 fn identifier_from_members(
-    alloc: Global,
-    map: &Map<String, Value>,
-    version: SpecVersion,
-    depth: Depth,
+    map: &Members,
+    context: Context,
 ) -> Result<LicenseIdentifier, JsonReadError>
     ensures { Gives identifier_tree result
-        (identifier_of (seen (members_view map.now.entries)) version (depth_of depth)) }
+        (identifier_of (seen (members_view map.now.entries)) context.version
+        (depth_of context.depth)) }
 {
     if has_member(map, "id") {
-        Ok(LicenseIdentifier::SpdxId(required_row(alloc, map, "id", version, depth)?))
+        Ok(LicenseIdentifier::SpdxId(required_row(map, "id", context)?))
     } else if has_member(map, "name") {
-        Ok(LicenseIdentifier::Name(required_row(alloc, map, "name", version, depth)?))
+        Ok(LicenseIdentifier::Name(required_row(map, "name", context)?))
     } else {
-        Err(missing(alloc, "id"))
+        Err(missing(context.alloc, "id"))
     }
 }
 
 impl Kept for LicenseIdentifier {
     ghost stays = { identifier_stays };
 
-    fn kept_as(
-        &self,
-        alloc: Global,
-        version: SpecVersion,
-        label: SpecVersion,
-    ) -> Result<LicenseIdentifier, AllocError> {
+    fn kept_as(&self, keeping: Keeping) -> Result<LicenseIdentifier, AllocError> {
         match self {
             LicenseIdentifier::SpdxId(held) => Ok(LicenseIdentifier::SpdxId(held.kept_as(
-                alloc, version, label,
+                keeping,
             )?)),
-            LicenseIdentifier::Name(held) => Ok(LicenseIdentifier::Name(held.kept_as(
-                alloc, version, label,
-            )?)),
+            LicenseIdentifier::Name(held) => Ok(LicenseIdentifier::Name(held.kept_as(keeping)?)),
         }
     }
 }
@@ -232,59 +165,48 @@ impl ToJson for LicenseIdentifier {
     /// The object that has it as its one member.
     fn to_value(&self, alloc: Global, version: SpecVersion) -> Result<Value, AllocError> {
         let mut map = Map::new(alloc);
-        put_identifier(alloc, &mut map, self, version)?;
+        put_identifier(&mut map, self, Target { alloc, version })?;
         Ok(Value::Object(map))
     }
 }
 
 /// Sets the license's member `id` or `name`.
 fn put_identifier(
-    alloc: Global,
-    map: &mut Map<String, Value>,
+    map: &mut Members,
     held: &LicenseIdentifier,
-    version: SpecVersion,
+    target: Target,
 ) -> Result<(), AllocError>
     ensures { OnOk result (members_view map.new.entries ≡ put_own a_license_identifier
-        (identifier_tree held.now) version (members_view map.old.entries)) }
+        (identifier_tree held.now) target.version (members_view map.old.entries)) }
 {
     match held {
-        LicenseIdentifier::SpdxId(id) => put_required(alloc, map, "id", id, version),
-        LicenseIdentifier::Name(name) => put_required(alloc, map, "name", name, version),
+        LicenseIdentifier::SpdxId(id) => put_required(map, "id", id, target),
+        LicenseIdentifier::Name(name) => put_required(map, "name", name, target),
     }
 }
 
 impl FromJson for LicenseChoice {
     /// An object whose only member is `license` is a license, and any other object an expression.
-    fn from_json_at(
-        alloc: Global,
-        value: &Value,
-        version: SpecVersion,
-        depth: Depth,
-    ) -> Result<LicenseChoice, JsonReadError> {
+    fn from_json_at(value: &Value, context: Context) -> Result<LicenseChoice, JsonReadError> {
         match value.as_object() {
-            None => Err(here(alloc, JsonKind::WrongKind)),
-            Some(map) => choice_from_members(alloc, map, version, depth),
+            None => Err(here(context.alloc, JsonKind::WrongKind)),
+            Some(map) => choice_from_members(map, context),
         }
     }
 }
 
-fn choice_from_members(
-    alloc: Global,
-    map: &Map<String, Value>,
-    version: SpecVersion,
-    depth: Depth,
-) -> Result<LicenseChoice, JsonReadError>
+fn choice_from_members(map: &Members, context: Context) -> Result<LicenseChoice, JsonReadError>
     ensures { Gives choice_tree result
-        (choice_of (members_view map.now.entries) version (depth_of depth)) }
+        (choice_of (members_view map.now.entries) context.version (depth_of context.depth)) }
 {
     if is_lone_license(map) {
-        Ok(LicenseChoice::License(required_row(alloc, map, "license", version, depth)?))
+        Ok(LicenseChoice::License(required_row(map, "license", context)?))
     } else {
-        Ok(LicenseChoice::Expression(Expression::from_members(alloc, map, version, depth)?))
+        Ok(LicenseChoice::Expression(Expression::from_members(map, context)?))
     }
 }
 
-fn is_lone_license(map: &Map<String, Value>) -> bool
+fn is_lone_license(map: &Members) -> bool
     ensures { result ≡ is_lone_license (members_view map.now.entries) }
 {
     map.len() == 1 && has_member(map, "license")
@@ -293,18 +215,11 @@ fn is_lone_license(map: &Map<String, Value>) -> bool
 impl Kept for LicenseChoice {
     ghost stays = { choice_stays };
 
-    fn kept_as(
-        &self,
-        alloc: Global,
-        version: SpecVersion,
-        label: SpecVersion,
-    ) -> Result<LicenseChoice, AllocError> {
+    fn kept_as(&self, keeping: Keeping) -> Result<LicenseChoice, AllocError> {
         match self {
-            LicenseChoice::License(held) => Ok(LicenseChoice::License(held.kept_as(
-                alloc, version, label,
-            )?)),
+            LicenseChoice::License(held) => Ok(LicenseChoice::License(held.kept_as(keeping)?)),
             LicenseChoice::Expression(held) => Ok(LicenseChoice::Expression(held.kept_as(
-                alloc, version, label,
+                keeping,
             )?)),
         }
     }
@@ -316,7 +231,7 @@ impl ToJson for LicenseChoice {
         match self {
             LicenseChoice::License(held) => {
                 let mut map = Map::new(alloc);
-                put_required(alloc, &mut map, "license", held, version)?;
+                put_required(&mut map, "license", held, Target { alloc, version })?;
                 Ok(Value::Object(map))
             }
             LicenseChoice::Expression(held) => held.to_value(alloc, version),

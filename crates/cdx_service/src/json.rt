@@ -7,8 +7,9 @@ mod reading;
 mod writing;
 
 use crate::service::{Service, Services};
-use cdx_json::{Depth, FromJson, Kept, ToJson};
+use cdx_json::{Context, FromJson, Keeping, Kept, ToJson};
 use cdx_models::{JsonReadError, SpecVersion};
+use cdx_schema::Target;
 use keeping::{keep_service, keep_services};
 use reading::{read_service, read_services};
 use serde_json::Value;
@@ -16,61 +17,41 @@ use std::alloc::{AllocError, Global};
 use writing::{write_service, write_services};
 
 impl FromJson for Service {
-    fn from_json_at(
-        alloc: Global,
-        value: &Value,
-        version: SpecVersion,
-        depth: Depth,
-    ) -> Result<Service, JsonReadError> {
-        read_service(alloc, value, version, depth)
+    fn from_json_at(value: &Value, context: Context) -> Result<Service, JsonReadError> {
+        read_service(value, context)
     }
 }
 
 impl Kept for Service {
     ghost stays = { service_stays };
 
-    fn kept_as(
-        &self,
-        alloc: Global,
-        version: SpecVersion,
-        label: SpecVersion,
-    ) -> Result<Service, AllocError> {
-        keep_service(self, alloc, version, label)
+    fn kept_as(&self, keeping: Keeping) -> Result<Service, AllocError> {
+        keep_service(self, keeping)
     }
 }
 
 impl ToJson for Service {
     fn to_value(&self, alloc: Global, version: SpecVersion) -> Result<Value, AllocError> {
-        write_service(self, alloc, version)
+        write_service(self, Target { alloc, version })
     }
 }
 
 impl FromJson for Services {
-    fn from_json_at(
-        alloc: Global,
-        value: &Value,
-        version: SpecVersion,
-        depth: Depth,
-    ) -> Result<Services, JsonReadError> {
-        read_services(alloc, value, version, depth)
+    fn from_json_at(value: &Value, context: Context) -> Result<Services, JsonReadError> {
+        read_services(value, context)
     }
 }
 
 impl Kept for Services {
     ghost stays = { services_stay };
 
-    fn kept_as(
-        &self,
-        alloc: Global,
-        version: SpecVersion,
-        label: SpecVersion,
-    ) -> Result<Services, AllocError> {
-        keep_services(self, alloc, version, label)
+    fn kept_as(&self, keeping: Keeping) -> Result<Services, AllocError> {
+        keep_services(self, keeping)
     }
 }
 
 impl ToJson for Services {
     fn to_value(&self, alloc: Global, version: SpecVersion) -> Result<Value, AllocError> {
-        write_services(self, alloc, version)
+        write_services(self, Target { alloc, version })
     }
 }

@@ -10,23 +10,19 @@ ghost use Rattle.cdx_service_data.specs.Stays.{data_stays};
 
 use crate::service::{Data, DataClassification, ServiceData, classifications};
 use cdx_json::{
-    Depth, FromJson, JsonRecord, Kept, ToJson, here, keep_list, keep_row, list_from_items,
-    list_to_value, optional_row, put_required, put_row, required_row,
+    Context, FromJson, JsonRecord, Keeping, Kept, Members, ToJson, here, keep_list, keep_row,
+    list_from_items, list_to_value, optional_row, put_required, put_row, required_row,
 };
 use cdx_models::{JsonKind, JsonReadError, SpecVersion};
-use serde_json::{Map, Value};
+use cdx_schema::Target;
+use serde_json::Value;
 use std::alloc::{AllocError, Global};
 
 impl JsonRecord for DataClassification {
     #[tactic(auto, unfolding(cdx_json::proofs::OnRows::on_rows))]
-    fn from_members(
-        alloc: Global,
-        map: &Map<String, Value>,
-        version: SpecVersion,
-        depth: Depth,
-    ) -> Result<DataClassification, JsonReadError> {
-        let flow = required_row(alloc, map, "flow", version, depth)?;
-        let classification = required_row(alloc, map, "classification", version, depth)?;
+    fn from_members(map: &Members, context: Context) -> Result<DataClassification, JsonReadError> {
+        let flow = required_row(map, "flow", context)?;
+        let classification = required_row(map, "classification", context)?;
         Ok(DataClassification {
             flow,
             classification,
@@ -34,41 +30,26 @@ impl JsonRecord for DataClassification {
     }
 
     #[tactic(auto, unfolding(cdx_json::proofs::OnRows::on_rows))]
-    fn kept_rows(
-        &self,
-        alloc: Global,
-        version: SpecVersion,
-        label: SpecVersion,
-    ) -> Result<DataClassification, AllocError> {
+    fn kept_rows(&self, keeping: Keeping) -> Result<DataClassification, AllocError> {
         Ok(DataClassification {
-            flow: self.flow.kept_as(alloc, version, label)?,
-            classification: self.classification.kept_as(alloc, version, label)?,
+            flow: self.flow.kept_as(keeping)?,
+            classification: self.classification.kept_as(keeping)?,
         })
     }
 
     #[tactic(auto, unfolding(cdx_json::proofs::OnRows::on_rows))]
-    fn put_members(
-        &self,
-        alloc: Global,
-        map: &mut Map<String, Value>,
-        version: SpecVersion,
-    ) -> Result<(), AllocError> {
-        put_required(alloc, map, "flow", &self.flow, version)?;
-        put_required(alloc, map, "classification", &self.classification, version)
+    fn put_members(&self, map: &mut Members, target: Target) -> Result<(), AllocError> {
+        put_required(map, "flow", &self.flow, target)?;
+        put_required(map, "classification", &self.classification, target)
     }
 }
 
 impl JsonRecord for ServiceData {
     #[tactic(auto, unfolding(cdx_json::proofs::OnRows::on_rows))]
-    fn from_members(
-        alloc: Global,
-        map: &Map<String, Value>,
-        version: SpecVersion,
-        depth: Depth,
-    ) -> Result<ServiceData, JsonReadError> {
-        let name = optional_row(alloc, map, "name", version, depth)?;
-        let description = optional_row(alloc, map, "description", version, depth)?;
-        let classification = DataClassification::from_members(alloc, map, version, depth)?;
+    fn from_members(map: &Members, context: Context) -> Result<ServiceData, JsonReadError> {
+        let name = optional_row(map, "name", context)?;
+        let description = optional_row(map, "description", context)?;
+        let classification = DataClassification::from_members(map, context)?;
         Ok(ServiceData {
             name,
             description,
@@ -77,60 +58,40 @@ impl JsonRecord for ServiceData {
     }
 
     #[tactic(auto, unfolding(cdx_json::proofs::OnRows::on_rows))]
-    fn kept_rows(
-        &self,
-        alloc: Global,
-        version: SpecVersion,
-        label: SpecVersion,
-    ) -> Result<ServiceData, AllocError> {
+    fn kept_rows(&self, keeping: Keeping) -> Result<ServiceData, AllocError> {
         Ok(ServiceData {
-            name: keep_row(alloc, &self.name, version, label)?,
-            description: keep_row(alloc, &self.description, version, label)?,
-            classification: self.classification.kept_as(alloc, version, label)?,
+            name: keep_row(&self.name, keeping)?,
+            description: keep_row(&self.description, keeping)?,
+            classification: self.classification.kept_as(keeping)?,
         })
     }
 
     #[tactic(auto, unfolding(cdx_json::proofs::OnRows::on_rows))]
-    fn put_members(
-        &self,
-        alloc: Global,
-        map: &mut Map<String, Value>,
-        version: SpecVersion,
-    ) -> Result<(), AllocError> {
-        put_row(alloc, map, "name", &self.name, version)?;
-        put_row(alloc, map, "description", &self.description, version)?;
-        self.classification.put_members(alloc, map, version)
+    fn put_members(&self, map: &mut Members, target: Target) -> Result<(), AllocError> {
+        put_row(map, "name", &self.name, target)?;
+        put_row(map, "description", &self.description, target)?;
+        self.classification.put_members(map, target)
     }
 }
 
 impl FromJson for Data {
     /// An array. In 1.5 each item is read as a service data, before as a classification.
-    fn from_json_at(
-        alloc: Global,
-        value: &Value,
-        version: SpecVersion,
-        depth: Depth,
-    ) -> Result<Data, JsonReadError> {
+    fn from_json_at(value: &Value, context: Context) -> Result<Data, JsonReadError> {
         match value.as_array() {
-            None => Err(here(alloc, JsonKind::WrongKind)),
-            Some(items) => entries_from_items(alloc, items, version, depth),
+            None => Err(here(context.alloc, JsonKind::WrongKind)),
+            Some(items) => entries_from_items(items, context),
         }
     }
 }
 
-fn entries_from_items(
-    alloc: Global,
-    items: &Vec<Value>,
-    version: SpecVersion,
-    depth: Depth,
-) -> Result<Data, JsonReadError>
+fn entries_from_items(items: &Vec<Value>, context: Context) -> Result<Data, JsonReadError>
     ensures { Gives data_tree result
-        (list_read (items_view items.now.items) version an_entry (depth_of depth)) }
+        (list_read (items_view items.now.items) context.version an_entry (depth_of context.depth)) }
 {
-    if SpecVersion::V1_5.is_known_to(version) {
-        Ok(Data::ServiceData(list_from_items(alloc, items, version, depth)?))
+    if SpecVersion::V1_5.is_known_to(context.version) {
+        Ok(Data::ServiceData(list_from_items(items, context)?))
     } else {
-        Ok(Data::Classification(list_from_items(alloc, items, version, depth)?))
+        Ok(Data::Classification(list_from_items(items, context)?))
     }
 }
 
@@ -138,22 +99,15 @@ impl Kept for Data {
     ghost stays = { data_stays };
 
     /// Before 1.5 each flow becomes its classification.
-    fn kept_as(
-        &self,
-        alloc: Global,
-        version: SpecVersion,
-        label: SpecVersion,
-    ) -> Result<Data, AllocError> {
+    fn kept_as(&self, keeping: Keeping) -> Result<Data, AllocError> {
         match self {
-            Data::Classification(held) => Ok(Data::Classification(keep_list(
-                alloc, held, version, label,
-            )?)),
+            Data::Classification(held) => Ok(Data::Classification(keep_list(held, keeping)?)),
             Data::ServiceData(held) => {
-                if !SpecVersion::V1_5.is_known_to(version) {
-                    let held = classifications(alloc, held)?;
-                    return Ok(Data::Classification(keep_list(alloc, &held, version, label)?));
+                if !SpecVersion::V1_5.is_known_to(keeping.version) {
+                    let held = classifications(keeping.alloc, held)?;
+                    return Ok(Data::Classification(keep_list(&held, keeping)?));
                 }
-                Ok(Data::ServiceData(keep_list(alloc, held, version, label)?))
+                Ok(Data::ServiceData(keep_list(held, keeping)?))
             }
         }
     }

@@ -20,29 +20,25 @@ ghost use Rattle.cdx_json.specs.KeptRows.{put_kept};
 use crate::signature::{Algorithm, Signature, Signer};
 use cdx_events::List;
 use cdx_json::{
-    Depth, FromJson, JsonRecord, Kept, ToJson, has_value, here, keep_list, list_from_items,
-    list_row, put_required, put_required_list, required_row,
+    Context, FromJson, JsonRecord, Keeping, Kept, Members, ToJson, has_value, here, keep_list,
+    list_from_items, list_row, put_required, put_required_list, required_row,
 };
 use cdx_models::{HasTree, JsonKind, JsonReadError, SpecVersion};
+use cdx_schema::Target;
 use serde_json::{Map, Value};
 use std::alloc::{AllocError, Global};
 
 impl FromJson for Algorithm {
     /// A text, as any `Algorithm` that a text gives: the variant is the one that `Algorithm::new_unchecked` gives.
-    fn from_json_at(
-        alloc: Global,
-        value: &Value,
-        version: SpecVersion,
-        depth: Depth,
-    ) -> Result<Algorithm, JsonReadError>
+    fn from_json_at(value: &Value, context: Context) -> Result<Algorithm, JsonReadError>
         ensures gives { Gives algorithm_tree result
-            (jread (view value.now) version a_text (depth_of depth)) }
+            (jread (view value.now) context.version a_text (depth_of context.depth)) }
         ensures variant { IfOk result
             (λ r. option_map algorithm_of (as_str (view value.now)) ≡ Some r) }
     {
         match value.as_str() {
-            None => Err(here(alloc, JsonKind::WrongKind)),
-            Some(text) => Ok(Algorithm::new_unchecked(alloc, text)?),
+            None => Err(here(context.alloc, JsonKind::WrongKind)),
+            Some(text) => Ok(Algorithm::new_unchecked(context.alloc, text)?),
         }
     }
 }
@@ -51,17 +47,13 @@ impl Kept for Algorithm {
     ghost stays = { λ w l x. text_stays w l _ };
 
     #[tactic(auto, unfolding(cdx_schema::specs::Keeping::kept))]
-    fn kept_as(
-        &self,
-        alloc: Global,
-        version: SpecVersion,
-        label: SpecVersion,
-    ) -> Result<Algorithm, AllocError>
+    fn kept_as(&self, keeping: Keeping) -> Result<Algorithm, AllocError>
         ensures gives { IfOk result
-            (λ r. algorithm_tree r ≡ kept version label (algorithm_tree self.now) a_text) }
+            (λ r. algorithm_tree r ≡ kept keeping.version keeping.label (algorithm_tree self.now)
+            a_text) }
         ensures variant { IfOk result (λ r. r ≡ self.now) }
     {
-        self.copy(alloc)
+        self.copy(keeping.alloc)
     }
 }
 
@@ -74,93 +66,62 @@ impl ToJson for Algorithm {
 
 impl JsonRecord for Signer {
     #[tactic(auto, unfolding(cdx_json::proofs::OnRows::on_rows))]
-    fn from_members(
-        alloc: Global,
-        map: &Map<String, Value>,
-        version: SpecVersion,
-        depth: Depth,
-    ) -> Result<Signer, JsonReadError> {
-        let algorithm = required_row(alloc, map, "algorithm", version, depth)?;
-        let value = required_row(alloc, map, "value", version, depth)?;
+    fn from_members(map: &Members, context: Context) -> Result<Signer, JsonReadError> {
+        let algorithm = required_row(map, "algorithm", context)?;
+        let value = required_row(map, "value", context)?;
         Ok(Signer { algorithm, value })
     }
 
     #[tactic(auto, unfolding(cdx_json::proofs::OnRows::on_rows))]
-    fn kept_rows(
-        &self,
-        alloc: Global,
-        version: SpecVersion,
-        label: SpecVersion,
-    ) -> Result<Signer, AllocError> {
+    fn kept_rows(&self, keeping: Keeping) -> Result<Signer, AllocError> {
         Ok(Signer {
-            algorithm: self.algorithm.kept_as(alloc, version, label)?,
-            value: self.value.kept_as(alloc, version, label)?,
+            algorithm: self.algorithm.kept_as(keeping)?,
+            value: self.value.kept_as(keeping)?,
         })
     }
 
     #[tactic(auto, unfolding(cdx_json::proofs::OnRows::on_rows))]
-    fn put_members(
-        &self,
-        alloc: Global,
-        map: &mut Map<String, Value>,
-        version: SpecVersion,
-    ) -> Result<(), AllocError> {
-        put_required(alloc, map, "algorithm", &self.algorithm, version)?;
-        put_required(alloc, map, "value", &self.value, version)
+    fn put_members(&self, map: &mut Members, target: Target) -> Result<(), AllocError> {
+        put_required(map, "algorithm", &self.algorithm, target)?;
+        put_required(map, "value", &self.value, target)
     }
 }
 
 impl FromJson for Signature {
     /// An array is signers. An object is the signers or else the chain where it has them, and else a single signer.
-    fn from_json_at(
-        alloc: Global,
-        value: &Value,
-        version: SpecVersion,
-        depth: Depth,
-    ) -> Result<Signature, JsonReadError> {
+    fn from_json_at(value: &Value, context: Context) -> Result<Signature, JsonReadError> {
         match value.as_array() {
-            Some(items) => Ok(Signature::Signers(list_from_items(alloc, items, version, depth)?)),
+            Some(items) => Ok(Signature::Signers(list_from_items(items, context)?)),
             None => match value.as_object() {
-                None => Err(here(alloc, JsonKind::WrongKind)),
-                Some(map) => signature_from_members(alloc, map, version, depth),
+                None => Err(here(context.alloc, JsonKind::WrongKind)),
+                Some(map) => signature_from_members(map, context),
             },
         }
     }
 }
 
-fn signature_from_members(
-    alloc: Global,
-    map: &Map<String, Value>,
-    version: SpecVersion,
-    depth: Depth,
-) -> Result<Signature, JsonReadError>
+fn signature_from_members(map: &Members, context: Context) -> Result<Signature, JsonReadError>
     ensures { Gives signature_tree result
-        (signature_of (seen (members_view map.now.entries)) version (depth_of depth)) }
+        (signature_of (seen (members_view map.now.entries)) context.version
+        (depth_of context.depth)) }
 {
     if has_value(map, "signers") {
-        Ok(Signature::Signers(list_row(alloc, map, "signers", version, depth)?))
+        Ok(Signature::Signers(list_row(map, "signers", context)?))
     } else if has_value(map, "chain") {
-        Ok(Signature::Chain(list_row(alloc, map, "chain", version, depth)?))
+        Ok(Signature::Chain(list_row(map, "chain", context)?))
     } else {
-        Ok(Signature::Single(Signer::from_members(alloc, map, version, depth)?))
+        Ok(Signature::Single(Signer::from_members(map, context)?))
     }
 }
 
 impl Kept for Signature {
     ghost stays = { signature_stays };
 
-    fn kept_as(
-        &self,
-        alloc: Global,
-        version: SpecVersion,
-        label: SpecVersion,
-    ) -> Result<Signature, AllocError> {
+    fn kept_as(&self, keeping: Keeping) -> Result<Signature, AllocError> {
         match self {
-            Signature::Signers(held) => Ok(Signature::Signers(keep_list(
-                alloc, held, version, label,
-            )?)),
-            Signature::Chain(held) => Ok(Signature::Chain(keep_list(alloc, held, version, label)?)),
-            Signature::Single(held) => Ok(Signature::Single(held.kept_as(alloc, version, label)?)),
+            Signature::Signers(held) => Ok(Signature::Signers(keep_list(held, keeping)?)),
+            Signature::Chain(held) => Ok(Signature::Chain(keep_list(held, keeping)?)),
+            Signature::Single(held) => Ok(Signature::Single(held.kept_as(keeping)?)),
         }
     }
 }
@@ -186,6 +147,6 @@ fn signers_to_value(
         (list_tree signer_tree held.now) version no_members)) }
 {
     let mut map = Map::new(alloc);
-    put_required_list(alloc, &mut map, name, held, version)?;
+    put_required_list(&mut map, name, held, Target { alloc, version })?;
     Ok(Value::Object(map))
 }

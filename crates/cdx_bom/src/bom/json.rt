@@ -22,8 +22,9 @@ mod writing;
 use crate::bom::Bom;
 use crate::bom::parts::assemble;
 use cdx_events::Text;
-use cdx_json::{Depth, FromJson, Kept, ToJson, at_member, here, required_row};
+use cdx_json::{Context, FromJson, Keeping, Kept, Members, ToJson, at_member, here, required_row};
 use cdx_models::{JsonKind, JsonReadError, SpecVersion};
+use cdx_schema::Target;
 pub(crate) use floats::refuse_floats;
 use keeping::{keep_inventory, keep_relations};
 use reading::{read_inventory, read_relations};
@@ -32,15 +33,10 @@ use std::alloc::{AllocError, Global};
 use writing::{put_inventory, put_relations};
 
 impl FromJson for Bom {
-    fn from_json_at(
-        alloc: Global,
-        value: &Value,
-        version: SpecVersion,
-        depth: Depth,
-    ) -> Result<Bom, JsonReadError> {
+    fn from_json_at(value: &Value, context: Context) -> Result<Bom, JsonReadError> {
         match value.as_object() {
-            None => Err(here(alloc, JsonKind::WrongKind)),
-            Some(map) => bom_from_members(alloc, map, version, depth),
+            None => Err(here(context.alloc, JsonKind::WrongKind)),
+            Some(map) => bom_from_members(map, context),
         }
     }
 }
@@ -48,14 +44,9 @@ impl FromJson for Bom {
 impl Kept for Bom {
     ghost stays = { bill_stays };
 
-    fn kept_as(
-        &self,
-        alloc: Global,
-        version: SpecVersion,
-        label: SpecVersion,
-    ) -> Result<Bom, AllocError> {
-        let relations = keep_relations(self, alloc, version, label)?;
-        let inventory = keep_inventory(self, alloc, version, label)?;
+    fn kept_as(&self, keeping: Keeping) -> Result<Bom, AllocError> {
+        let relations = keep_relations(self, keeping)?;
+        let inventory = keep_inventory(self, keeping)?;
         Ok(assemble(inventory, relations))
     }
 }
@@ -64,25 +55,22 @@ impl ToJson for Bom {
     fn to_value(&self, alloc: Global, version: SpecVersion) -> Result<Value, AllocError> {
         let mut map = Map::new(alloc);
         put_format(alloc, &mut map)?;
-        put_inventory(self, alloc, &mut map, version)?;
-        put_relations(self, alloc, &mut map, version)?;
+        let target = Target { alloc, version };
+        put_inventory(self, &mut map, target)?;
+        put_relations(self, &mut map, target)?;
         Ok(Value::Object(map))
     }
 }
 
 // The bill whose members these are, or the first fault.
-fn bom_from_members(
-    alloc: Global,
-    map: &Map<String, Value>,
-    version: SpecVersion,
-    depth: Depth,
-) -> Result<Bom, JsonReadError>
+fn bom_from_members(map: &Members, context: Context) -> Result<Bom, JsonReadError>
     ensures { Gives bom_tree result
-        (bill_by_groups (seen (members_view map.now.entries)) version (depth_of depth)) }
+        (bill_by_groups (seen (members_view map.now.entries)) context.version
+        (depth_of context.depth)) }
 {
-    read_format(alloc, map, version, depth)?;
-    let inventory = read_inventory(alloc, map, version, depth)?;
-    match read_relations(alloc, map, version, depth) {
+    read_format(map, context)?;
+    let inventory = read_inventory(map, context)?;
+    match read_relations(map, context) {
         Ok(relations) => Ok(assemble(inventory, relations)),
         Err(error) => {
             drop(inventory);
@@ -94,24 +82,23 @@ fn bom_from_members(
 // The format's name, which each bill in JSON tells.
 const FORMAT: &str = "CycloneDX";
 
-fn read_format(
-    alloc: Global,
-    map: &Map<String, Value>,
-    version: SpecVersion,
-    depth: Depth,
-) -> Result<(), JsonReadError>
+fn read_format(map: &Members, context: Context) -> Result<(), JsonReadError>
     ensures { Gives format_text result
-        (format_of (seen (members_view map.now.entries)) version (depth_of depth)) }
+        (format_of (seen (members_view map.now.entries)) context.version (depth_of context.depth)) }
 {
-    let format: Text = required_row(alloc, map, "bomFormat", version, depth)?;
+    let format: Text = required_row(map, "bomFormat", context)?;
     if format.is(FORMAT) {
         Ok(())
     } else {
-        Err(at_member(alloc, "bomFormat", here(alloc, JsonKind::BadFormat)))
+        Err(at_member(
+            context.alloc,
+            "bomFormat",
+            here(context.alloc, JsonKind::BadFormat),
+        ))
     }
 }
 
-fn put_format(alloc: Global, map: &mut Map<String, Value>) -> Result<(), AllocError>
+fn put_format(alloc: Global, map: &mut Members) -> Result<(), AllocError>
     requires { members_view map.now.entries ≡ no_members }
     ensures { OnOk result (members_view map.new.entries ≡ heading bill) }
 {

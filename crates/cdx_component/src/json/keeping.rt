@@ -12,30 +12,25 @@ ghost use Rattle.cdx_json.specs.Groups.{group};
 
 use crate::component::parts::{Contents, Marks, Naming, Origin, assemble};
 use crate::component::{Component, Components, Pedigree};
-use cdx_json::{Kept, keep_row, keep_row_since};
+use cdx_json::{Keeping, Kept, keep_row, keep_row_since};
 use cdx_models::SpecVersion;
-use std::alloc::{AllocError, Global};
+use std::alloc::AllocError;
 
 /// What a version keeps of a component.
 #[cycle(component_keep)]
-pub(crate) fn keep_component(
-    held: &Component,
-    alloc: Global,
-    version: SpecVersion,
-    label: SpecVersion,
-) -> Result<Component, AllocError>
+pub(crate) fn keep_component(held: &Component, keeping: Keeping) -> Result<Component, AllocError>
     ensures { IfOk result (λ r. component_tree r
-        ≡ kept version label (component_tree held.now) (a_record component)) }
+        ≡ kept keeping.version keeping.label (component_tree held.now) (a_record component)) }
 {
-    let origin = keep_origin(held, alloc, version, label)?;
-    let naming = match keep_naming(held, alloc, version, label) {
+    let origin = keep_origin(held, keeping)?;
+    let naming = match keep_naming(held, keeping) {
         Ok(naming) => naming,
         Err(error) => {
             drop(origin);
             return Err(error);
         }
     };
-    let marks = match keep_marks(held, alloc, version, label) {
+    let marks = match keep_marks(held, keeping) {
         Ok(marks) => marks,
         Err(error) => {
             drop(origin);
@@ -43,7 +38,7 @@ pub(crate) fn keep_component(
             return Err(error);
         }
     };
-    let contents = match keep_contents(held, alloc, version, label) {
+    let contents = match keep_contents(held, keeping) {
         Ok(contents) => contents,
         Err(error) => {
             drop(origin);
@@ -57,39 +52,30 @@ pub(crate) fn keep_component(
 
 /// What a version keeps of a list of components.
 #[cycle(component_keep)]
-pub(crate) fn keep_components(
-    held: &Components,
-    alloc: Global,
-    version: SpecVersion,
-    label: SpecVersion,
-) -> Result<Components, AllocError>
+pub(crate) fn keep_components(held: &Components, keeping: Keeping) -> Result<Components, AllocError>
     ensures { IfOk result (λ r. components_tree r
-        ≡ kept version label (components_tree held.now) (a_list components)) }
+        ≡ kept keeping.version keeping.label (components_tree held.now) (a_list components)) }
 {
-    let mut copies = Components::with_capacity(alloc, held.len())?;
+    let mut copies = Components::with_capacity(keeping.alloc, held.len())?;
     for item in &held.items {
-        copies.push(keep_component(item, alloc, version, label)?)?;
+        copies.push(keep_component(item, keeping)?)?;
     }
     Ok(copies)
 }
 
 /// What a version keeps of a pedigree.
 #[cycle(component_keep)]
-pub(crate) fn keep_pedigree(
-    held: &Pedigree,
-    alloc: Global,
-    version: SpecVersion,
-    label: SpecVersion,
-) -> Result<Pedigree, AllocError>
+pub(crate) fn keep_pedigree(held: &Pedigree, keeping: Keeping) -> Result<Pedigree, AllocError>
     ensures { IfOk result
-        (λ r. pedigree_tree r ≡ kept version label (pedigree_tree held.now) (a_record pedigree)) }
+        (λ r. pedigree_tree r ≡ kept keeping.version keeping.label (pedigree_tree held.now)
+        (a_record pedigree)) }
 {
-    let ancestors = keep_components_row(&held.ancestors, alloc, version, label)?;
-    let descendants = keep_components_row(&held.descendants, alloc, version, label)?;
-    let variants = keep_components_row(&held.variants, alloc, version, label)?;
-    let commits = keep_row(alloc, &held.commits, version, label)?;
-    let patches = keep_row(alloc, &held.patches, version, label)?;
-    let notes = keep_row(alloc, &held.notes, version, label)?;
+    let ancestors = keep_components_row(&held.ancestors, keeping)?;
+    let descendants = keep_components_row(&held.descendants, keeping)?;
+    let variants = keep_components_row(&held.variants, keeping)?;
+    let commits = keep_row(&held.commits, keeping)?;
+    let patches = keep_row(&held.patches, keeping)?;
+    let notes = keep_row(&held.notes, keeping)?;
     Ok(Pedigree {
         ancestors,
         descendants,
@@ -101,21 +87,17 @@ pub(crate) fn keep_pedigree(
 }
 
 #[tactic(auto, unfolding(cdx_json::proofs::OnRows::on_rows))]
-fn keep_origin(
-    held: &Component,
-    alloc: Global,
-    version: SpecVersion,
-    label: SpecVersion,
-) -> Result<Origin, AllocError>
+fn keep_origin(held: &Component, keeping: Keeping) -> Result<Origin, AllocError>
     ensures { IfOk result (λ r. origin_trees r
-        ≡ rows_held version label (origin (out-Component held.now)) (group 0 component)) }
+        ≡ rows_held keeping.version keeping.label (origin (out-Component held.now))
+        (group 0 component)) }
 {
-    let component_type = held.component_type.kept_as(alloc, version, label)?;
-    let mime_type = keep_row(alloc, &held.mime_type, version, label)?;
-    let bom_ref = keep_row(alloc, &held.bom_ref, version, label)?;
-    let author = keep_row(alloc, &held.author, version, label)?;
-    let publisher = keep_row(alloc, &held.publisher, version, label)?;
-    let supplier = keep_row(alloc, &held.supplier, version, label)?;
+    let component_type = held.component_type.kept_as(keeping)?;
+    let mime_type = keep_row(&held.mime_type, keeping)?;
+    let bom_ref = keep_row(&held.bom_ref, keeping)?;
+    let author = keep_row(&held.author, keeping)?;
+    let publisher = keep_row(&held.publisher, keeping)?;
+    let supplier = keep_row(&held.supplier, keeping)?;
     Ok(Origin {
         component_type,
         mime_type,
@@ -127,21 +109,17 @@ fn keep_origin(
 }
 
 #[tactic(auto, unfolding(cdx_json::proofs::OnRows::on_rows))]
-fn keep_naming(
-    held: &Component,
-    alloc: Global,
-    version: SpecVersion,
-    label: SpecVersion,
-) -> Result<Naming, AllocError>
+fn keep_naming(held: &Component, keeping: Keeping) -> Result<Naming, AllocError>
     ensures { IfOk result (λ r. naming_trees r
-        ≡ rows_held version label (naming (out-Component held.now)) (group 1 component)) }
+        ≡ rows_held keeping.version keeping.label (naming (out-Component held.now))
+        (group 1 component)) }
 {
-    let group = keep_row(alloc, &held.group, version, label)?;
-    let name = held.name.kept_as(alloc, version, label)?;
-    let held_version = keep_row(alloc, &held.version, version, label)?;
-    let description = keep_row(alloc, &held.description, version, label)?;
-    let scope = keep_row(alloc, &held.scope, version, label)?;
-    let hashes = keep_row(alloc, &held.hashes, version, label)?;
+    let group = keep_row(&held.group, keeping)?;
+    let name = held.name.kept_as(keeping)?;
+    let held_version = keep_row(&held.version, keeping)?;
+    let description = keep_row(&held.description, keeping)?;
+    let scope = keep_row(&held.scope, keeping)?;
+    let hashes = keep_row(&held.hashes, keeping)?;
     Ok(Naming {
         group,
         name,
@@ -153,21 +131,17 @@ fn keep_naming(
 }
 
 #[tactic(auto, unfolding(cdx_json::proofs::OnRows::on_rows))]
-fn keep_marks(
-    held: &Component,
-    alloc: Global,
-    version: SpecVersion,
-    label: SpecVersion,
-) -> Result<Marks, AllocError>
+fn keep_marks(held: &Component, keeping: Keeping) -> Result<Marks, AllocError>
     ensures { IfOk result (λ r. marks_trees r
-        ≡ rows_held version label (marks (out-Component held.now)) (group 2 component)) }
+        ≡ rows_held keeping.version keeping.label (marks (out-Component held.now))
+        (group 2 component)) }
 {
-    let licenses = keep_row(alloc, &held.licenses, version, label)?;
-    let copyright = keep_row(alloc, &held.copyright, version, label)?;
-    let cpe = keep_row(alloc, &held.cpe, version, label)?;
-    let purl = keep_row(alloc, &held.purl, version, label)?;
-    let modified = keep_row(alloc, &held.modified, version, label)?;
-    let swid = keep_row(alloc, &held.swid, version, label)?;
+    let licenses = keep_row(&held.licenses, keeping)?;
+    let copyright = keep_row(&held.copyright, keeping)?;
+    let cpe = keep_row(&held.cpe, keeping)?;
+    let purl = keep_row(&held.purl, keeping)?;
+    let modified = keep_row(&held.modified, keeping)?;
+    let swid = keep_row(&held.swid, keeping)?;
     Ok(Marks {
         licenses,
         copyright,
@@ -180,22 +154,17 @@ fn keep_marks(
 
 #[cycle(component_keep)]
 #[tactic(auto, unfolding(cdx_json::proofs::OnRows::on_rows))]
-fn keep_contents(
-    held: &Component,
-    alloc: Global,
-    version: SpecVersion,
-    label: SpecVersion,
-) -> Result<Contents, AllocError>
-    ensures { IfOk result (λ r. contents_trees r ≡ rows_held version label
+fn keep_contents(held: &Component, keeping: Keeping) -> Result<Contents, AllocError>
+    ensures { IfOk result (λ r. contents_trees r ≡ rows_held keeping.version keeping.label
         (contents components_tree pedigree_tree (out-Component held.now))
         (group 3 component)) }
 {
-    let external_references = keep_row(alloc, &held.external_references, version, label)?;
-    let properties = keep_row(alloc, &held.properties, version, label)?;
-    let components = keep_components_row(&held.components, alloc, version, label)?;
-    let evidence = keep_row(alloc, &held.evidence, version, label)?;
-    let signature = keep_row_since(alloc, &held.signature, SpecVersion::V1_4, version, label)?;
-    let pedigree = keep_pedigree_row(&held.pedigree, alloc, version, label)?;
+    let external_references = keep_row(&held.external_references, keeping)?;
+    let properties = keep_row(&held.properties, keeping)?;
+    let components = keep_components_row(&held.components, keeping)?;
+    let evidence = keep_row(&held.evidence, keeping)?;
+    let signature = keep_row_since(&held.signature, SpecVersion::V1_4, keeping)?;
+    let pedigree = keep_pedigree_row(&held.pedigree, keeping)?;
     Ok(Contents {
         pedigree,
         external_references,
@@ -210,16 +179,14 @@ fn keep_contents(
 #[tactic(auto, unfolding(cdx_schema::specs::Keeping::kept))]
 fn keep_pedigree_row(
     held: &Option<Pedigree>,
-    alloc: Global,
-    version: SpecVersion,
-    label: SpecVersion,
+    keeping: Keeping,
 ) -> Result<Option<Pedigree>, AllocError>
     ensures { IfOk result (λ r. present pedigree_tree r
-        ≡ kept version label (present pedigree_tree held.now) (a_record pedigree)) }
+        ≡ kept keeping.version keeping.label (present pedigree_tree held.now) (a_record pedigree)) }
 {
     match held {
         None => Ok(None),
-        Some(held) => Ok(Some(keep_pedigree(held, alloc, version, label)?)),
+        Some(held) => Ok(Some(keep_pedigree(held, keeping)?)),
     }
 }
 
@@ -227,15 +194,14 @@ fn keep_pedigree_row(
 #[tactic(auto, unfolding(cdx_schema::specs::Keeping::kept))]
 fn keep_components_row(
     held: &Option<Components>,
-    alloc: Global,
-    version: SpecVersion,
-    label: SpecVersion,
+    keeping: Keeping,
 ) -> Result<Option<Components>, AllocError>
     ensures { IfOk result (λ r. present components_tree r
-        ≡ kept version label (present components_tree held.now) (a_list components)) }
+        ≡ kept keeping.version keeping.label (present components_tree held.now)
+        (a_list components)) }
 {
     match held {
         None => Ok(None),
-        Some(held) => Ok(Some(keep_components(held, alloc, version, label)?)),
+        Some(held) => Ok(Some(keep_components(held, keeping)?)),
     }
 }

@@ -15,58 +15,51 @@ ghost use Rattle.cdx_component.specs.Groups.{component_by_groups};
 use crate::component::parts::{Contents, Marks, Naming, Origin, assemble};
 use crate::component::{Component, Components, Pedigree};
 use cdx_json::{
-    Depth, at_item, at_member, first_row, here, member_not_null, optional_row, optional_row_since,
-    required_row,
+    Context, Depth, Members, at_item, at_member, first_row, here, member_not_null, optional_row,
+    optional_row_since, required_row,
 };
 use cdx_models::{JsonKind, JsonReadError, SpecVersion};
-use serde_json::{Map, Value};
-use std::alloc::Global;
+use serde_json::Value;
 
 /// The component that a value denotes, or its first fault.
 #[cycle(component_read)]
-pub(crate) fn read_component(
-    alloc: Global,
-    value: &Value,
-    version: SpecVersion,
-    depth: Depth,
-) -> Result<Component, JsonReadError>
+pub(crate) fn read_component(value: &Value, context: Context) -> Result<Component, JsonReadError>
     ensures { Gives component_tree result
-        (jread (view value.now) version (a_record component) (depth_of depth)) }
+        (jread (view value.now) context.version (a_record component) (depth_of context.depth)) }
 {
-    if depth.components >= 32 {
-        return Err(here(alloc, JsonKind::TooDeep));
+    if context.depth.components >= 32 {
+        return Err(here(context.alloc, JsonKind::TooDeep));
     }
     match value.as_object() {
-        None => Err(here(alloc, JsonKind::WrongKind)),
+        None => Err(here(context.alloc, JsonKind::WrongKind)),
         Some(map) => {
-            let inner = Depth {
-                components: depth.components + 1,
-                services: depth.services,
+            let inner = Context {
+                depth: Depth {
+                    components: context.depth.components + 1,
+                    services: context.depth.services,
+                },
+                ..context
             };
-            component_from_members(alloc, map, version, inner)
+            component_from_members(map, inner)
         }
     }
 }
 
 #[cycle(component_read)]
-fn component_from_members(
-    alloc: Global,
-    map: &Map<String, Value>,
-    version: SpecVersion,
-    depth: Depth,
-) -> Result<Component, JsonReadError>
+fn component_from_members(map: &Members, context: Context) -> Result<Component, JsonReadError>
     ensures { Gives component_tree result
-        (component_by_groups (seen (members_view map.now.entries)) version (depth_of depth)) }
+        (component_by_groups (seen (members_view map.now.entries)) context.version
+        (depth_of context.depth)) }
 {
-    let origin = read_origin(alloc, map, version, depth)?;
-    let naming = match read_naming(alloc, map, version, depth) {
+    let origin = read_origin(map, context)?;
+    let naming = match read_naming(map, context) {
         Ok(naming) => naming,
         Err(error) => {
             drop(origin);
             return Err(error);
         }
     };
-    let marks = match read_marks(alloc, map, version, depth) {
+    let marks = match read_marks(map, context) {
         Ok(marks) => marks,
         Err(error) => {
             drop(origin);
@@ -74,7 +67,7 @@ fn component_from_members(
             return Err(error);
         }
     };
-    let contents = match read_contents(alloc, map, version, depth) {
+    let contents = match read_contents(map, context) {
         Ok(contents) => contents,
         Err(error) => {
             drop(origin);
@@ -88,34 +81,25 @@ fn component_from_members(
 
 /// The components that a value denotes, or its first fault.
 #[cycle(component_read)]
-pub(crate) fn read_components(
-    alloc: Global,
-    value: &Value,
-    version: SpecVersion,
-    depth: Depth,
-) -> Result<Components, JsonReadError>
+pub(crate) fn read_components(value: &Value, context: Context) -> Result<Components, JsonReadError>
     ensures { Gives components_tree result
-        (jread (view value.now) version (a_list components) (depth_of depth)) }
+        (jread (view value.now) context.version (a_list components) (depth_of context.depth)) }
 {
     match value.as_array() {
-        None => Err(here(alloc, JsonKind::WrongKind)),
-        Some(items) => components_from_items(alloc, items, version, depth),
+        None => Err(here(context.alloc, JsonKind::WrongKind)),
+        Some(items) => components_from_items(items, context),
     }
 }
 
 #[cycle(component_read)]
-fn components_from_items(
-    alloc: Global,
-    items: &Vec<Value>,
-    version: SpecVersion,
-    depth: Depth,
-) -> Result<Components, JsonReadError>
+fn components_from_items(items: &Vec<Value>, context: Context) -> Result<Components, JsonReadError>
     ensures { Gives components_tree result
-        (list_read (items_view items.now.items) version (a_record component) (depth_of depth)) }
+        (list_read (items_view items.now.items) context.version (a_record component)
+        (depth_of context.depth)) }
 {
-    let mut list = Components::with_capacity(alloc, items.len())?;
+    let mut list = Components::with_capacity(context.alloc, items.len())?;
     for (i, item) in items.iter().enumerate() {
-        match read_component(alloc, item, version, depth) {
+        match read_component(item, context) {
             Ok(held) => list.push(held)?,
             Err(e) => return Err(at_item(i, e)),
         }
@@ -125,37 +109,28 @@ fn components_from_items(
 
 /// The pedigree that a value denotes, or its first fault.
 #[cycle(component_read)]
-pub(crate) fn read_pedigree(
-    alloc: Global,
-    value: &Value,
-    version: SpecVersion,
-    depth: Depth,
-) -> Result<Pedigree, JsonReadError>
+pub(crate) fn read_pedigree(value: &Value, context: Context) -> Result<Pedigree, JsonReadError>
     ensures { Gives pedigree_tree result
-        (jread (view value.now) version (a_record pedigree) (depth_of depth)) }
+        (jread (view value.now) context.version (a_record pedigree) (depth_of context.depth)) }
 {
     match value.as_object() {
-        None => Err(here(alloc, JsonKind::WrongKind)),
-        Some(map) => pedigree_from_members(alloc, map, version, depth),
+        None => Err(here(context.alloc, JsonKind::WrongKind)),
+        Some(map) => pedigree_from_members(map, context),
     }
 }
 
 #[cycle(component_read)]
-fn pedigree_from_members(
-    alloc: Global,
-    map: &Map<String, Value>,
-    version: SpecVersion,
-    depth: Depth,
-) -> Result<Pedigree, JsonReadError>
+fn pedigree_from_members(map: &Members, context: Context) -> Result<Pedigree, JsonReadError>
     ensures { Gives pedigree_tree result
-        (by_rows pedigree (seen (members_view map.now.entries)) version (depth_of depth)) }
+        (by_rows pedigree (seen (members_view map.now.entries)) context.version
+        (depth_of context.depth)) }
 {
-    let ancestors = read_components_row(alloc, map, "ancestors", version, depth)?;
-    let descendants = read_components_row(alloc, map, "descendants", version, depth)?;
-    let variants = read_components_row(alloc, map, "variants", version, depth)?;
-    let commits = optional_row(alloc, map, "commits", version, depth)?;
-    let patches = optional_row(alloc, map, "patches", version, depth)?;
-    let notes = optional_row(alloc, map, "notes", version, depth)?;
+    let ancestors = read_components_row(map, "ancestors", context)?;
+    let descendants = read_components_row(map, "descendants", context)?;
+    let variants = read_components_row(map, "variants", context)?;
+    let commits = optional_row(map, "commits", context)?;
+    let patches = optional_row(map, "patches", context)?;
+    let notes = optional_row(map, "notes", context)?;
     Ok(Pedigree {
         ancestors,
         descendants,
@@ -166,21 +141,17 @@ fn pedigree_from_members(
     })
 }
 
-fn read_origin(
-    alloc: Global,
-    map: &Map<String, Value>,
-    version: SpecVersion,
-    depth: Depth,
-) -> Result<Origin, JsonReadError>
+fn read_origin(map: &Members, context: Context) -> Result<Origin, JsonReadError>
     ensures { Gives origin_trees result
-        (group_read 0 component (seen (members_view map.now.entries)) version (depth_of depth)) }
+        (group_read 0 component (seen (members_view map.now.entries)) context.version
+        (depth_of context.depth)) }
 {
-    let component_type = required_row(alloc, map, "type", version, depth)?;
-    let mime_type = optional_row(alloc, map, "mime-type", version, depth)?;
-    let bom_ref = optional_row(alloc, map, "bom-ref", version, depth)?;
-    let supplier = optional_row(alloc, map, "supplier", version, depth)?;
-    let author = optional_row(alloc, map, "author", version, depth)?;
-    let publisher = optional_row(alloc, map, "publisher", version, depth)?;
+    let component_type = required_row(map, "type", context)?;
+    let mime_type = optional_row(map, "mime-type", context)?;
+    let bom_ref = optional_row(map, "bom-ref", context)?;
+    let supplier = optional_row(map, "supplier", context)?;
+    let author = optional_row(map, "author", context)?;
+    let publisher = optional_row(map, "publisher", context)?;
     Ok(Origin {
         component_type,
         mime_type,
@@ -191,21 +162,17 @@ fn read_origin(
     })
 }
 
-fn read_naming(
-    alloc: Global,
-    map: &Map<String, Value>,
-    version: SpecVersion,
-    depth: Depth,
-) -> Result<Naming, JsonReadError>
+fn read_naming(map: &Members, context: Context) -> Result<Naming, JsonReadError>
     ensures { Gives naming_trees result
-        (group_read 1 component (seen (members_view map.now.entries)) version (depth_of depth)) }
+        (group_read 1 component (seen (members_view map.now.entries)) context.version
+        (depth_of context.depth)) }
 {
-    let group = optional_row(alloc, map, "group", version, depth)?;
-    let name = required_row(alloc, map, "name", version, depth)?;
-    let held_version = first_row(alloc, map, "version", version, depth)?;
-    let description = optional_row(alloc, map, "description", version, depth)?;
-    let scope = optional_row(alloc, map, "scope", version, depth)?;
-    let hashes = optional_row(alloc, map, "hashes", version, depth)?;
+    let group = optional_row(map, "group", context)?;
+    let name = required_row(map, "name", context)?;
+    let held_version = first_row(map, "version", context)?;
+    let description = optional_row(map, "description", context)?;
+    let scope = optional_row(map, "scope", context)?;
+    let hashes = optional_row(map, "hashes", context)?;
     Ok(Naming {
         group,
         name,
@@ -216,21 +183,17 @@ fn read_naming(
     })
 }
 
-fn read_marks(
-    alloc: Global,
-    map: &Map<String, Value>,
-    version: SpecVersion,
-    depth: Depth,
-) -> Result<Marks, JsonReadError>
+fn read_marks(map: &Members, context: Context) -> Result<Marks, JsonReadError>
     ensures { Gives marks_trees result
-        (group_read 2 component (seen (members_view map.now.entries)) version (depth_of depth)) }
+        (group_read 2 component (seen (members_view map.now.entries)) context.version
+        (depth_of context.depth)) }
 {
-    let licenses = optional_row(alloc, map, "licenses", version, depth)?;
-    let copyright = optional_row(alloc, map, "copyright", version, depth)?;
-    let cpe = optional_row(alloc, map, "cpe", version, depth)?;
-    let purl = optional_row(alloc, map, "purl", version, depth)?;
-    let swid = optional_row(alloc, map, "swid", version, depth)?;
-    let modified = optional_row(alloc, map, "modified", version, depth)?;
+    let licenses = optional_row(map, "licenses", context)?;
+    let copyright = optional_row(map, "copyright", context)?;
+    let cpe = optional_row(map, "cpe", context)?;
+    let purl = optional_row(map, "purl", context)?;
+    let swid = optional_row(map, "swid", context)?;
+    let modified = optional_row(map, "modified", context)?;
     Ok(Marks {
         licenses,
         copyright,
@@ -242,21 +205,17 @@ fn read_marks(
 }
 
 #[cycle(component_read)]
-fn read_contents(
-    alloc: Global,
-    map: &Map<String, Value>,
-    version: SpecVersion,
-    depth: Depth,
-) -> Result<Contents, JsonReadError>
+fn read_contents(map: &Members, context: Context) -> Result<Contents, JsonReadError>
     ensures { Gives contents_trees result
-        (group_read 3 component (seen (members_view map.now.entries)) version (depth_of depth)) }
+        (group_read 3 component (seen (members_view map.now.entries)) context.version
+        (depth_of context.depth)) }
 {
-    let pedigree = read_pedigree_row(alloc, map, "pedigree", version, depth)?;
-    let external_references = optional_row(alloc, map, "externalReferences", version, depth)?;
-    let properties = optional_row(alloc, map, "properties", version, depth)?;
-    let components = read_components_row(alloc, map, "components", version, depth)?;
-    let evidence = optional_row(alloc, map, "evidence", version, depth)?;
-    let signature = optional_row_since(alloc, map, "signature", SpecVersion::V1_4, version, depth)?;
+    let pedigree = read_pedigree_row(map, "pedigree", context)?;
+    let external_references = optional_row(map, "externalReferences", context)?;
+    let properties = optional_row(map, "properties", context)?;
+    let components = read_components_row(map, "components", context)?;
+    let evidence = optional_row(map, "evidence", context)?;
+    let signature = optional_row_since(map, "signature", SpecVersion::V1_4, context)?;
     Ok(Contents {
         pedigree,
         external_references,
@@ -269,41 +228,37 @@ fn read_contents(
 
 #[cycle(component_read)]
 fn read_pedigree_row(
-    alloc: Global,
-    map: &Map<String, Value>,
+    map: &Members,
     name: &str,
-    version: SpecVersion,
-    depth: Depth,
+    context: Context,
 ) -> Result<Option<Pedigree>, JsonReadError>
     ensures { Gives (present pedigree_tree) result (member_of (seen (members_view map.now.entries))
-        name.now optional (a_record pedigree) version (depth_of depth)) }
+        name.now optional (a_record pedigree) context.version (depth_of context.depth)) }
 {
     match member_not_null(map, name) {
         None => Ok(None),
-        Some(value) => match read_pedigree(alloc, value, version, depth) {
+        Some(value) => match read_pedigree(value, context) {
             Ok(held) => Ok(Some(held)),
-            Err(e) => Err(at_member(alloc, name, e)),
+            Err(e) => Err(at_member(context.alloc, name, e)),
         },
     }
 }
 
 #[cycle(component_read)]
 fn read_components_row(
-    alloc: Global,
-    map: &Map<String, Value>,
+    map: &Members,
     name: &str,
-    version: SpecVersion,
-    depth: Depth,
+    context: Context,
 ) -> Result<Option<Components>, JsonReadError>
     ensures { Gives (present components_tree) result (member_of
-        (seen (members_view map.now.entries)) name.now optional (a_list components) version
-        (depth_of depth)) }
+        (seen (members_view map.now.entries)) name.now optional (a_list components) context.version
+        (depth_of context.depth)) }
 {
     match member_not_null(map, name) {
         None => Ok(None),
-        Some(value) => match read_components(alloc, value, version, depth) {
+        Some(value) => match read_components(value, context) {
             Ok(held) => Ok(Some(held)),
-            Err(e) => Err(at_member(alloc, name, e)),
+            Err(e) => Err(at_member(context.alloc, name, e)),
         },
     }
 }

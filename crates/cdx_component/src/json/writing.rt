@@ -14,187 +14,141 @@ ghost use Rattle.cdx_component.specs.Trees.{component_tree, components_tree, ped
 ghost use Rattle.cdx_json.specs.Groups.{group};
 
 use crate::component::{Component, Components, Pedigree};
-use cdx_json::{put_required, put_row, put_row_since};
+use cdx_json::{Members, put_required, put_row, put_row_since};
 use cdx_models::SpecVersion;
+use cdx_schema::Target;
 use serde_json::{Map, Value};
-use std::alloc::{AllocError, Global};
+use std::alloc::AllocError;
 
 /// The spelling of what the version keeps of a component.
 #[cycle(component_write)]
-pub(crate) fn write_component(
-    held: &Component,
-    alloc: Global,
-    version: SpecVersion,
-) -> Result<Value, AllocError>
+pub(crate) fn write_component(held: &Component, target: Target) -> Result<Value, AllocError>
     ensures { IfOk result (λ v. view v ≡ jspell
-        (keep version (component_tree held.now) (a_record component)) version
+        (keep target.version (component_tree held.now) (a_record component)) target.version
         (a_record component)) }
 {
-    let mut map = Map::new(alloc);
-    put_origin(held, alloc, &mut map, version)?;
-    put_naming(held, alloc, &mut map, version)?;
-    put_marks(held, alloc, &mut map, version)?;
-    put_contents(held, alloc, &mut map, version)?;
+    let mut map = Map::new(target.alloc);
+    put_origin(held, &mut map, target)?;
+    put_naming(held, &mut map, target)?;
+    put_marks(held, &mut map, target)?;
+    put_contents(held, &mut map, target)?;
     Ok(Value::Object(map))
 }
 
 /// The spelling of what the version keeps of a list of components.
 #[cycle(component_write)]
-pub(crate) fn write_components(
-    held: &Components,
-    alloc: Global,
-    version: SpecVersion,
-) -> Result<Value, AllocError>
+pub(crate) fn write_components(held: &Components, target: Target) -> Result<Value, AllocError>
     ensures { IfOk result (λ v. view v ≡ jspell
-        (keep version (components_tree held.now) (a_list components)) version
+        (keep target.version (components_tree held.now) (a_list components)) target.version
         (a_list components)) }
 {
-    let mut values = Vec::with_capacity(alloc, held.len())?;
+    let mut values = Vec::with_capacity(target.alloc, held.len())?;
     for item in &held.items {
-        values.push(write_component(item, alloc, version)?)?;
+        values.push(write_component(item, target)?)?;
     }
     Ok(Value::Array(values))
 }
 
 /// The spelling of what the version keeps of a pedigree.
 #[cycle(component_write)]
-pub(crate) fn write_pedigree(
-    held: &Pedigree,
-    alloc: Global,
-    version: SpecVersion,
-) -> Result<Value, AllocError>
+pub(crate) fn write_pedigree(held: &Pedigree, target: Target) -> Result<Value, AllocError>
     ensures { IfOk result (λ v. view v ≡ jspell
-        (keep version (pedigree_tree held.now) (a_record pedigree)) version
+        (keep target.version (pedigree_tree held.now) (a_record pedigree)) target.version
         (a_record pedigree)) }
 {
-    let mut map = Map::new(alloc);
-    put_pedigree_members(held, alloc, &mut map, version)?;
+    let mut map = Map::new(target.alloc);
+    put_pedigree_members(held, &mut map, target)?;
     Ok(Value::Object(map))
 }
 
 #[cycle(component_write)]
 fn put_pedigree_members(
     held: &Pedigree,
-    alloc: Global,
-    map: &mut Map<String, Value>,
-    version: SpecVersion,
+    map: &mut Members,
+    target: Target,
 ) -> Result<(), AllocError>
     ensures { OnOk result (members_view map.new.entries ≡ rows_put
-        (pedigree_fields components_tree (out-Pedigree held.now)) version (rows pedigree)
+        (pedigree_fields components_tree (out-Pedigree held.now)) target.version (rows pedigree)
         (members_view map.old.entries)) }
 {
-    put_components_row(&held.ancestors, alloc, map, "ancestors", version)?;
-    put_components_row(&held.descendants, alloc, map, "descendants", version)?;
-    put_components_row(&held.variants, alloc, map, "variants", version)?;
-    put_row(alloc, map, "commits", &held.commits, version)?;
-    put_row(alloc, map, "patches", &held.patches, version)?;
-    put_row(alloc, map, "notes", &held.notes, version)?;
+    put_components_row(&held.ancestors, map, "ancestors", target)?;
+    put_components_row(&held.descendants, map, "descendants", target)?;
+    put_components_row(&held.variants, map, "variants", target)?;
+    put_row(map, "commits", &held.commits, target)?;
+    put_row(map, "patches", &held.patches, target)?;
+    put_row(map, "notes", &held.notes, target)?;
     Ok(())
 }
 
-fn put_origin(
-    held: &Component,
-    alloc: Global,
-    map: &mut Map<String, Value>,
-    version: SpecVersion,
-) -> Result<(), AllocError>
+fn put_origin(held: &Component, map: &mut Members, target: Target) -> Result<(), AllocError>
     ensures { OnOk result (members_view map.new.entries ≡ rows_put (origin (out-Component held.now))
-        version (group 0 component) (members_view map.old.entries)) }
+        target.version (group 0 component) (members_view map.old.entries)) }
 {
-    put_required(alloc, map, "type", &held.component_type, version)?;
-    put_row(alloc, map, "mime-type", &held.mime_type, version)?;
-    put_row(alloc, map, "bom-ref", &held.bom_ref, version)?;
-    put_row(alloc, map, "supplier", &held.supplier, version)?;
-    put_row(alloc, map, "author", &held.author, version)?;
-    put_row(alloc, map, "publisher", &held.publisher, version)?;
+    put_required(map, "type", &held.component_type, target)?;
+    put_row(map, "mime-type", &held.mime_type, target)?;
+    put_row(map, "bom-ref", &held.bom_ref, target)?;
+    put_row(map, "supplier", &held.supplier, target)?;
+    put_row(map, "author", &held.author, target)?;
+    put_row(map, "publisher", &held.publisher, target)?;
     Ok(())
 }
 
-fn put_naming(
-    held: &Component,
-    alloc: Global,
-    map: &mut Map<String, Value>,
-    version: SpecVersion,
-) -> Result<(), AllocError>
+fn put_naming(held: &Component, map: &mut Members, target: Target) -> Result<(), AllocError>
     ensures { OnOk result (members_view map.new.entries ≡ rows_put (naming (out-Component held.now))
-        version (group 1 component) (members_view map.old.entries)) }
+        target.version (group 1 component) (members_view map.old.entries)) }
 {
-    put_row(alloc, map, "group", &held.group, version)?;
-    put_required(alloc, map, "name", &held.name, version)?;
-    put_row(alloc, map, "version", &held.version, version)?;
-    put_row(alloc, map, "description", &held.description, version)?;
-    put_row(alloc, map, "scope", &held.scope, version)?;
-    put_row(alloc, map, "hashes", &held.hashes, version)?;
+    put_row(map, "group", &held.group, target)?;
+    put_required(map, "name", &held.name, target)?;
+    put_row(map, "version", &held.version, target)?;
+    put_row(map, "description", &held.description, target)?;
+    put_row(map, "scope", &held.scope, target)?;
+    put_row(map, "hashes", &held.hashes, target)?;
     Ok(())
 }
 
-fn put_marks(
-    held: &Component,
-    alloc: Global,
-    map: &mut Map<String, Value>,
-    version: SpecVersion,
-) -> Result<(), AllocError>
+fn put_marks(held: &Component, map: &mut Members, target: Target) -> Result<(), AllocError>
     ensures { OnOk result (members_view map.new.entries ≡ rows_put (marks (out-Component held.now))
-        version (group 2 component) (members_view map.old.entries)) }
+        target.version (group 2 component) (members_view map.old.entries)) }
 {
-    put_row(alloc, map, "licenses", &held.licenses, version)?;
-    put_row(alloc, map, "copyright", &held.copyright, version)?;
-    put_row(alloc, map, "cpe", &held.cpe, version)?;
-    put_row(alloc, map, "purl", &held.purl, version)?;
-    put_row(alloc, map, "swid", &held.swid, version)?;
-    put_row(alloc, map, "modified", &held.modified, version)?;
+    put_row(map, "licenses", &held.licenses, target)?;
+    put_row(map, "copyright", &held.copyright, target)?;
+    put_row(map, "cpe", &held.cpe, target)?;
+    put_row(map, "purl", &held.purl, target)?;
+    put_row(map, "swid", &held.swid, target)?;
+    put_row(map, "modified", &held.modified, target)?;
     Ok(())
 }
 
 #[cycle(component_write)]
-fn put_contents(
-    held: &Component,
-    alloc: Global,
-    map: &mut Map<String, Value>,
-    version: SpecVersion,
-) -> Result<(), AllocError>
+fn put_contents(held: &Component, map: &mut Members, target: Target) -> Result<(), AllocError>
     ensures { OnOk result (members_view map.new.entries ≡ rows_put
-        (contents components_tree pedigree_tree (out-Component held.now)) version
+        (contents components_tree pedigree_tree (out-Component held.now)) target.version
         (group 3 component) (members_view map.old.entries)) }
 {
-    put_pedigree_row(&held.pedigree, alloc, map, "pedigree", version)?;
-    put_row(
-        alloc,
-        map,
-        "externalReferences",
-        &held.external_references,
-        version,
-    )?;
-    put_row(alloc, map, "properties", &held.properties, version)?;
-    put_components_row(&held.components, alloc, map, "components", version)?;
-    put_row(alloc, map, "evidence", &held.evidence, version)?;
-    put_row_since(
-        alloc,
-        map,
-        "signature",
-        &held.signature,
-        SpecVersion::V1_4,
-        version,
-    )?;
+    put_pedigree_row(&held.pedigree, map, "pedigree", target)?;
+    put_row(map, "externalReferences", &held.external_references, target)?;
+    put_row(map, "properties", &held.properties, target)?;
+    put_components_row(&held.components, map, "components", target)?;
+    put_row(map, "evidence", &held.evidence, target)?;
+    put_row_since(map, "signature", &held.signature, SpecVersion::V1_4, target)?;
     Ok(())
 }
 
 #[cycle(component_write)]
 fn put_pedigree_row(
     held: &Option<Pedigree>,
-    alloc: Global,
-    map: &mut Map<String, Value>,
+    map: &mut Members,
     name: &str,
-    version: SpecVersion,
+    target: Target,
 ) -> Result<(), AllocError>
     ensures { OnOk result (members_view map.new.entries ≡ put_kept name.now (a_record pedigree)
-        (present pedigree_tree held.now) version (members_view map.old.entries)) }
+        (present pedigree_tree held.now) target.version (members_view map.old.entries)) }
 {
     match held {
         None => Ok(()),
         Some(held) => {
-            let value = write_pedigree(held, alloc, version)?;
-            serde_json::put(map, alloc, name, value)
+            let value = write_pedigree(held, target)?;
+            serde_json::put(map, target.alloc, name, value)
         }
     }
 }
@@ -202,19 +156,18 @@ fn put_pedigree_row(
 #[cycle(component_write)]
 fn put_components_row(
     held: &Option<Components>,
-    alloc: Global,
-    map: &mut Map<String, Value>,
+    map: &mut Members,
     name: &str,
-    version: SpecVersion,
+    target: Target,
 ) -> Result<(), AllocError>
     ensures { OnOk result (members_view map.new.entries ≡ put_kept name.now (a_list components)
-        (present components_tree held.now) version (members_view map.old.entries)) }
+        (present components_tree held.now) target.version (members_view map.old.entries)) }
 {
     match held {
         None => Ok(()),
         Some(held) => {
-            let value = write_components(held, alloc, version)?;
-            serde_json::put(map, alloc, name, value)
+            let value = write_components(held, target)?;
+            serde_json::put(map, target.alloc, name, value)
         }
     }
 }

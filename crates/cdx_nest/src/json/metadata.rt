@@ -15,57 +15,38 @@ ghost use Rattle.cdx_nest.specs.Groups.{metadata_by_groups};
 use crate::metadata::Metadata;
 use crate::metadata::parts::{Makers, Terms, assemble};
 use cdx_json::{
-    Depth, JsonRecord, keep_optional_list, keep_row, optional_list_row, optional_row,
-    put_optional_list, put_row,
+    Context, JsonRecord, Keeping, Members, keep_optional_list, keep_row, optional_list_row,
+    optional_row, put_optional_list, put_row,
 };
-use cdx_models::{JsonReadError, SpecVersion};
-use serde_json::{Map, Value};
-use std::alloc::{AllocError, Global};
+use cdx_models::JsonReadError;
+use cdx_schema::Target;
+use std::alloc::AllocError;
 
 impl JsonRecord for Metadata {
-    fn from_members(
-        alloc: Global,
-        map: &Map<String, Value>,
-        version: SpecVersion,
-        depth: Depth,
-    ) -> Result<Metadata, JsonReadError> {
-        metadata_from_members(alloc, map, version, depth)
+    fn from_members(map: &Members, context: Context) -> Result<Metadata, JsonReadError> {
+        metadata_from_members(map, context)
     }
 
-    fn kept_rows(
-        &self,
-        alloc: Global,
-        version: SpecVersion,
-        label: SpecVersion,
-    ) -> Result<Metadata, AllocError> {
-        let terms = keep_terms(self, alloc, version, label)?;
-        let makers = keep_makers(self, alloc, version, label)?;
+    fn kept_rows(&self, keeping: Keeping) -> Result<Metadata, AllocError> {
+        let terms = keep_terms(self, keeping)?;
+        let makers = keep_makers(self, keeping)?;
         Ok(assemble(makers, terms))
     }
 
-    fn put_members(
-        &self,
-        alloc: Global,
-        map: &mut Map<String, Value>,
-        version: SpecVersion,
-    ) -> Result<(), AllocError> {
-        put_makers(self, alloc, map, version)?;
-        put_terms(self, alloc, map, version)?;
+    fn put_members(&self, map: &mut Members, target: Target) -> Result<(), AllocError> {
+        put_makers(self, map, target)?;
+        put_terms(self, map, target)?;
         Ok(())
     }
 }
 
-fn metadata_from_members(
-    alloc: Global,
-    map: &Map<String, Value>,
-    version: SpecVersion,
-    depth: Depth,
-) -> Result<Metadata, JsonReadError>
+fn metadata_from_members(map: &Members, context: Context) -> Result<Metadata, JsonReadError>
     ensures { Gives metadata_tree result
-        (metadata_by_groups (seen (members_view map.now.entries)) version (depth_of depth)) }
+        (metadata_by_groups (seen (members_view map.now.entries)) context.version
+        (depth_of context.depth)) }
 {
-    let makers = read_makers(alloc, map, version, depth)?;
-    match read_terms(alloc, map, version, depth) {
+    let makers = read_makers(map, context)?;
+    match read_terms(map, context) {
         Ok(terms) => Ok(assemble(makers, terms)),
         Err(error) => {
             drop(makers);
@@ -74,27 +55,23 @@ fn metadata_from_members(
     }
 }
 
-fn read_makers(
-    alloc: Global,
-    map: &Map<String, Value>,
-    version: SpecVersion,
-    depth: Depth,
-) -> Result<Makers, JsonReadError>
+fn read_makers(map: &Members, context: Context) -> Result<Makers, JsonReadError>
     ensures { Gives makers_trees result
-        (group_read 0 metadata (seen (members_view map.now.entries)) version (depth_of depth)) }
+        (group_read 0 metadata (seen (members_view map.now.entries)) context.version
+        (depth_of context.depth)) }
 {
-    let timestamp = optional_row(alloc, map, "timestamp", version, depth)?;
-    let tools = optional_row(alloc, map, "tools", version, depth)?;
-    let authors = optional_list_row(alloc, map, "authors", version, depth)?;
-    let component = optional_row(alloc, map, "component", version, depth)?;
-    let manufacture = match optional_row(alloc, map, "manufacture", version, depth) {
+    let timestamp = optional_row(map, "timestamp", context)?;
+    let tools = optional_row(map, "tools", context)?;
+    let authors = optional_list_row(map, "authors", context)?;
+    let component = optional_row(map, "component", context)?;
+    let manufacture = match optional_row(map, "manufacture", context) {
         Ok(manufacture) => manufacture,
         Err(error) => {
             drop(component);
             return Err(error);
         }
     };
-    let supplier = match optional_row(alloc, map, "supplier", version, depth) {
+    let supplier = match optional_row(map, "supplier", context) {
         Ok(supplier) => supplier,
         Err(error) => {
             drop(component);
@@ -111,17 +88,13 @@ fn read_makers(
     })
 }
 
-fn read_terms(
-    alloc: Global,
-    map: &Map<String, Value>,
-    version: SpecVersion,
-    depth: Depth,
-) -> Result<Terms, JsonReadError>
+fn read_terms(map: &Members, context: Context) -> Result<Terms, JsonReadError>
     ensures { Gives terms_trees result
-        (group_read 1 metadata (seen (members_view map.now.entries)) version (depth_of depth)) }
+        (group_read 1 metadata (seen (members_view map.now.entries)) context.version
+        (depth_of context.depth)) }
 {
-    let licenses = optional_row(alloc, map, "licenses", version, depth)?;
-    let properties = optional_row(alloc, map, "properties", version, depth)?;
+    let licenses = optional_row(map, "licenses", context)?;
+    let properties = optional_row(map, "properties", context)?;
     Ok(Terms {
         licenses,
         properties,
@@ -129,21 +102,17 @@ fn read_terms(
 }
 
 #[tactic(auto, unfolding(cdx_json::proofs::OnRows::on_rows))]
-fn keep_makers(
-    held: &Metadata,
-    alloc: Global,
-    version: SpecVersion,
-    label: SpecVersion,
-) -> Result<Makers, AllocError>
+fn keep_makers(held: &Metadata, keeping: Keeping) -> Result<Makers, AllocError>
     ensures { IfOk result
-        (λ r. makers_trees r ≡ rows_held version label (makers held.now) (group 0 metadata)) }
+        (λ r. makers_trees r ≡ rows_held keeping.version keeping.label (makers held.now)
+        (group 0 metadata)) }
 {
-    let timestamp = keep_row(alloc, &held.timestamp, version, label)?;
-    let tools = keep_row(alloc, &held.tools, version, label)?;
-    let authors = keep_optional_list(alloc, &held.authors, version, label)?;
-    let manufacture = keep_row(alloc, &held.manufacture, version, label)?;
-    let supplier = keep_row(alloc, &held.supplier, version, label)?;
-    let component = keep_row(alloc, &held.component, version, label)?;
+    let timestamp = keep_row(&held.timestamp, keeping)?;
+    let tools = keep_row(&held.tools, keeping)?;
+    let authors = keep_optional_list(&held.authors, keeping)?;
+    let manufacture = keep_row(&held.manufacture, keeping)?;
+    let supplier = keep_row(&held.supplier, keeping)?;
+    let component = keep_row(&held.component, keeping)?;
     Ok(Makers {
         timestamp,
         tools,
@@ -155,51 +124,39 @@ fn keep_makers(
 }
 
 #[tactic(auto, unfolding(cdx_json::proofs::OnRows::on_rows))]
-fn keep_terms(
-    held: &Metadata,
-    alloc: Global,
-    version: SpecVersion,
-    label: SpecVersion,
-) -> Result<Terms, AllocError>
+fn keep_terms(held: &Metadata, keeping: Keeping) -> Result<Terms, AllocError>
     ensures { IfOk result
-        (λ r. terms_trees r ≡ rows_held version label (terms held.now) (group 1 metadata)) }
+        (λ r. terms_trees r ≡ rows_held keeping.version keeping.label (terms held.now)
+        (group 1 metadata)) }
 {
-    let licenses = keep_row(alloc, &held.licenses, version, label)?;
-    let properties = keep_row(alloc, &held.properties, version, label)?;
+    let licenses = keep_row(&held.licenses, keeping)?;
+    let properties = keep_row(&held.properties, keeping)?;
     Ok(Terms {
         licenses,
         properties,
     })
 }
 
-fn put_makers(
-    held: &Metadata,
-    alloc: Global,
-    map: &mut Map<String, Value>,
-    version: SpecVersion,
-) -> Result<(), AllocError>
+fn put_makers(held: &Metadata, map: &mut Members, target: Target) -> Result<(), AllocError>
     ensures { OnOk result (members_view map.new.entries
-        ≡ rows_put (makers held.now) version (group 0 metadata) (members_view map.old.entries)) }
+        ≡ rows_put (makers held.now) target.version (group 0 metadata)
+        (members_view map.old.entries)) }
 {
-    put_row(alloc, map, "timestamp", &held.timestamp, version)?;
-    put_row(alloc, map, "tools", &held.tools, version)?;
-    put_optional_list(alloc, map, "authors", &held.authors, version)?;
-    put_row(alloc, map, "component", &held.component, version)?;
-    put_row(alloc, map, "manufacture", &held.manufacture, version)?;
-    put_row(alloc, map, "supplier", &held.supplier, version)?;
+    put_row(map, "timestamp", &held.timestamp, target)?;
+    put_row(map, "tools", &held.tools, target)?;
+    put_optional_list(map, "authors", &held.authors, target)?;
+    put_row(map, "component", &held.component, target)?;
+    put_row(map, "manufacture", &held.manufacture, target)?;
+    put_row(map, "supplier", &held.supplier, target)?;
     Ok(())
 }
 
-fn put_terms(
-    held: &Metadata,
-    alloc: Global,
-    map: &mut Map<String, Value>,
-    version: SpecVersion,
-) -> Result<(), AllocError>
+fn put_terms(held: &Metadata, map: &mut Members, target: Target) -> Result<(), AllocError>
     ensures { OnOk result (members_view map.new.entries
-        ≡ rows_put (terms held.now) version (group 1 metadata) (members_view map.old.entries)) }
+        ≡ rows_put (terms held.now) target.version (group 1 metadata)
+        (members_view map.old.entries)) }
 {
-    put_row(alloc, map, "licenses", &held.licenses, version)?;
-    put_row(alloc, map, "properties", &held.properties, version)?;
+    put_row(map, "licenses", &held.licenses, target)?;
+    put_row(map, "properties", &held.properties, target)?;
     Ok(())
 }

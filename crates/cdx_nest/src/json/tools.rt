@@ -21,60 +21,48 @@ use crate::tools::Tools;
 use cdx_component::Components;
 use cdx_events::List;
 use cdx_json::{
-    Depth, FromJson, Kept, ToJson, here, keep_list, keep_row, list_from_items, list_to_value,
-    optional_row, put_row,
+    Context, FromJson, Keeping, Kept, Members, ToJson, here, keep_list, keep_row, list_from_items,
+    list_to_value, optional_row, put_row,
 };
 use cdx_models::{JsonKind, JsonReadError, SpecVersion};
+use cdx_schema::Target;
 use cdx_service::Services;
 use serde_json::{Map, Value};
 use std::alloc::{AllocError, Global};
 
 impl FromJson for Tools {
     /// An array is a list of tools, and in 1.5 an object is the services and components.
-    fn from_json_at(
-        alloc: Global,
-        value: &Value,
-        version: SpecVersion,
-        depth: Depth,
-    ) -> Result<Tools, JsonReadError> {
+    fn from_json_at(value: &Value, context: Context) -> Result<Tools, JsonReadError> {
         match value.as_array() {
-            Some(items) => Ok(Tools::List(list_from_items(alloc, items, version, depth)?)),
+            Some(items) => Ok(Tools::List(list_from_items(items, context)?)),
             None => match value.as_object() {
-                None => Err(here(alloc, JsonKind::WrongKind)),
-                Some(map) => tools_from_object(alloc, map, version, depth),
+                None => Err(here(context.alloc, JsonKind::WrongKind)),
+                Some(map) => tools_from_object(map, context),
             },
         }
     }
 }
 
-fn tools_from_object(
-    alloc: Global,
-    map: &Map<String, Value>,
-    version: SpecVersion,
-    depth: Depth,
-) -> Result<Tools, JsonReadError>
+fn tools_from_object(map: &Members, context: Context) -> Result<Tools, JsonReadError>
     ensures { Gives tools_tree result
-        (tools_read version (seen (members_view map.now.entries)) (depth_of depth)) }
+        (tools_read context.version (seen (members_view map.now.entries))
+        (depth_of context.depth)) }
 {
-    match version {
-        SpecVersion::V1_3 => Err(here(alloc, JsonKind::WrongKind)),
-        SpecVersion::V1_4 => Err(here(alloc, JsonKind::WrongKind)),
-        SpecVersion::V1_5 => tools_from_members(alloc, map, version, depth),
+    match context.version {
+        SpecVersion::V1_3 => Err(here(context.alloc, JsonKind::WrongKind)),
+        SpecVersion::V1_4 => Err(here(context.alloc, JsonKind::WrongKind)),
+        SpecVersion::V1_5 => tools_from_members(map, context),
     }
 }
 
 #[tactic(auto, unfolding(cdx_json::proofs::OnRows::on_rows))]
-fn tools_from_members(
-    alloc: Global,
-    map: &Map<String, Value>,
-    version: SpecVersion,
-    depth: Depth,
-) -> Result<Tools, JsonReadError>
+fn tools_from_members(map: &Members, context: Context) -> Result<Tools, JsonReadError>
     ensures { Gives tools_tree result
-        (by_rows tools_object (seen (members_view map.now.entries)) version (depth_of depth)) }
+        (by_rows tools_object (seen (members_view map.now.entries)) context.version
+        (depth_of context.depth)) }
 {
-    let services = optional_row(alloc, map, "services", version, depth)?;
-    let components = optional_row(alloc, map, "components", version, depth)?;
+    let services = optional_row(map, "services", context)?;
+    let components = optional_row(map, "components", context)?;
     Ok(Tools::Object {
         services,
         components,
@@ -84,18 +72,13 @@ fn tools_from_members(
 impl Kept for Tools {
     ghost stays = { tools_stay };
 
-    fn kept_as(
-        &self,
-        alloc: Global,
-        version: SpecVersion,
-        label: SpecVersion,
-    ) -> Result<Tools, AllocError> {
+    fn kept_as(&self, keeping: Keeping) -> Result<Tools, AllocError> {
         match self {
-            Tools::List(held) => Ok(Tools::List(keep_list(alloc, held, version, label)?)),
+            Tools::List(held) => Ok(Tools::List(keep_list(held, keeping)?)),
             Tools::Object {
                 services,
                 components,
-            } => keep_object(alloc, services, components, version, label),
+            } => keep_object(services, components, keeping),
         }
     }
 }
@@ -103,21 +86,20 @@ impl Kept for Tools {
 /// Before 1.5 the services and components become the empty list.
 #[tactic(auto, unfolding(cdx_schema::specs::Keeping::kept, cdx_schema::specs::Table::rows, cdx_schema::specs::Table::list))]
 fn keep_object(
-    alloc: Global,
     services: &Option<Services>,
     components: &Option<Components>,
-    version: SpecVersion,
-    label: SpecVersion,
+    keeping: Keeping,
 ) -> Result<Tools, AllocError>
     ensures { IfOk result
-        (λ r. tools_tree r ≡ kept version label (object_tree services.now components.now) a_tools) }
+        (λ r. tools_tree r ≡ kept keeping.version keeping.label
+        (object_tree services.now components.now) a_tools) }
 {
-    match version {
-        SpecVersion::V1_3 => Ok(Tools::List(List::new(alloc))),
-        SpecVersion::V1_4 => Ok(Tools::List(List::new(alloc))),
+    match keeping.version {
+        SpecVersion::V1_3 => Ok(Tools::List(List::new(keeping.alloc))),
+        SpecVersion::V1_4 => Ok(Tools::List(List::new(keeping.alloc))),
         SpecVersion::V1_5 => {
-            let services = keep_row(alloc, services, version, label)?;
-            let components = keep_row(alloc, components, version, label)?;
+            let services = keep_row(services, keeping)?;
+            let components = keep_row(components, keeping)?;
             Ok(Tools::Object {
                 services,
                 components,
@@ -174,7 +156,8 @@ fn members_to_value(
         (rows tools_object) no_members)) }
 {
     let mut map = Map::new(alloc);
-    put_row(alloc, &mut map, "services", services, version)?;
-    put_row(alloc, &mut map, "components", components, version)?;
+    let target = Target { alloc, version };
+    put_row(&mut map, "services", services, target)?;
+    put_row(&mut map, "components", components, target)?;
     Ok(Value::Object(map))
 }

@@ -5,63 +5,44 @@ ghost use Rattle.cdx_json.specs.Stays.{list_stays};
 
 use crate::{Diff, Patch, Patches};
 use cdx_json::{
-    Depth, FromJson, JsonRecord, Kept, ToJson, keep_list, keep_optional_list, keep_row,
-    list_from_value, list_to_value, optional_list_row, optional_row, put_optional_list,
+    Context, FromJson, JsonRecord, Keeping, Kept, Members, ToJson, keep_list, keep_optional_list,
+    keep_row, list_from_value, list_to_value, optional_list_row, optional_row, put_optional_list,
     put_required, put_row, required_row,
 };
 use cdx_models::{JsonReadError, SpecVersion};
-use serde_json::{Map, Value};
+use cdx_schema::Target;
+use serde_json::Value;
 use std::alloc::{AllocError, Global};
 
 impl JsonRecord for Diff {
     #[tactic(auto, unfolding(cdx_json::proofs::OnRows::on_rows))]
-    fn from_members(
-        alloc: Global,
-        map: &Map<String, Value>,
-        version: SpecVersion,
-        depth: Depth,
-    ) -> Result<Diff, JsonReadError> {
-        let text = optional_row(alloc, map, "text", version, depth)?;
-        let url = optional_row(alloc, map, "url", version, depth)?;
+    fn from_members(map: &Members, context: Context) -> Result<Diff, JsonReadError> {
+        let text = optional_row(map, "text", context)?;
+        let url = optional_row(map, "url", context)?;
         Ok(Diff { text, url })
     }
 
     #[tactic(auto, unfolding(cdx_json::proofs::OnRows::on_rows))]
-    fn kept_rows(
-        &self,
-        alloc: Global,
-        version: SpecVersion,
-        label: SpecVersion,
-    ) -> Result<Diff, AllocError> {
+    fn kept_rows(&self, keeping: Keeping) -> Result<Diff, AllocError> {
         Ok(Diff {
-            text: keep_row(alloc, &self.text, version, label)?,
-            url: keep_row(alloc, &self.url, version, label)?,
+            text: keep_row(&self.text, keeping)?,
+            url: keep_row(&self.url, keeping)?,
         })
     }
 
     #[tactic(auto, unfolding(cdx_json::proofs::OnRows::on_rows))]
-    fn put_members(
-        &self,
-        alloc: Global,
-        map: &mut Map<String, Value>,
-        version: SpecVersion,
-    ) -> Result<(), AllocError> {
-        put_row(alloc, map, "text", &self.text, version)?;
-        put_row(alloc, map, "url", &self.url, version)
+    fn put_members(&self, map: &mut Members, target: Target) -> Result<(), AllocError> {
+        put_row(map, "text", &self.text, target)?;
+        put_row(map, "url", &self.url, target)
     }
 }
 
 impl JsonRecord for Patch {
     #[tactic(auto, unfolding(cdx_json::proofs::OnRows::on_rows))]
-    fn from_members(
-        alloc: Global,
-        map: &Map<String, Value>,
-        version: SpecVersion,
-        depth: Depth,
-    ) -> Result<Patch, JsonReadError> {
-        let patch_type = required_row(alloc, map, "type", version, depth)?;
-        let diff = optional_row(alloc, map, "diff", version, depth)?;
-        let resolves = optional_list_row(alloc, map, "resolves", version, depth)?;
+    fn from_members(map: &Members, context: Context) -> Result<Patch, JsonReadError> {
+        let patch_type = required_row(map, "type", context)?;
+        let diff = optional_row(map, "diff", context)?;
+        let resolves = optional_list_row(map, "resolves", context)?;
         Ok(Patch {
             patch_type,
             diff,
@@ -70,41 +51,26 @@ impl JsonRecord for Patch {
     }
 
     #[tactic(auto, unfolding(cdx_json::proofs::OnRows::on_rows))]
-    fn kept_rows(
-        &self,
-        alloc: Global,
-        version: SpecVersion,
-        label: SpecVersion,
-    ) -> Result<Patch, AllocError> {
+    fn kept_rows(&self, keeping: Keeping) -> Result<Patch, AllocError> {
         Ok(Patch {
-            patch_type: self.patch_type.kept_as(alloc, version, label)?,
-            diff: keep_row(alloc, &self.diff, version, label)?,
-            resolves: keep_optional_list(alloc, &self.resolves, version, label)?,
+            patch_type: self.patch_type.kept_as(keeping)?,
+            diff: keep_row(&self.diff, keeping)?,
+            resolves: keep_optional_list(&self.resolves, keeping)?,
         })
     }
 
     #[tactic(auto, unfolding(cdx_json::proofs::OnRows::on_rows))]
-    fn put_members(
-        &self,
-        alloc: Global,
-        map: &mut Map<String, Value>,
-        version: SpecVersion,
-    ) -> Result<(), AllocError> {
-        put_required(alloc, map, "type", &self.patch_type, version)?;
-        put_row(alloc, map, "diff", &self.diff, version)?;
-        put_optional_list(alloc, map, "resolves", &self.resolves, version)
+    fn put_members(&self, map: &mut Members, target: Target) -> Result<(), AllocError> {
+        put_required(map, "type", &self.patch_type, target)?;
+        put_row(map, "diff", &self.diff, target)?;
+        put_optional_list(map, "resolves", &self.resolves, target)
     }
 }
 
 impl FromJson for Patches {
     #[tactic(auto, unfolding(cdx_schema::specs::Table::list))]
-    fn from_json_at(
-        alloc: Global,
-        value: &Value,
-        version: SpecVersion,
-        depth: Depth,
-    ) -> Result<Patches, JsonReadError> {
-        Ok(Patches(list_from_value(alloc, value, version, depth)?))
+    fn from_json_at(value: &Value, context: Context) -> Result<Patches, JsonReadError> {
+        Ok(Patches(list_from_value(value, context)?))
     }
 }
 
@@ -112,13 +78,8 @@ impl Kept for Patches {
     ghost stays = { λ w l x. list_stays w l patches _ };
 
     #[tactic(auto, unfolding(cdx_schema::specs::Table::list))]
-    fn kept_as(
-        &self,
-        alloc: Global,
-        version: SpecVersion,
-        label: SpecVersion,
-    ) -> Result<Patches, AllocError> {
-        Ok(Patches(keep_list(alloc, &self.0, version, label)?))
+    fn kept_as(&self, keeping: Keeping) -> Result<Patches, AllocError> {
+        Ok(Patches(keep_list(&self.0, keeping)?))
     }
 }
 

@@ -6,25 +6,21 @@ ghost use Rattle.cdx_json.specs.Stays.{reference_stays, list_stays};
 
 use crate::composition::{BomReference, Composition, Compositions};
 use cdx_json::{
-    Depth, FromJson, JsonRecord, Kept, ToJson, first_or_old, here, keep_list, keep_optional_list,
-    keep_optional_list_since, keep_row_since, list_from_value, list_to_value, optional_list_row,
-    optional_list_row_since, optional_row_since, put_optional_list, put_optional_list_since,
-    put_required, put_row_since, required_row,
+    Context, FromJson, JsonRecord, Keeping, Kept, Members, ToJson, first_or_old, here, keep_list,
+    keep_optional_list, keep_optional_list_since, keep_row_since, list_from_value, list_to_value,
+    optional_list_row, optional_list_row_since, optional_row_since, put_optional_list,
+    put_optional_list_since, put_required, put_row_since, required_row,
 };
 use cdx_models::{HasTree, JsonKind, JsonReadError, SpecVersion};
-use serde_json::{Map, Value};
+use cdx_schema::Target;
+use serde_json::Value;
 use std::alloc::{AllocError, Global};
 
 impl FromJson for BomReference {
-    fn from_json_at(
-        alloc: Global,
-        value: &Value,
-        version: SpecVersion,
-        depth: Depth,
-    ) -> Result<BomReference, JsonReadError> {
+    fn from_json_at(value: &Value, context: Context) -> Result<BomReference, JsonReadError> {
         match value.as_str() {
-            None => Err(here(alloc, JsonKind::WrongKind)),
-            Some(text) => Ok(BomReference::new(alloc, text)?),
+            None => Err(here(context.alloc, JsonKind::WrongKind)),
+            Some(text) => Ok(BomReference::new(context.alloc, text)?),
         }
     }
 }
@@ -33,13 +29,8 @@ impl Kept for BomReference {
     ghost stays = { λ w l x. reference_stays w l _ };
 
     #[tactic(auto, unfolding(cdx_schema::specs::Keeping::kept))]
-    fn kept_as(
-        &self,
-        alloc: Global,
-        version: SpecVersion,
-        label: SpecVersion,
-    ) -> Result<BomReference, AllocError> {
-        self.copy(alloc)
+    fn kept_as(&self, keeping: Keeping) -> Result<BomReference, AllocError> {
+        self.copy(keeping.alloc)
     }
 }
 
@@ -52,33 +43,19 @@ impl ToJson for BomReference {
 
 impl JsonRecord for Composition {
     #[tactic(auto, unfolding(cdx_json::proofs::OnRows::on_rows))]
-    fn from_members(
-        alloc: Global,
-        map: &Map<String, Value>,
-        version: SpecVersion,
-        depth: Depth,
-    ) -> Result<Composition, JsonReadError> {
+    fn from_members(map: &Members, context: Context) -> Result<Composition, JsonReadError> {
         let reference = first_or_old(map, "bom-ref", "bomRef");
-        let bom_ref = optional_row_since(alloc, map, reference, SpecVersion::V1_5, version, depth)?;
-        let aggregate = required_row(alloc, map, "aggregate", version, depth)?;
-        let assemblies = optional_list_row(alloc, map, "assemblies", version, depth)?;
-        let dependencies = optional_list_row(alloc, map, "dependencies", version, depth)?;
+        let bom_ref = optional_row_since(map, reference, SpecVersion::V1_5, context)?;
+        let aggregate = required_row(map, "aggregate", context)?;
+        let assemblies = optional_list_row(map, "assemblies", context)?;
+        let dependencies = optional_list_row(map, "dependencies", context)?;
         let vulnerabilities = optional_list_row_since(
-            alloc,
             map,
             "vulnerabilities",
             SpecVersion::V1_5,
-            version,
-            depth,
+            context,
         )?;
-        let signature = optional_row_since(
-            alloc,
-            map,
-            "signature",
-            SpecVersion::V1_4,
-            version,
-            depth,
-        )?;
+        let signature = optional_row_since(map, "signature", SpecVersion::V1_4, context)?;
         Ok(Composition {
             bom_ref,
             aggregate,
@@ -90,75 +67,43 @@ impl JsonRecord for Composition {
     }
 
     #[tactic(auto, unfolding(cdx_json::proofs::OnRows::on_rows))]
-    fn kept_rows(
-        &self,
-        alloc: Global,
-        version: SpecVersion,
-        label: SpecVersion,
-    ) -> Result<Composition, AllocError> {
+    fn kept_rows(&self, keeping: Keeping) -> Result<Composition, AllocError> {
         Ok(Composition {
-            bom_ref: keep_row_since(alloc, &self.bom_ref, SpecVersion::V1_5, version, label)?,
-            aggregate: self.aggregate.kept_as(alloc, version, label)?,
-            assemblies: keep_optional_list(alloc, &self.assemblies, version, label)?,
-            dependencies: keep_optional_list(alloc, &self.dependencies, version, label)?,
+            bom_ref: keep_row_since(&self.bom_ref, SpecVersion::V1_5, keeping)?,
+            aggregate: self.aggregate.kept_as(keeping)?,
+            assemblies: keep_optional_list(&self.assemblies, keeping)?,
+            dependencies: keep_optional_list(&self.dependencies, keeping)?,
             vulnerabilities: keep_optional_list_since(
-                alloc,
                 &self.vulnerabilities,
                 SpecVersion::V1_5,
-                version,
-                label,
+                keeping,
             )?,
-            signature: keep_row_since(alloc, &self.signature, SpecVersion::V1_4, version, label)?,
+            signature: keep_row_since(&self.signature, SpecVersion::V1_4, keeping)?,
         })
     }
 
     #[tactic(auto, unfolding(cdx_json::proofs::OnRows::on_rows))]
-    fn put_members(
-        &self,
-        alloc: Global,
-        map: &mut Map<String, Value>,
-        version: SpecVersion,
-    ) -> Result<(), AllocError> {
-        put_row_since(
-            alloc,
-            map,
-            "bom-ref",
-            &self.bom_ref,
-            SpecVersion::V1_5,
-            version,
-        )?;
-        put_required(alloc, map, "aggregate", &self.aggregate, version)?;
-        put_optional_list(alloc, map, "assemblies", &self.assemblies, version)?;
-        put_optional_list(alloc, map, "dependencies", &self.dependencies, version)?;
+    fn put_members(&self, map: &mut Members, target: Target) -> Result<(), AllocError> {
+        put_row_since(map, "bom-ref", &self.bom_ref, SpecVersion::V1_5, target)?;
+        put_required(map, "aggregate", &self.aggregate, target)?;
+        put_optional_list(map, "assemblies", &self.assemblies, target)?;
+        put_optional_list(map, "dependencies", &self.dependencies, target)?;
         put_optional_list_since(
-            alloc,
             map,
             "vulnerabilities",
             &self.vulnerabilities,
             SpecVersion::V1_5,
-            version,
+            target,
         )?;
-        put_row_since(
-            alloc,
-            map,
-            "signature",
-            &self.signature,
-            SpecVersion::V1_4,
-            version,
-        )?;
+        put_row_since(map, "signature", &self.signature, SpecVersion::V1_4, target)?;
         Ok(())
     }
 }
 
 impl FromJson for Compositions {
     #[tactic(auto, unfolding(cdx_schema::specs::Table::list))]
-    fn from_json_at(
-        alloc: Global,
-        value: &Value,
-        version: SpecVersion,
-        depth: Depth,
-    ) -> Result<Compositions, JsonReadError> {
-        Ok(Compositions(list_from_value(alloc, value, version, depth)?))
+    fn from_json_at(value: &Value, context: Context) -> Result<Compositions, JsonReadError> {
+        Ok(Compositions(list_from_value(value, context)?))
     }
 }
 
@@ -166,13 +111,8 @@ impl Kept for Compositions {
     ghost stays = { λ w l x. list_stays w l compositions _ };
 
     #[tactic(auto, unfolding(cdx_schema::specs::Table::list))]
-    fn kept_as(
-        &self,
-        alloc: Global,
-        version: SpecVersion,
-        label: SpecVersion,
-    ) -> Result<Compositions, AllocError> {
-        Ok(Compositions(keep_list(alloc, &self.0, version, label)?))
+    fn kept_as(&self, keeping: Keeping) -> Result<Compositions, AllocError> {
+        Ok(Compositions(keep_list(&self.0, keeping)?))
     }
 }
 

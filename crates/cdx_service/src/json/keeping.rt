@@ -12,30 +12,26 @@ ghost use Rattle.cdx_json.specs.Groups.{group};
 
 use crate::service::parts::{ServiceAccess, ServiceContents, ServiceNaming, assemble};
 use crate::service::{Service, Services};
-use cdx_json::{Kept, keep_optional_list, keep_row, keep_row_since};
+use cdx_json::{Keeping, Kept, keep_optional_list, keep_row, keep_row_since};
 use cdx_models::SpecVersion;
-use std::alloc::{AllocError, Global};
+use std::alloc::AllocError;
 
 /// What a version keeps of a service.
 #[cycle(service_keep)]
-pub(crate) fn keep_service(
-    held: &Service,
-    alloc: Global,
-    version: SpecVersion,
-    label: SpecVersion,
-) -> Result<Service, AllocError>
+pub(crate) fn keep_service(held: &Service, keeping: Keeping) -> Result<Service, AllocError>
     ensures { IfOk result
-        (λ r. service_tree r ≡ kept version label (service_tree held.now) (a_record service)) }
+        (λ r. service_tree r ≡ kept keeping.version keeping.label (service_tree held.now)
+        (a_record service)) }
 {
-    let service_naming = keep_service_naming(held, alloc, version, label)?;
-    let service_access = match keep_service_access(held, alloc, version, label) {
+    let service_naming = keep_service_naming(held, keeping)?;
+    let service_access = match keep_service_access(held, keeping) {
         Ok(service_access) => service_access,
         Err(error) => {
             drop(service_naming);
             return Err(error);
         }
     };
-    let service_contents = match keep_service_contents(held, alloc, version, label) {
+    let service_contents = match keep_service_contents(held, keeping) {
         Ok(service_contents) => service_contents,
         Err(error) => {
             drop(service_naming);
@@ -48,38 +44,30 @@ pub(crate) fn keep_service(
 
 /// What a version keeps of a list of services.
 #[cycle(service_keep)]
-pub(crate) fn keep_services(
-    held: &Services,
-    alloc: Global,
-    version: SpecVersion,
-    label: SpecVersion,
-) -> Result<Services, AllocError>
+pub(crate) fn keep_services(held: &Services, keeping: Keeping) -> Result<Services, AllocError>
     ensures { IfOk result
-        (λ r. services_tree r ≡ kept version label (services_tree held.now) (a_list services)) }
+        (λ r. services_tree r ≡ kept keeping.version keeping.label (services_tree held.now)
+        (a_list services)) }
 {
-    let mut copies = Services::with_capacity(alloc, held.len())?;
+    let mut copies = Services::with_capacity(keeping.alloc, held.len())?;
     for item in &held.items {
-        copies.push(keep_service(item, alloc, version, label)?)?;
+        copies.push(keep_service(item, keeping)?)?;
     }
     Ok(copies)
 }
 
 #[tactic(auto, unfolding(cdx_json::proofs::OnRows::on_rows))]
-fn keep_service_naming(
-    held: &Service,
-    alloc: Global,
-    version: SpecVersion,
-    label: SpecVersion,
-) -> Result<ServiceNaming, AllocError>
+fn keep_service_naming(held: &Service, keeping: Keeping) -> Result<ServiceNaming, AllocError>
     ensures { IfOk result (λ r. service_naming_trees r
-        ≡ rows_held version label (service_naming (out-Service held.now)) (group 0 service)) }
+        ≡ rows_held keeping.version keeping.label (service_naming (out-Service held.now))
+        (group 0 service)) }
 {
-    let bom_ref = keep_row(alloc, &held.bom_ref, version, label)?;
-    let group = keep_row(alloc, &held.group, version, label)?;
-    let name = held.name.kept_as(alloc, version, label)?;
-    let held_version = keep_row(alloc, &held.version, version, label)?;
-    let description = keep_row(alloc, &held.description, version, label)?;
-    let provider = keep_row(alloc, &held.provider, version, label)?;
+    let bom_ref = keep_row(&held.bom_ref, keeping)?;
+    let group = keep_row(&held.group, keeping)?;
+    let name = held.name.kept_as(keeping)?;
+    let held_version = keep_row(&held.version, keeping)?;
+    let description = keep_row(&held.description, keeping)?;
+    let provider = keep_row(&held.provider, keeping)?;
     Ok(ServiceNaming {
         bom_ref,
         provider,
@@ -91,21 +79,17 @@ fn keep_service_naming(
 }
 
 #[tactic(auto, unfolding(cdx_json::proofs::OnRows::on_rows))]
-fn keep_service_access(
-    held: &Service,
-    alloc: Global,
-    version: SpecVersion,
-    label: SpecVersion,
-) -> Result<ServiceAccess, AllocError>
+fn keep_service_access(held: &Service, keeping: Keeping) -> Result<ServiceAccess, AllocError>
     ensures { IfOk result (λ r. service_access_trees r
-        ≡ rows_held version label (service_access (out-Service held.now)) (group 1 service)) }
+        ≡ rows_held keeping.version keeping.label (service_access (out-Service held.now))
+        (group 1 service)) }
 {
-    let endpoints = keep_optional_list(alloc, &held.endpoints, version, label)?;
-    let authenticated = keep_row(alloc, &held.authenticated, version, label)?;
-    let x_trust_boundary = keep_row(alloc, &held.x_trust_boundary, version, label)?;
-    let data_items = keep_row(alloc, &held.data_items, version, label)?;
-    let licenses = keep_row(alloc, &held.licenses, version, label)?;
-    let external_references = keep_row(alloc, &held.external_references, version, label)?;
+    let endpoints = keep_optional_list(&held.endpoints, keeping)?;
+    let authenticated = keep_row(&held.authenticated, keeping)?;
+    let x_trust_boundary = keep_row(&held.x_trust_boundary, keeping)?;
+    let data_items = keep_row(&held.data_items, keeping)?;
+    let licenses = keep_row(&held.licenses, keeping)?;
+    let external_references = keep_row(&held.external_references, keeping)?;
     Ok(ServiceAccess {
         endpoints,
         authenticated,
@@ -118,19 +102,14 @@ fn keep_service_access(
 
 #[cycle(service_keep)]
 #[tactic(auto, unfolding(cdx_json::proofs::OnRows::on_rows))]
-fn keep_service_contents(
-    held: &Service,
-    alloc: Global,
-    version: SpecVersion,
-    label: SpecVersion,
-) -> Result<ServiceContents, AllocError>
-    ensures { IfOk result (λ r. service_contents_trees r ≡ rows_held version label
+fn keep_service_contents(held: &Service, keeping: Keeping) -> Result<ServiceContents, AllocError>
+    ensures { IfOk result (λ r. service_contents_trees r ≡ rows_held keeping.version keeping.label
         (service_contents services_tree (out-Service held.now)) (group 2 service)) }
 {
-    let properties = keep_row(alloc, &held.properties, version, label)?;
-    let services = keep_services_row(&held.services, alloc, version, label)?;
-    let signature = keep_row_since(alloc, &held.signature, SpecVersion::V1_4, version, label)?;
-    let trust_zone = keep_row_since(alloc, &held.trust_zone, SpecVersion::V1_5, version, label)?;
+    let properties = keep_row(&held.properties, keeping)?;
+    let services = keep_services_row(&held.services, keeping)?;
+    let signature = keep_row_since(&held.signature, SpecVersion::V1_4, keeping)?;
+    let trust_zone = keep_row_since(&held.trust_zone, SpecVersion::V1_5, keeping)?;
     Ok(ServiceContents {
         properties,
         services,
@@ -143,15 +122,13 @@ fn keep_service_contents(
 #[tactic(auto, unfolding(cdx_schema::specs::Keeping::kept))]
 fn keep_services_row(
     held: &Option<Services>,
-    alloc: Global,
-    version: SpecVersion,
-    label: SpecVersion,
+    keeping: Keeping,
 ) -> Result<Option<Services>, AllocError>
     ensures { IfOk result (λ r. present services_tree r
-        ≡ kept version label (present services_tree held.now) (a_list services)) }
+        ≡ kept keeping.version keeping.label (present services_tree held.now) (a_list services)) }
 {
     match held {
         None => Ok(None),
-        Some(held) => Ok(Some(keep_services(held, alloc, version, label)?)),
+        Some(held) => Ok(Some(keep_services(held, keeping)?)),
     }
 }

@@ -15,58 +15,51 @@ ghost use Rattle.cdx_service.specs.Groups.{service_by_groups};
 use crate::service::parts::{ServiceAccess, ServiceContents, ServiceNaming, assemble};
 use crate::service::{Service, Services};
 use cdx_json::{
-    Depth, at_item, at_member, here, member_not_null, optional_list_row, optional_row,
-    optional_row_since, required_row,
+    Context, Depth, Members, at_item, at_member, here, member_not_null, optional_list_row,
+    optional_row, optional_row_since, required_row,
 };
 use cdx_models::{JsonKind, JsonReadError, SpecVersion};
-use serde_json::{Map, Value};
-use std::alloc::Global;
+use serde_json::Value;
 
 /// The service that a value denotes, or its first fault.
 #[cycle(service_read)]
-pub(crate) fn read_service(
-    alloc: Global,
-    value: &Value,
-    version: SpecVersion,
-    depth: Depth,
-) -> Result<Service, JsonReadError>
+pub(crate) fn read_service(value: &Value, context: Context) -> Result<Service, JsonReadError>
     ensures { Gives service_tree result
-        (jread (view value.now) version (a_record service) (depth_of depth)) }
+        (jread (view value.now) context.version (a_record service) (depth_of context.depth)) }
 {
-    if depth.services >= 32 {
-        return Err(here(alloc, JsonKind::TooDeep));
+    if context.depth.services >= 32 {
+        return Err(here(context.alloc, JsonKind::TooDeep));
     }
     match value.as_object() {
-        None => Err(here(alloc, JsonKind::WrongKind)),
+        None => Err(here(context.alloc, JsonKind::WrongKind)),
         Some(map) => {
-            let inner = Depth {
-                components: depth.components,
-                services: depth.services + 1,
+            let inner = Context {
+                depth: Depth {
+                    components: context.depth.components,
+                    services: context.depth.services + 1,
+                },
+                ..context
             };
-            service_from_members(alloc, map, version, inner)
+            service_from_members(map, inner)
         }
     }
 }
 
 #[cycle(service_read)]
-fn service_from_members(
-    alloc: Global,
-    map: &Map<String, Value>,
-    version: SpecVersion,
-    depth: Depth,
-) -> Result<Service, JsonReadError>
+fn service_from_members(map: &Members, context: Context) -> Result<Service, JsonReadError>
     ensures { Gives service_tree result
-        (service_by_groups (seen (members_view map.now.entries)) version (depth_of depth)) }
+        (service_by_groups (seen (members_view map.now.entries)) context.version
+        (depth_of context.depth)) }
 {
-    let service_naming = read_service_naming(alloc, map, version, depth)?;
-    let service_access = match read_service_access(alloc, map, version, depth) {
+    let service_naming = read_service_naming(map, context)?;
+    let service_access = match read_service_access(map, context) {
         Ok(service_access) => service_access,
         Err(error) => {
             drop(service_naming);
             return Err(error);
         }
     };
-    let service_contents = match read_service_contents(alloc, map, version, depth) {
+    let service_contents = match read_service_contents(map, context) {
         Ok(service_contents) => service_contents,
         Err(error) => {
             drop(service_naming);
@@ -79,34 +72,25 @@ fn service_from_members(
 
 /// The services that a value denotes, or its first fault.
 #[cycle(service_read)]
-pub(crate) fn read_services(
-    alloc: Global,
-    value: &Value,
-    version: SpecVersion,
-    depth: Depth,
-) -> Result<Services, JsonReadError>
+pub(crate) fn read_services(value: &Value, context: Context) -> Result<Services, JsonReadError>
     ensures { Gives services_tree result
-        (jread (view value.now) version (a_list services) (depth_of depth)) }
+        (jread (view value.now) context.version (a_list services) (depth_of context.depth)) }
 {
     match value.as_array() {
-        None => Err(here(alloc, JsonKind::WrongKind)),
-        Some(items) => services_from_items(alloc, items, version, depth),
+        None => Err(here(context.alloc, JsonKind::WrongKind)),
+        Some(items) => services_from_items(items, context),
     }
 }
 
 #[cycle(service_read)]
-fn services_from_items(
-    alloc: Global,
-    items: &Vec<Value>,
-    version: SpecVersion,
-    depth: Depth,
-) -> Result<Services, JsonReadError>
+fn services_from_items(items: &Vec<Value>, context: Context) -> Result<Services, JsonReadError>
     ensures { Gives services_tree result
-        (list_read (items_view items.now.items) version (a_record service) (depth_of depth)) }
+        (list_read (items_view items.now.items) context.version (a_record service)
+        (depth_of context.depth)) }
 {
-    let mut list = Services::with_capacity(alloc, items.len())?;
+    let mut list = Services::with_capacity(context.alloc, items.len())?;
     for (i, item) in items.iter().enumerate() {
-        match read_service(alloc, item, version, depth) {
+        match read_service(item, context) {
             Ok(held) => list.push(held)?,
             Err(e) => return Err(at_item(i, e)),
         }
@@ -114,21 +98,17 @@ fn services_from_items(
     Ok(list)
 }
 
-fn read_service_naming(
-    alloc: Global,
-    map: &Map<String, Value>,
-    version: SpecVersion,
-    depth: Depth,
-) -> Result<ServiceNaming, JsonReadError>
+fn read_service_naming(map: &Members, context: Context) -> Result<ServiceNaming, JsonReadError>
     ensures { Gives service_naming_trees result
-        (group_read 0 service (seen (members_view map.now.entries)) version (depth_of depth)) }
+        (group_read 0 service (seen (members_view map.now.entries)) context.version
+        (depth_of context.depth)) }
 {
-    let bom_ref = optional_row(alloc, map, "bom-ref", version, depth)?;
-    let provider = optional_row(alloc, map, "provider", version, depth)?;
-    let group = optional_row(alloc, map, "group", version, depth)?;
-    let name = required_row(alloc, map, "name", version, depth)?;
-    let held_version = optional_row(alloc, map, "version", version, depth)?;
-    let description = optional_row(alloc, map, "description", version, depth)?;
+    let bom_ref = optional_row(map, "bom-ref", context)?;
+    let provider = optional_row(map, "provider", context)?;
+    let group = optional_row(map, "group", context)?;
+    let name = required_row(map, "name", context)?;
+    let held_version = optional_row(map, "version", context)?;
+    let description = optional_row(map, "description", context)?;
     Ok(ServiceNaming {
         bom_ref,
         provider,
@@ -139,21 +119,17 @@ fn read_service_naming(
     })
 }
 
-fn read_service_access(
-    alloc: Global,
-    map: &Map<String, Value>,
-    version: SpecVersion,
-    depth: Depth,
-) -> Result<ServiceAccess, JsonReadError>
+fn read_service_access(map: &Members, context: Context) -> Result<ServiceAccess, JsonReadError>
     ensures { Gives service_access_trees result
-        (group_read 1 service (seen (members_view map.now.entries)) version (depth_of depth)) }
+        (group_read 1 service (seen (members_view map.now.entries)) context.version
+        (depth_of context.depth)) }
 {
-    let endpoints = optional_list_row(alloc, map, "endpoints", version, depth)?;
-    let authenticated = optional_row(alloc, map, "authenticated", version, depth)?;
-    let x_trust_boundary = optional_row(alloc, map, "x-trust-boundary", version, depth)?;
-    let data_items = optional_row(alloc, map, "data", version, depth)?;
-    let licenses = optional_row(alloc, map, "licenses", version, depth)?;
-    let external_references = optional_row(alloc, map, "externalReferences", version, depth)?;
+    let endpoints = optional_list_row(map, "endpoints", context)?;
+    let authenticated = optional_row(map, "authenticated", context)?;
+    let x_trust_boundary = optional_row(map, "x-trust-boundary", context)?;
+    let data_items = optional_row(map, "data", context)?;
+    let licenses = optional_row(map, "licenses", context)?;
+    let external_references = optional_row(map, "externalReferences", context)?;
     Ok(ServiceAccess {
         endpoints,
         authenticated,
@@ -165,26 +141,15 @@ fn read_service_access(
 }
 
 #[cycle(service_read)]
-fn read_service_contents(
-    alloc: Global,
-    map: &Map<String, Value>,
-    version: SpecVersion,
-    depth: Depth,
-) -> Result<ServiceContents, JsonReadError>
+fn read_service_contents(map: &Members, context: Context) -> Result<ServiceContents, JsonReadError>
     ensures { Gives service_contents_trees result
-        (group_read 2 service (seen (members_view map.now.entries)) version (depth_of depth)) }
+        (group_read 2 service (seen (members_view map.now.entries)) context.version
+        (depth_of context.depth)) }
 {
-    let properties = optional_row(alloc, map, "properties", version, depth)?;
-    let services = read_services_row(alloc, map, "services", version, depth)?;
-    let signature = optional_row_since(alloc, map, "signature", SpecVersion::V1_4, version, depth)?;
-    let trust_zone = optional_row_since(
-        alloc,
-        map,
-        "trustZone",
-        SpecVersion::V1_5,
-        version,
-        depth,
-    )?;
+    let properties = optional_row(map, "properties", context)?;
+    let services = read_services_row(map, "services", context)?;
+    let signature = optional_row_since(map, "signature", SpecVersion::V1_4, context)?;
+    let trust_zone = optional_row_since(map, "trustZone", SpecVersion::V1_5, context)?;
     Ok(ServiceContents {
         properties,
         services,
@@ -195,20 +160,18 @@ fn read_service_contents(
 
 #[cycle(service_read)]
 fn read_services_row(
-    alloc: Global,
-    map: &Map<String, Value>,
+    map: &Members,
     name: &str,
-    version: SpecVersion,
-    depth: Depth,
+    context: Context,
 ) -> Result<Option<Services>, JsonReadError>
     ensures { Gives (present services_tree) result (member_of (seen (members_view map.now.entries))
-        name.now optional (a_list services) version (depth_of depth)) }
+        name.now optional (a_list services) context.version (depth_of context.depth)) }
 {
     match member_not_null(map, name) {
         None => Ok(None),
-        Some(value) => match read_services(alloc, value, version, depth) {
+        Some(value) => match read_services(value, context) {
             Ok(held) => Ok(Some(held)),
-            Err(e) => Err(at_member(alloc, name, e)),
+            Err(e) => Err(at_member(context.alloc, name, e)),
         },
     }
 }

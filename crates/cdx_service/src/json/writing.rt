@@ -12,125 +12,83 @@ ghost use Rattle.cdx_service.specs.Trees.{service_tree, services_tree, service_n
 ghost use Rattle.cdx_json.specs.Groups.{group};
 
 use crate::service::{Service, Services};
-use cdx_json::{put_optional_list, put_required, put_row, put_row_since};
+use cdx_json::{Members, put_optional_list, put_required, put_row, put_row_since};
 use cdx_models::SpecVersion;
+use cdx_schema::Target;
 use serde_json::{Map, Value};
-use std::alloc::{AllocError, Global};
+use std::alloc::AllocError;
 
 /// The spelling of what the version keeps of a service.
 #[cycle(service_write)]
-pub(crate) fn write_service(
-    held: &Service,
-    alloc: Global,
-    version: SpecVersion,
-) -> Result<Value, AllocError>
+pub(crate) fn write_service(held: &Service, target: Target) -> Result<Value, AllocError>
     ensures { IfOk result (λ v. view v ≡ jspell
-        (keep version (service_tree held.now) (a_record service)) version
+        (keep target.version (service_tree held.now) (a_record service)) target.version
         (a_record service)) }
 {
-    let mut map = Map::new(alloc);
-    put_service_naming(held, alloc, &mut map, version)?;
-    put_service_access(held, alloc, &mut map, version)?;
-    put_service_contents(held, alloc, &mut map, version)?;
+    let mut map = Map::new(target.alloc);
+    put_service_naming(held, &mut map, target)?;
+    put_service_access(held, &mut map, target)?;
+    put_service_contents(held, &mut map, target)?;
     Ok(Value::Object(map))
 }
 
 /// The spelling of what the version keeps of a list of services.
 #[cycle(service_write)]
-pub(crate) fn write_services(
-    held: &Services,
-    alloc: Global,
-    version: SpecVersion,
-) -> Result<Value, AllocError>
+pub(crate) fn write_services(held: &Services, target: Target) -> Result<Value, AllocError>
     ensures { IfOk result (λ v. view v ≡ jspell
-        (keep version (services_tree held.now) (a_list services)) version
+        (keep target.version (services_tree held.now) (a_list services)) target.version
         (a_list services)) }
 {
-    let mut values = Vec::with_capacity(alloc, held.len())?;
+    let mut values = Vec::with_capacity(target.alloc, held.len())?;
     for item in &held.items {
-        values.push(write_service(item, alloc, version)?)?;
+        values.push(write_service(item, target)?)?;
     }
     Ok(Value::Array(values))
 }
 
-fn put_service_naming(
-    held: &Service,
-    alloc: Global,
-    map: &mut Map<String, Value>,
-    version: SpecVersion,
-) -> Result<(), AllocError>
+fn put_service_naming(held: &Service, map: &mut Members, target: Target) -> Result<(), AllocError>
     ensures { OnOk result (members_view map.new.entries ≡ rows_put
-        (service_naming (out-Service held.now)) version (group 0 service)
+        (service_naming (out-Service held.now)) target.version (group 0 service)
         (members_view map.old.entries)) }
 {
-    put_row(alloc, map, "bom-ref", &held.bom_ref, version)?;
-    put_row(alloc, map, "provider", &held.provider, version)?;
-    put_row(alloc, map, "group", &held.group, version)?;
-    put_required(alloc, map, "name", &held.name, version)?;
-    put_row(alloc, map, "version", &held.version, version)?;
-    put_row(alloc, map, "description", &held.description, version)?;
+    put_row(map, "bom-ref", &held.bom_ref, target)?;
+    put_row(map, "provider", &held.provider, target)?;
+    put_row(map, "group", &held.group, target)?;
+    put_required(map, "name", &held.name, target)?;
+    put_row(map, "version", &held.version, target)?;
+    put_row(map, "description", &held.description, target)?;
     Ok(())
 }
 
-fn put_service_access(
-    held: &Service,
-    alloc: Global,
-    map: &mut Map<String, Value>,
-    version: SpecVersion,
-) -> Result<(), AllocError>
+fn put_service_access(held: &Service, map: &mut Members, target: Target) -> Result<(), AllocError>
     ensures { OnOk result (members_view map.new.entries ≡ rows_put
-        (service_access (out-Service held.now)) version (group 1 service)
+        (service_access (out-Service held.now)) target.version (group 1 service)
         (members_view map.old.entries)) }
 {
-    put_optional_list(alloc, map, "endpoints", &held.endpoints, version)?;
-    put_row(alloc, map, "authenticated", &held.authenticated, version)?;
-    put_row(
-        alloc,
-        map,
-        "x-trust-boundary",
-        &held.x_trust_boundary,
-        version,
-    )?;
-    put_row(alloc, map, "data", &held.data_items, version)?;
-    put_row(alloc, map, "licenses", &held.licenses, version)?;
-    put_row(
-        alloc,
-        map,
-        "externalReferences",
-        &held.external_references,
-        version,
-    )?;
+    put_optional_list(map, "endpoints", &held.endpoints, target)?;
+    put_row(map, "authenticated", &held.authenticated, target)?;
+    put_row(map, "x-trust-boundary", &held.x_trust_boundary, target)?;
+    put_row(map, "data", &held.data_items, target)?;
+    put_row(map, "licenses", &held.licenses, target)?;
+    put_row(map, "externalReferences", &held.external_references, target)?;
     Ok(())
 }
 
 #[cycle(service_write)]
-fn put_service_contents(
-    held: &Service,
-    alloc: Global,
-    map: &mut Map<String, Value>,
-    version: SpecVersion,
-) -> Result<(), AllocError>
+fn put_service_contents(held: &Service, map: &mut Members, target: Target) -> Result<(), AllocError>
     ensures { OnOk result (members_view map.new.entries ≡ rows_put
-        (service_contents services_tree (out-Service held.now)) version (group 2 service)
+        (service_contents services_tree (out-Service held.now)) target.version (group 2 service)
         (members_view map.old.entries)) }
 {
-    put_row(alloc, map, "properties", &held.properties, version)?;
-    put_services_row(&held.services, alloc, map, "services", version)?;
+    put_row(map, "properties", &held.properties, target)?;
+    put_services_row(&held.services, map, "services", target)?;
+    put_row_since(map, "signature", &held.signature, SpecVersion::V1_4, target)?;
     put_row_since(
-        alloc,
-        map,
-        "signature",
-        &held.signature,
-        SpecVersion::V1_4,
-        version,
-    )?;
-    put_row_since(
-        alloc,
         map,
         "trustZone",
         &held.trust_zone,
         SpecVersion::V1_5,
-        version,
+        target,
     )?;
     Ok(())
 }
@@ -138,19 +96,18 @@ fn put_service_contents(
 #[cycle(service_write)]
 fn put_services_row(
     held: &Option<Services>,
-    alloc: Global,
-    map: &mut Map<String, Value>,
+    map: &mut Members,
     name: &str,
-    version: SpecVersion,
+    target: Target,
 ) -> Result<(), AllocError>
     ensures { OnOk result (members_view map.new.entries ≡ put_kept name.now (a_list services)
-        (present services_tree held.now) version (members_view map.old.entries)) }
+        (present services_tree held.now) target.version (members_view map.old.entries)) }
 {
     match held {
         None => Ok(()),
         Some(held) => {
-            let value = write_services(held, alloc, version)?;
-            serde_json::put(map, alloc, name, value)
+            let value = write_services(held, target)?;
+            serde_json::put(map, target.alloc, name, value)
         }
     }
 }

@@ -10,29 +10,25 @@ ghost use Rattle.cdx_bom.specs.PartTrees.{inventory_trees, relations_trees};
 use crate::bom::Bom;
 use crate::bom::json::label::Label;
 use crate::bom::parts::{Inventory, Relations};
-use cdx_json::{Kept, keep_row, keep_row_since};
+use cdx_json::{Keeping, Kept, keep_row, keep_row_since};
 use cdx_models::SpecVersion;
-use std::alloc::{AllocError, Global};
+use std::alloc::AllocError;
 
 #[tactic(auto, unfolding(cdx_json::proofs::OnRows::on_rows))]
-pub(crate) fn keep_inventory(
-    held: &Bom,
-    alloc: Global,
-    version: SpecVersion,
-    label: SpecVersion,
-) -> Result<Inventory, AllocError>
+pub(crate) fn keep_inventory(held: &Bom, keeping: Keeping) -> Result<Inventory, AllocError>
     ensures { IfOk result
-        (λ r. inventory_trees r ≡ rows_held version label (inventory held.now) (group 0 bill)) }
+        (λ r. inventory_trees r ≡ rows_held keeping.version keeping.label (inventory held.now)
+        (group 0 bill)) }
 {
     let old_label = Label {
         version: held.spec_version,
     };
-    let new_label = old_label.kept_as(alloc, version, label)?;
-    let bill_version = held.version.kept_as(alloc, version, label)?;
-    let serial_number = keep_row(alloc, &held.serial_number, version, label)?;
-    let components = keep_row(alloc, &held.components, version, label)?;
-    let services = keep_row(alloc, &held.services, version, label)?;
-    let metadata = keep_row(alloc, &held.metadata, version, label)?;
+    let new_label = old_label.kept_as(keeping)?;
+    let bill_version = held.version.kept_as(keeping)?;
+    let serial_number = keep_row(&held.serial_number, keeping)?;
+    let components = keep_row(&held.components, keeping)?;
+    let services = keep_row(&held.services, keeping)?;
+    let metadata = keep_row(&held.metadata, keeping)?;
     Ok(Inventory {
         spec_version: new_label.version,
         version: bill_version,
@@ -44,20 +40,16 @@ pub(crate) fn keep_inventory(
 }
 
 #[tactic(auto, unfolding(cdx_json::proofs::OnRows::on_rows))]
-pub(crate) fn keep_relations(
-    held: &Bom,
-    alloc: Global,
-    version: SpecVersion,
-    label: SpecVersion,
-) -> Result<Relations, AllocError>
+pub(crate) fn keep_relations(held: &Bom, keeping: Keeping) -> Result<Relations, AllocError>
     ensures { IfOk result
-        (λ r. relations_trees r ≡ rows_held version label (relations held.now) (group 1 bill)) }
+        (λ r. relations_trees r ≡ rows_held keeping.version keeping.label (relations held.now)
+        (group 1 bill)) }
 {
-    let external_references = keep_row(alloc, &held.external_references, version, label)?;
-    let dependencies = keep_row(alloc, &held.dependencies, version, label)?;
-    let compositions = keep_row(alloc, &held.compositions, version, label)?;
-    let properties = keep_row_since(alloc, &held.properties, SpecVersion::V1_5, version, label)?;
-    let signature = keep_row_since(alloc, &held.signature, SpecVersion::V1_4, version, label)?;
+    let external_references = keep_row(&held.external_references, keeping)?;
+    let dependencies = keep_row(&held.dependencies, keeping)?;
+    let compositions = keep_row(&held.compositions, keeping)?;
+    let properties = keep_row_since(&held.properties, SpecVersion::V1_5, keeping)?;
+    let signature = keep_row_since(&held.signature, SpecVersion::V1_4, keeping)?;
     Ok(Relations {
         external_references,
         dependencies,

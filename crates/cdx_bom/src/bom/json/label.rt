@@ -7,7 +7,7 @@ ghost use Rattle.cdx_bom.specs.Labels.{named_tree};
 ghost use Rattle.cdx_bom.specs.Stays.{label_stays};
 
 use crate::bom::compared::same_label;
-use cdx_json::{Depth, FromJson, Kept, ToJson, here};
+use cdx_json::{Context, FromJson, Keeping, Kept, ToJson, here};
 use cdx_models::{HasTree, JsonKind, JsonReadError, SpecVersion};
 use cdx_schema::Kinded;
 use serde_json::Value;
@@ -40,16 +40,11 @@ impl Kinded for Label {
 }
 
 impl FromJson for Label {
-    fn from_json_at(
-        alloc: Global,
-        value: &Value,
-        version: SpecVersion,
-        depth: Depth,
-    ) -> Result<Label, JsonReadError> {
+    fn from_json_at(value: &Value, context: Context) -> Result<Label, JsonReadError> {
         match value.as_str() {
-            None => Err(here(alloc, JsonKind::WrongKind)),
+            None => Err(here(context.alloc, JsonKind::WrongKind)),
             Some(text) => match SpecVersion::from_text(text) {
-                None => Err(here(alloc, JsonKind::BadSpecVersion)),
+                None => Err(here(context.alloc, JsonKind::BadSpecVersion)),
                 Some(version) => Ok(Label { version }),
             },
         }
@@ -60,13 +55,10 @@ impl Kept for Label {
     ghost stays = { label_stays };
 
     #[tactic(auto, unfolding(cdx_schema::specs::Keeping::kept))]
-    fn kept_as(
-        &self,
-        alloc: Global,
-        version: SpecVersion,
-        label: SpecVersion,
-    ) -> Result<Label, AllocError> {
-        Ok(Label { version: label })
+    fn kept_as(&self, keeping: Keeping) -> Result<Label, AllocError> {
+        Ok(Label {
+            version: keeping.label,
+        })
     }
 }
 

@@ -10,32 +10,26 @@ ghost use Rattle.cdx_bom.specs.PartTrees.{inventory_trees, relations_trees};
 
 use crate::bom::json::label::Label;
 use crate::bom::parts::{Inventory, Relations};
-use cdx_json::{Depth, optional_row, optional_row_since, required_row};
+use cdx_json::{Context, Members, optional_row, optional_row_since, required_row};
 use cdx_models::{JsonReadError, SpecVersion};
-use serde_json::{Map, Value};
-use std::alloc::Global;
 
-pub(crate) fn read_inventory(
-    alloc: Global,
-    map: &Map<String, Value>,
-    version: SpecVersion,
-    depth: Depth,
-) -> Result<Inventory, JsonReadError>
+pub(crate) fn read_inventory(map: &Members, context: Context) -> Result<Inventory, JsonReadError>
     ensures { Gives inventory_trees result
-        (group_read 0 bill (seen (members_view map.now.entries)) version (depth_of depth)) }
+        (group_read 0 bill (seen (members_view map.now.entries)) context.version
+        (depth_of context.depth)) }
 {
-    let label: Label = required_row(alloc, map, "specVersion", version, depth)?;
-    let bill_version = required_row(alloc, map, "version", version, depth)?;
-    let serial_number = optional_row(alloc, map, "serialNumber", version, depth)?;
-    let metadata = optional_row(alloc, map, "metadata", version, depth)?;
-    let components = match optional_row(alloc, map, "components", version, depth) {
+    let label: Label = required_row(map, "specVersion", context)?;
+    let bill_version = required_row(map, "version", context)?;
+    let serial_number = optional_row(map, "serialNumber", context)?;
+    let metadata = optional_row(map, "metadata", context)?;
+    let components = match optional_row(map, "components", context) {
         Ok(components) => components,
         Err(error) => {
             drop(metadata);
             return Err(error);
         }
     };
-    let services = match optional_row(alloc, map, "services", version, depth) {
+    let services = match optional_row(map, "services", context) {
         Ok(services) => services,
         Err(error) => {
             drop(metadata);
@@ -52,27 +46,16 @@ pub(crate) fn read_inventory(
     })
 }
 
-pub(crate) fn read_relations(
-    alloc: Global,
-    map: &Map<String, Value>,
-    version: SpecVersion,
-    depth: Depth,
-) -> Result<Relations, JsonReadError>
+pub(crate) fn read_relations(map: &Members, context: Context) -> Result<Relations, JsonReadError>
     ensures { Gives relations_trees result
-        (group_read 1 bill (seen (members_view map.now.entries)) version (depth_of depth)) }
+        (group_read 1 bill (seen (members_view map.now.entries)) context.version
+        (depth_of context.depth)) }
 {
-    let external_references = optional_row(alloc, map, "externalReferences", version, depth)?;
-    let dependencies = optional_row(alloc, map, "dependencies", version, depth)?;
-    let compositions = optional_row(alloc, map, "compositions", version, depth)?;
-    let properties = optional_row_since(
-        alloc,
-        map,
-        "properties",
-        SpecVersion::V1_5,
-        version,
-        depth,
-    )?;
-    let signature = optional_row_since(alloc, map, "signature", SpecVersion::V1_4, version, depth)?;
+    let external_references = optional_row(map, "externalReferences", context)?;
+    let dependencies = optional_row(map, "dependencies", context)?;
+    let compositions = optional_row(map, "compositions", context)?;
+    let properties = optional_row_since(map, "properties", SpecVersion::V1_5, context)?;
+    let signature = optional_row_since(map, "signature", SpecVersion::V1_4, context)?;
     Ok(Relations {
         external_references,
         dependencies,

@@ -9,65 +9,43 @@ ghost use Rattle.cdx_bom.specs.Trees.{inventory, relations};
 
 use crate::bom::Bom;
 use crate::bom::json::label::Label;
-use cdx_json::{put_required, put_row, put_row_since};
+use cdx_json::{Members, put_required, put_row, put_row_since};
 use cdx_models::SpecVersion;
-use serde_json::{Map, Value};
-use std::alloc::{AllocError, Global};
+use cdx_schema::Target;
+use std::alloc::AllocError;
 
-pub(crate) fn put_inventory(
-    held: &Bom,
-    alloc: Global,
-    map: &mut Map<String, Value>,
-    version: SpecVersion,
-) -> Result<(), AllocError>
+pub(crate) fn put_inventory(held: &Bom, map: &mut Members, target: Target) -> Result<(), AllocError>
     ensures { OnOk result (members_view map.new.entries
-        ≡ rows_put (inventory held.now) version (group 0 bill) (members_view map.old.entries)) }
+        ≡ rows_put (inventory held.now) target.version (group 0 bill)
+        (members_view map.old.entries)) }
 {
     let label = Label {
         version: held.spec_version,
     };
-    put_required(alloc, map, "specVersion", &label, version)?;
-    put_required(alloc, map, "version", &held.version, version)?;
-    put_row(alloc, map, "serialNumber", &held.serial_number, version)?;
-    put_row(alloc, map, "metadata", &held.metadata, version)?;
-    put_row(alloc, map, "components", &held.components, version)?;
-    put_row(alloc, map, "services", &held.services, version)?;
+    put_required(map, "specVersion", &label, target)?;
+    put_required(map, "version", &held.version, target)?;
+    put_row(map, "serialNumber", &held.serial_number, target)?;
+    put_row(map, "metadata", &held.metadata, target)?;
+    put_row(map, "components", &held.components, target)?;
+    put_row(map, "services", &held.services, target)?;
     Ok(())
 }
 
-pub(crate) fn put_relations(
-    held: &Bom,
-    alloc: Global,
-    map: &mut Map<String, Value>,
-    version: SpecVersion,
-) -> Result<(), AllocError>
+pub(crate) fn put_relations(held: &Bom, map: &mut Members, target: Target) -> Result<(), AllocError>
     ensures { OnOk result (members_view map.new.entries
-        ≡ rows_put (relations held.now) version (group 1 bill) (members_view map.old.entries)) }
+        ≡ rows_put (relations held.now) target.version (group 1 bill)
+        (members_view map.old.entries)) }
 {
-    put_row(
-        alloc,
-        map,
-        "externalReferences",
-        &held.external_references,
-        version,
-    )?;
-    put_row(alloc, map, "dependencies", &held.dependencies, version)?;
-    put_row(alloc, map, "compositions", &held.compositions, version)?;
+    put_row(map, "externalReferences", &held.external_references, target)?;
+    put_row(map, "dependencies", &held.dependencies, target)?;
+    put_row(map, "compositions", &held.compositions, target)?;
     put_row_since(
-        alloc,
         map,
         "properties",
         &held.properties,
         SpecVersion::V1_5,
-        version,
+        target,
     )?;
-    put_row_since(
-        alloc,
-        map,
-        "signature",
-        &held.signature,
-        SpecVersion::V1_4,
-        version,
-    )?;
+    put_row_since(map, "signature", &held.signature, SpecVersion::V1_4, target)?;
     Ok(())
 }

@@ -8,4 +8,4 @@ use Rattle.cdx_json.proofs.reading.list_from_items.Given as goal
 
 abbrev pub invariant-loop-i : goal.invariant-loop-i
 invariant-loop-i g l =
-    with_front (each g.T.HasTree.tree l.held) (items_read (items_view (drop l.i l.item-items)) l.version g.T.Kinded.kind (depth_of l.depth) l.i) ≡ items_read (items_view l.items.items) l.version g.T.Kinded.kind (depth_of l.depth) 0
+    with_front (each g.T.HasTree.tree l.held) (items_read (items_view (drop l.i l.item-items)) l.context.version g.T.Kinded.kind (depth_of l.context.depth) l.i) ≡ items_read (items_view l.items.items) l.context.version g.T.Kinded.kind (depth_of l.context.depth) 0

@@ -6,7 +6,7 @@ use Rattle.cdx_json.proofs.Spelled.{late_put_then, late_put_else}
 use Rattle.cdx_json.proofs.writing.put_optional_list_since.Goals as goal
 
 pub returns-then-is_known_to : goal.returns-then-is_known_to
-returns-then-is_known_to g c = λ l h. late_put_then c.put_optional_list.result c.args.since c.args.version c.is_known_to.result (members_view c.args.map.now.entries) (put_kept c.args.name.now (a_list l) (present (list_tree g.T.HasTree.tree) c.args.held.now) c.args.version (members_view c.args.map.now.entries)) (members_view c.put_optional_list.new.map.entries) c.is_known_to.ensures c.if-is_known_to.true (c.put_optional_list.ensures l h)
+returns-then-is_known_to g c = λ l h. late_put_then c.put_optional_list.result c.args.since c.args.target.version c.is_known_to.result (members_view c.args.map.now.entries) (put_kept c.args.name.now (a_list l) (present (list_tree g.T.HasTree.tree) c.args.held.now) c.args.target.version (members_view c.args.map.now.entries)) (members_view c.put_optional_list.new.map.entries) c.is_known_to.ensures c.if-is_known_to.true (c.put_optional_list.ensures l h)
 
 pub returns-else-is_known_to : goal.returns-else-is_known_to
-returns-else-is_known_to g c = λ l h. late_put_else c.args.since c.args.version c.is_known_to.result (members_view c.args.map.now.entries) (put_kept c.args.name.now (a_list l) (present (list_tree g.T.HasTree.tree) c.args.held.now) c.args.version (members_view c.args.map.now.entries)) c.is_known_to.ensures c.if-is_known_to.false
+returns-else-is_known_to g c = λ l h. late_put_else c.args.since c.args.target.version c.is_known_to.result (members_view c.args.map.now.entries) (put_kept c.args.name.now (a_list l) (present (list_tree g.T.HasTree.tree) c.args.held.now) c.args.target.version (members_view c.args.map.now.entries)) c.is_known_to.ensures c.if-is_known_to.false

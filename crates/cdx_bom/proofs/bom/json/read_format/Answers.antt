@@ -8,11 +8,11 @@ use Rattle.cdx_bom.proofs.bom.json.read_format.Goals as goal
 pub returns-in_err-format : goal.returns-in_err-format
 returns-in_err-format c =
     let p = err_from_is_err_and c.from_residual.result c.from_residual.ensures.1 in
-    rw (p.1, p.2) (format_err _ (seen (members_view c.args.map.now.entries)) c.args.version (depth_of c.args.depth) c.in_err-format.ensures)
+    rw (p.1, p.2) (format_err _ (seen (members_view c.args.map.now.entries)) c.args.context.version (depth_of c.args.context.depth) c.in_err-format.ensures)
 
 pub returns-then-is : goal.returns-then-is
-returns-then-is c = format_ok (seen (members_view c.args.map.now.entries)) c.args.version (depth_of c.args.depth) c.in_ok-format.format c.is.result c.in_ok-format.ensures c.is.ensures c.if-is.true
+returns-then-is c = format_ok (seen (members_view c.args.map.now.entries)) c.args.context.version (depth_of c.args.context.depth) c.in_ok-format.format c.is.result c.in_ok-format.ensures c.is.ensures c.if-is.true
 
 pub returns : goal.returns
 returns c =
-    format_bad c.here.result c.at_member.result (seen (members_view c.args.map.now.entries)) c.args.version (depth_of c.args.depth) c.in_ok-format.format c.is.result c.in_ok-format.ensures c.is.ensures c.if-is.false c.here.ensures c.at_member.ensures
+    format_bad c.here.result c.at_member.result (seen (members_view c.args.map.now.entries)) c.args.context.version (depth_of c.args.context.depth) c.in_ok-format.format c.is.result c.in_ok-format.ensures c.is.ensures c.if-is.false c.here.ensures c.at_member.ensures

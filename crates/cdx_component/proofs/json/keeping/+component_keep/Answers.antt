@@ -11,17 +11,17 @@ use Rattle.cdx_component.proofs.Grouped.{component_kept, pedigree_kept}
 use Rattle.cdx_component.proofs.json.keeping.+component_keep.Goals as goal
 
 pub keep_component-returns : goal.keep_component-returns
-keep_component-returns t c = component_kept c.args.version c.args.label _ c.args.held.now _ _ _ _ c.assemble.ensures c.in_ok-origin.ensures c.in-Ok.ensures c.in-Ok-keep_marks.ensures c.in-Ok-keep_contents.ensures
+keep_component-returns t c = component_kept c.args.keeping.version c.args.keeping.label _ c.args.held.now _ _ _ _ c.assemble.ensures c.in_ok-origin.ensures c.in-Ok.ensures c.in-Ok-keep_marks.ensures c.in-Ok-keep_contents.ensures
 
 pub keep_pedigree-returns : goal.keep_pedigree-returns
 unfolding rows_held rows list
-keep_pedigree-returns t c = pedigree_kept c.args.version c.args.label _ c.args.held.now (rw (c.in_ok-ancestors.ensures, c.in_ok-descendants.ensures, c.in_ok-variants.ensures, c.in_ok-commits.ensures, c.in_ok-patches.ensures, c.in_ok-notes.ensures) refl)
+keep_pedigree-returns t c = pedigree_kept c.args.keeping.version c.args.keeping.label _ c.args.held.now (rw (c.in_ok-ancestors.ensures, c.in_ok-descendants.ensures, c.in_ok-variants.ensures, c.in_ok-commits.ensures, c.in_ok-patches.ensures, c.in_ok-notes.ensures) refl)
 
 pub keep_components-returns : goal.keep_components-returns
 unfolding list
 keep_components-returns t c =
-    components_tree-out c.loop-item.copies ∙ list_kept component_tree (a_record component) components c.args.version c.args.label (listed c.loop-item.copies) c.deref-item-items.result.now (listed c.args.held.now) c.loop-item.item-index refl c.deref-item-items.ensures.value (omega arith) c.loop-item.invariant
-    ∙ ap (λ u. kept c.args.version c.args.label u (a_list components)) (sym (components_tree-out c.args.held.now))
+    components_tree-out c.loop-item.copies ∙ list_kept component_tree (a_record component) components c.args.keeping.version c.args.keeping.label (listed c.loop-item.copies) c.deref-item-items.result.now (listed c.args.held.now) c.loop-item.item-index refl c.deref-item-items.ensures.value (omega arith) c.loop-item.invariant
+    ∙ ap (λ u. kept c.args.keeping.version c.args.keeping.label u (a_list components)) (sym (components_tree-out c.args.held.now))
 
 pub keep_contents-returns : goal.keep_contents-returns
 unfolding rows_held rows list

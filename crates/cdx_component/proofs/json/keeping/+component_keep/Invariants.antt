@@ -6,4 +6,4 @@ use Rattle.cdx_component.specs.Trees.{component_tree, listed}
 use Rattle.cdx_component.proofs.json.keeping.+component_keep.Given as goal
 
 abbrev pub invariant-keep_components-loop-item : goal.invariant-keep_components-loop-item
-invariant-keep_components-loop-item l = map component_tree (listed l.copies) ≡ map (λ x. kept l.version l.label (component_tree x) (a_record component)) (take l.item-index l.item-items)
+invariant-keep_components-loop-item l = map component_tree (listed l.copies) ≡ map (λ x. kept l.keeping.version l.keeping.label (component_tree x) (a_record component)) (take l.item-index l.item-items)

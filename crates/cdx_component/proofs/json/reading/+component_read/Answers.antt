@@ -18,14 +18,14 @@ use Rattle.cdx_component.proofs.Deep.{component_deep, component_none, component_
 use Rattle.cdx_component.proofs.json.reading.+component_read.Goals as goal
 
 pub read_component-returns-then-depth-ge32 : goal.read_component-returns-then-depth-ge32
-read_component-returns-then-depth-ge32 t c = component_deep c.here.result (view c.args.value.now) c.args.version (depth_of c.args.depth) (omega arith) c.here.ensures
+read_component-returns-then-depth-ge32 t c = component_deep c.here.result (view c.args.value.now) c.args.context.version (depth_of c.args.context.depth) (omega arith) c.here.ensures
 
 pub read_component-returns-in-None : goal.read_component-returns-in-None
-read_component-returns-in-None t c = component_none c.here-in-None.result (view c.args.value.now) c.args.version (depth_of c.args.depth) c.if-depth-ge32.false c.in-None.ensures c.here-in-None.ensures
+read_component-returns-in-None t c = component_none c.here-in-None.result (view c.args.value.now) c.args.context.version (depth_of c.args.context.depth) c.if-depth-ge32.false c.in-None.ensures c.here-in-None.ensures
 
 pub read_component-returns-in-Some : goal.read_component-returns-in-Some
 read_component-returns-in-Some t c =
-    component_some c.component_from_members.result (view c.args.value.now) (members_view c.in-Some.map.now.entries) c.args.version (depth_of c.args.depth) c.if-depth-ge32.false c.in-Some.ensures c.component_from_members.ensures
+    component_some c.component_from_members.result (view c.args.value.now) (members_view c.in-Some.map.now.entries) c.args.context.version (depth_of c.args.context.depth) c.if-depth-ge32.false c.in-Some.ensures c.component_from_members.ensures
 
 pub component_from_members-returns-in_err-origin : goal.component_from_members-returns-in_err-origin
 unfolding component_by_groups
@@ -51,30 +51,30 @@ component_from_members-returns t c = rw (c.in_ok-origin.ensures, c.in-Ok.ensures
 
 pub components_from_items-returns-in-Err : goal.components_from_items-returns-in-Err
 components_from_items-returns-in-Err t c =
-    stops component_tree (listed c.loop-i.list) c.deref-item-items.result.now c.loop-i.i c.item-item.result (a_record component) c.args.version (depth_of c.args.depth) (items_read (items_view c.args.items.now.items) c.args.version (a_record component) (depth_of c.args.depth) 0) c.in-Err.e c.at_item.result c.loop-i-test.true c.item-item.is c.in-Err.ensures c.at_item.ensures c.loop-i.invariant
+    stops component_tree (listed c.loop-i.list) c.deref-item-items.result.now c.loop-i.i c.item-item.result (a_record component) c.args.context.version (depth_of c.args.context.depth) (items_read (items_view c.args.items.now.items) c.args.context.version (a_record component) (depth_of c.args.context.depth) 0) c.in-Err.e c.at_item.result c.loop-i-test.true c.item-item.is c.in-Err.ensures c.at_item.ensures c.loop-i.invariant
 
 pub components_from_items-loop-i-preserved : goal.components_from_items-loop-i-preserved
 components_from_items-loop-i-preserved t c =
-    rw c.in_ok-push-in-Ok.ensures.ok (goes_on component_tree (listed c.loop-i.list) c.deref-item-items.result.now c.loop-i.i c.item-item.result c.in-Ok.held (a_record component) c.args.version (depth_of c.args.depth) (items_read (items_view c.args.items.now.items) c.args.version (a_record component) (depth_of c.args.depth) 0) c.loop-i-test.true c.item-item.is c.in-Ok.ensures c.loop-i.invariant)
+    rw c.in_ok-push-in-Ok.ensures.ok (goes_on component_tree (listed c.loop-i.list) c.deref-item-items.result.now c.loop-i.i c.item-item.result c.in-Ok.held (a_record component) c.args.context.version (depth_of c.args.context.depth) (items_read (items_view c.args.items.now.items) c.args.context.version (a_record component) (depth_of c.args.context.depth) 0) c.loop-i-test.true c.item-item.is c.in-Ok.ensures c.loop-i.invariant)
 
 pub components_from_items-returns : goal.components_from_items-returns
 components_from_items-returns t c =
-    ap (λ r. r >>= λ ts. Ok (items ts)) (ends component_tree (listed c.loop-i.list) c.deref-item-items.result.now c.loop-i.i (a_record component) c.args.version (depth_of c.args.depth) (items_read (items_view c.args.items.now.items) c.args.version (a_record component) (depth_of c.args.depth) 0) (omega arith) c.loop-i.invariant) ∙ ap Ok (sym (components_tree-out c.loop-i.list))
+    ap (λ r. r >>= λ ts. Ok (items ts)) (ends component_tree (listed c.loop-i.list) c.deref-item-items.result.now c.loop-i.i (a_record component) c.args.context.version (depth_of c.args.context.depth) (items_read (items_view c.args.items.now.items) c.args.context.version (a_record component) (depth_of c.args.context.depth) 0) (omega arith) c.loop-i.invariant) ∙ ap Ok (sym (components_tree-out c.loop-i.list))
 
 pub read_components-returns-in-None : goal.read_components-returns-in-None
-read_components-returns-in-None t c = list_err c.here.result (view c.args.value.now) components c.args.version (depth_of c.args.depth) c.in-None.ensures c.here.ensures
+read_components-returns-in-None t c = list_err c.here.result (view c.args.value.now) components c.args.context.version (depth_of c.args.context.depth) c.in-None.ensures c.here.ensures
 
 pub read_components-returns-in-Some : goal.read_components-returns-in-Some
 unfolding list
 read_components-returns-in-Some t c =
-    list_gives components_tree c.components_from_items.result (view c.args.value.now) (items_view c.in-Some.items.now.items) (a_record component) components c.args.version (depth_of c.args.depth) refl c.in-Some.ensures c.components_from_items.ensures
+    list_gives components_tree c.components_from_items.result (view c.args.value.now) (items_view c.in-Some.items.now.items) (a_record component) components c.args.context.version (depth_of c.args.context.depth) refl c.in-Some.ensures c.components_from_items.ensures
 
 pub read_pedigree-returns-in-None : goal.read_pedigree-returns-in-None
-read_pedigree-returns-in-None t c = record_err c.here.result (view c.args.value.now) pedigree c.args.version (depth_of c.args.depth) refl c.in-None.ensures c.here.ensures
+read_pedigree-returns-in-None t c = record_err c.here.result (view c.args.value.now) pedigree c.args.context.version (depth_of c.args.context.depth) refl c.in-None.ensures c.here.ensures
 
 pub read_pedigree-returns-in-Some : goal.read_pedigree-returns-in-Some
 read_pedigree-returns-in-Some t c =
-    record_gives pedigree_tree c.pedigree_from_members.result (view c.args.value.now) (members_view c.in-Some.map.now.entries) pedigree c.args.version (depth_of c.args.depth) refl refl c.in-Some.ensures c.pedigree_from_members.ensures
+    record_gives pedigree_tree c.pedigree_from_members.result (view c.args.value.now) (members_view c.in-Some.map.now.entries) pedigree c.args.context.version (depth_of c.args.context.depth) refl refl c.in-Some.ensures c.pedigree_from_members.ensures
 
 pub pedigree_from_members-returns-in_err-ancestors : goal.pedigree_from_members-returns-in_err-ancestors
 unfolding rows_made rows list
@@ -157,19 +157,19 @@ unfolding rows_made rows list
 read_contents-returns t c = rw (c.in_ok-pedigree.ensures, c.in_ok-external_references.ensures, c.in_ok-properties.ensures, c.in_ok-components.ensures, c.in_ok-evidence.ensures, c.in_ok-signature.ensures) refl
 
 pub read_pedigree_row-returns-in-None : goal.read_pedigree_row-returns-in-None
-read_pedigree_row-returns-in-None t c = may_none c.args.name.now (a_record pedigree) (members_view c.args.map.now.entries) c.args.version (depth_of c.args.depth) c.in-None.ensures
+read_pedigree_row-returns-in-None t c = may_none c.args.name.now (a_record pedigree) (members_view c.args.map.now.entries) c.args.context.version (depth_of c.args.context.depth) c.in-None.ensures
 
 pub read_pedigree_row-returns-in-Ok : goal.read_pedigree_row-returns-in-Ok
-read_pedigree_row-returns-in-Ok t c = live_ok c.args.name.now optional (a_record pedigree) (members_view c.args.map.now.entries) c.args.version (depth_of c.args.depth) (view c.in-Some.value.now) (pedigree_tree c.in-Ok.held) c.in-Some.ensures c.in-Ok.ensures
+read_pedigree_row-returns-in-Ok t c = live_ok c.args.name.now optional (a_record pedigree) (members_view c.args.map.now.entries) c.args.context.version (depth_of c.args.context.depth) (view c.in-Some.value.now) (pedigree_tree c.in-Ok.held) c.in-Some.ensures c.in-Ok.ensures
 
 pub read_pedigree_row-returns-in-Err : goal.read_pedigree_row-returns-in-Err
-read_pedigree_row-returns-in-Err t c = live_err c.in-Err.e c.at_member.result c.args.name.now optional (a_record pedigree) (members_view c.args.map.now.entries) c.args.version (depth_of c.args.depth) (view c.in-Some.value.now) c.in-Some.ensures c.in-Err.ensures c.at_member.ensures
+read_pedigree_row-returns-in-Err t c = live_err c.in-Err.e c.at_member.result c.args.name.now optional (a_record pedigree) (members_view c.args.map.now.entries) c.args.context.version (depth_of c.args.context.depth) (view c.in-Some.value.now) c.in-Some.ensures c.in-Err.ensures c.at_member.ensures
 
 pub read_components_row-returns-in-None : goal.read_components_row-returns-in-None
-read_components_row-returns-in-None t c = may_none c.args.name.now (a_list components) (members_view c.args.map.now.entries) c.args.version (depth_of c.args.depth) c.in-None.ensures
+read_components_row-returns-in-None t c = may_none c.args.name.now (a_list components) (members_view c.args.map.now.entries) c.args.context.version (depth_of c.args.context.depth) c.in-None.ensures
 
 pub read_components_row-returns-in-Ok : goal.read_components_row-returns-in-Ok
-read_components_row-returns-in-Ok t c = live_ok c.args.name.now optional (a_list components) (members_view c.args.map.now.entries) c.args.version (depth_of c.args.depth) (view c.in-Some.value.now) (components_tree c.in-Ok.held) c.in-Some.ensures c.in-Ok.ensures
+read_components_row-returns-in-Ok t c = live_ok c.args.name.now optional (a_list components) (members_view c.args.map.now.entries) c.args.context.version (depth_of c.args.context.depth) (view c.in-Some.value.now) (components_tree c.in-Ok.held) c.in-Some.ensures c.in-Ok.ensures
 
 pub read_components_row-returns-in-Err : goal.read_components_row-returns-in-Err
-read_components_row-returns-in-Err t c = live_err c.in-Err.e c.at_member.result c.args.name.now optional (a_list components) (members_view c.args.map.now.entries) c.args.version (depth_of c.args.depth) (view c.in-Some.value.now) c.in-Some.ensures c.in-Err.ensures c.at_member.ensures
+read_components_row-returns-in-Err t c = live_err c.in-Err.e c.at_member.result c.args.name.now optional (a_list components) (members_view c.args.map.now.entries) c.args.context.version (depth_of c.args.context.depth) (view c.in-Some.value.now) c.in-Some.ensures c.in-Err.ensures c.at_member.ensures

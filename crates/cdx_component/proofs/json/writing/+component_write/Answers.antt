@@ -14,16 +14,16 @@ use Rattle.cdx_component.proofs.Grouped.{component_spelled, pedigree_spelled}
 use Rattle.cdx_component.proofs.json.writing.+component_write.Goals as goal
 
 pub write_component-returns : goal.write_component-returns
-write_component-returns t c = component_spelled c.put_contents.new.map c.args.held.now c.args.version (c.in_ok-put_contents.ensures ∙ rw (c.in_ok-put_marks.ensures, c.in_ok-put_naming.ensures, c.in_ok-put_origin.ensures, c.new-map.ensures.empty) refl)
+write_component-returns t c = component_spelled c.put_contents.new.map c.args.held.now c.args.target.version (c.in_ok-put_contents.ensures ∙ rw (c.in_ok-put_marks.ensures, c.in_ok-put_naming.ensures, c.in_ok-put_origin.ensures, c.new-map.ensures.empty) refl)
 
 pub write_components-returns : goal.write_components-returns
 unfolding list
 write_components-returns t c =
-    list_spelled component_tree (a_record component) components c.args.version c.loop-item.values c.deref-item-items.result.now (listed c.args.held.now) c.loop-item.item-index refl c.deref-item-items.ensures.value (omega arith) c.loop-item.invariant
-    ∙ ap (λ u. jspell (keep c.args.version u (a_list components)) c.args.version (a_list components)) (sym (components_tree-out c.args.held.now))
+    list_spelled component_tree (a_record component) components c.args.target.version c.loop-item.values c.deref-item-items.result.now (listed c.args.held.now) c.loop-item.item-index refl c.deref-item-items.ensures.value (omega arith) c.loop-item.invariant
+    ∙ ap (λ u. jspell (keep c.args.target.version u (a_list components)) c.args.target.version (a_list components)) (sym (components_tree-out c.args.held.now))
 
 pub write_pedigree-returns : goal.write_pedigree-returns
-write_pedigree-returns t c = pedigree_spelled c.put_pedigree_members.new.map c.args.held.now c.args.version (c.in_ok-put_pedigree_members.ensures ∙ rw (c.new-map.ensures.empty) refl)
+write_pedigree-returns t c = pedigree_spelled c.put_pedigree_members.new.map c.args.held.now c.args.target.version (c.in_ok-put_pedigree_members.ensures ∙ rw (c.new-map.ensures.empty) refl)
 
 pub put_pedigree_members-returns : goal.put_pedigree_members-returns
 unfolding rows_put rows list
@@ -34,15 +34,15 @@ unfolding rows_put rows list
 put_contents-returns t c = rw (c.in_ok-put_row_since.ensures, c.in_ok-put_row-3.ensures, c.in_ok-put_components_row.ensures, c.in_ok-put_row-2.ensures, c.in_ok-put_row.ensures, c.in_ok-put_pedigree_row.ensures) refl
 
 pub put_pedigree_row-returns-in-None : goal.put_pedigree_row-returns-in-None
-put_pedigree_row-returns-in-None t c = rw c.in-None.is (nothing_put c.args.name.now (a_record pedigree) pedigree_tree c.args.version (members_view c.args.map.now.entries))
+put_pedigree_row-returns-in-None t c = rw c.in-None.is (nothing_put c.args.name.now (a_record pedigree) pedigree_tree c.args.target.version (members_view c.args.map.now.entries))
 
 pub put_pedigree_row-returns-in_ok-value-in-Some : goal.put_pedigree_row-returns-in_ok-value-in-Some
 put_pedigree_row-returns-in_ok-value-in-Some t c =
-    rw c.in-Some.is (field_put c.put.result c.args.name.now (a_record pedigree) (pedigree_tree c.in-Some.held) c.args.version (view c.in_ok-value-in-Some.value) (members_view c.args.map.now.entries) (members_view c.put.new.map.entries) (pedigree_stays c.args.version c.args.version c.in-Some.held) c.in_ok-value-in-Some.ensures c.put.ensures.ok)
+    rw c.in-Some.is (field_put c.put.result c.args.name.now (a_record pedigree) (pedigree_tree c.in-Some.held) c.args.target.version (view c.in_ok-value-in-Some.value) (members_view c.args.map.now.entries) (members_view c.put.new.map.entries) (pedigree_stays c.args.target.version c.args.target.version c.in-Some.held) c.in_ok-value-in-Some.ensures c.put.ensures.ok)
 
 pub put_components_row-returns-in-None : goal.put_components_row-returns-in-None
-put_components_row-returns-in-None t c = rw c.in-None.is (nothing_put c.args.name.now (a_list components) components_tree c.args.version (members_view c.args.map.now.entries))
+put_components_row-returns-in-None t c = rw c.in-None.is (nothing_put c.args.name.now (a_list components) components_tree c.args.target.version (members_view c.args.map.now.entries))
 
 pub put_components_row-returns-in_ok-value-in-Some : goal.put_components_row-returns-in_ok-value-in-Some
 put_components_row-returns-in_ok-value-in-Some t c =
-    rw c.in-Some.is (field_put c.put.result c.args.name.now (a_list components) (components_tree c.in-Some.held) c.args.version (view c.in_ok-value-in-Some.value) (members_view c.args.map.now.entries) (members_view c.put.new.map.entries) (components_stay c.args.version c.args.version c.in-Some.held) c.in_ok-value-in-Some.ensures c.put.ensures.ok)
+    rw c.in-Some.is (field_put c.put.result c.args.name.now (a_list components) (components_tree c.in-Some.held) c.args.target.version (view c.in_ok-value-in-Some.value) (members_view c.args.map.now.entries) (members_view c.put.new.map.entries) (components_stay c.args.target.version c.args.target.version c.in-Some.held) c.in_ok-value-in-Some.ensures c.put.ensures.ok)

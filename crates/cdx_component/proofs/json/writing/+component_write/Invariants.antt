@@ -7,4 +7,4 @@ use Rattle.cdx_component.specs.Trees.{component_tree}
 use Rattle.cdx_component.proofs.json.writing.+component_write.Given as goal
 
 abbrev pub invariant-write_components-loop-item : goal.invariant-write_components-loop-item
-invariant-write_components-loop-item l = map view l.values.items ≡ map (spelled component_tree (a_record component) l.version) (take l.item-index l.item-items)
+invariant-write_components-loop-item l = map view l.values.items ≡ map (spelled component_tree (a_record component) l.target.version) (take l.item-index l.item-items)

@@ -7,9 +7,9 @@ use Rattle.cdx_json.proofs.traits.AnyFromJson.from_json_at.Goals as goal
 pub returns-in-None : goal.returns-in-None
 returns-in-None g c =
     let plain = plain_name g.T.Record.name g.T.Record.plain in
-    record_err c.here.result (view c.args.value.now) g.T.Record.name c.args.version (depth_of c.args.depth) (plain.shallow (depth_of c.args.depth)) c.in-None.ensures c.here.ensures
+    record_err c.here.result (view c.args.value.now) g.T.Record.name c.args.context.version (depth_of c.args.context.depth) (plain.shallow (depth_of c.args.context.depth)) c.in-None.ensures c.here.ensures
 
 pub returns-in-Some : goal.returns-in-Some
 returns-in-Some g c =
     let plain = plain_name g.T.Record.name g.T.Record.plain in
-    record_gives g.T.HasTree.tree c.from_members.result (view c.args.value.now) (members_view c.in-Some.map.now.entries) g.T.Record.name c.args.version (depth_of c.args.depth) (plain.shallow (depth_of c.args.depth)) (plain.same_depth (depth_of c.args.depth)) c.in-Some.ensures c.from_members.ensures
+    record_gives g.T.HasTree.tree c.from_members.result (view c.args.value.now) (members_view c.in-Some.map.now.entries) g.T.Record.name c.args.context.version (depth_of c.args.context.depth) (plain.shallow (depth_of c.args.context.depth)) (plain.same_depth (depth_of c.args.context.depth)) c.in-Some.ensures c.from_members.ensures

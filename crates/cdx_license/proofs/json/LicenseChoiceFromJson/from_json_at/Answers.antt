@@ -5,8 +5,8 @@ use Rattle.cdx_license.proofs.Licensed.{choice_err, choice_gives}
 use Rattle.cdx_license.proofs.json.LicenseChoiceFromJson.from_json_at.Goals as goal
 
 pub returns-in-None : goal.returns-in-None
-returns-in-None c = choice_err c.here.result (view c.args.value.now) c.args.version (depth_of c.args.depth) c.in-None.ensures c.here.ensures
+returns-in-None c = choice_err c.here.result (view c.args.value.now) c.args.context.version (depth_of c.args.context.depth) c.in-None.ensures c.here.ensures
 
 pub returns-in-Some : goal.returns-in-Some
 returns-in-Some c =
-    choice_gives choice_tree c.choice_from_members.result (view c.args.value.now) (members_view c.in-Some.map.now.entries) c.args.version (depth_of c.args.depth) c.in-Some.ensures c.choice_from_members.ensures
+    choice_gives choice_tree c.choice_from_members.result (view c.args.value.now) (members_view c.in-Some.map.now.entries) c.args.context.version (depth_of c.args.context.depth) c.in-Some.ensures c.choice_from_members.ensures

@@ -11,13 +11,13 @@ use Rattle.cdx_service.proofs.Grouped.{service_kept}
 use Rattle.cdx_service.proofs.json.keeping.+service_keep.Goals as goal
 
 pub keep_service-returns : goal.keep_service-returns
-keep_service-returns t c = service_kept c.args.version c.args.label _ c.args.held.now _ _ _ c.assemble.ensures c.in_ok-service_naming.ensures c.in-Ok.ensures c.in-Ok-keep_service_contents.ensures
+keep_service-returns t c = service_kept c.args.keeping.version c.args.keeping.label _ c.args.held.now _ _ _ c.assemble.ensures c.in_ok-service_naming.ensures c.in-Ok.ensures c.in-Ok-keep_service_contents.ensures
 
 pub keep_services-returns : goal.keep_services-returns
 unfolding list
 keep_services-returns t c =
-    services_tree-out c.loop-item.copies ∙ list_kept service_tree (a_record service) services c.args.version c.args.label (services_listed c.loop-item.copies) c.deref-item-items.result.now (services_listed c.args.held.now) c.loop-item.item-index refl c.deref-item-items.ensures.value (omega arith) c.loop-item.invariant
-    ∙ ap (λ u. kept c.args.version c.args.label u (a_list services)) (sym (services_tree-out c.args.held.now))
+    services_tree-out c.loop-item.copies ∙ list_kept service_tree (a_record service) services c.args.keeping.version c.args.keeping.label (services_listed c.loop-item.copies) c.deref-item-items.result.now (services_listed c.args.held.now) c.loop-item.item-index refl c.deref-item-items.ensures.value (omega arith) c.loop-item.invariant
+    ∙ ap (λ u. kept c.args.keeping.version c.args.keeping.label u (a_list services)) (sym (services_tree-out c.args.held.now))
 
 pub keep_service_contents-returns : goal.keep_service_contents-returns
 unfolding rows_held rows list

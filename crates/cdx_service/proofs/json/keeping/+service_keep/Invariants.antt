@@ -6,4 +6,4 @@ use Rattle.cdx_service.specs.Trees.{service_tree, services_listed}
 use Rattle.cdx_service.proofs.json.keeping.+service_keep.Given as goal
 
 abbrev pub invariant-keep_services-loop-item : goal.invariant-keep_services-loop-item
-invariant-keep_services-loop-item l = map service_tree (services_listed l.copies) ≡ map (λ x. kept l.version l.label (service_tree x) (a_record service)) (take l.item-index l.item-items)
+invariant-keep_services-loop-item l = map service_tree (services_listed l.copies) ≡ map (λ x. kept l.keeping.version l.keeping.label (service_tree x) (a_record service)) (take l.item-index l.item-items)

@@ -18,14 +18,14 @@ use Rattle.cdx_service.proofs.Deep.{service_deep, service_none, service_some}
 use Rattle.cdx_service.proofs.json.reading.+service_read.Goals as goal
 
 pub read_service-returns-then-depth-ge32 : goal.read_service-returns-then-depth-ge32
-read_service-returns-then-depth-ge32 t c = service_deep c.here.result (view c.args.value.now) c.args.version (depth_of c.args.depth) (omega arith) c.here.ensures
+read_service-returns-then-depth-ge32 t c = service_deep c.here.result (view c.args.value.now) c.args.context.version (depth_of c.args.context.depth) (omega arith) c.here.ensures
 
 pub read_service-returns-in-None : goal.read_service-returns-in-None
-read_service-returns-in-None t c = service_none c.here-in-None.result (view c.args.value.now) c.args.version (depth_of c.args.depth) c.if-depth-ge32.false c.in-None.ensures c.here-in-None.ensures
+read_service-returns-in-None t c = service_none c.here-in-None.result (view c.args.value.now) c.args.context.version (depth_of c.args.context.depth) c.if-depth-ge32.false c.in-None.ensures c.here-in-None.ensures
 
 pub read_service-returns-in-Some : goal.read_service-returns-in-Some
 read_service-returns-in-Some t c =
-    service_some c.service_from_members.result (view c.args.value.now) (members_view c.in-Some.map.now.entries) c.args.version (depth_of c.args.depth) c.if-depth-ge32.false c.in-Some.ensures c.service_from_members.ensures
+    service_some c.service_from_members.result (view c.args.value.now) (members_view c.in-Some.map.now.entries) c.args.context.version (depth_of c.args.context.depth) c.if-depth-ge32.false c.in-Some.ensures c.service_from_members.ensures
 
 pub service_from_members-returns-in_err-service_naming : goal.service_from_members-returns-in_err-service_naming
 unfolding service_by_groups
@@ -47,23 +47,23 @@ service_from_members-returns t c = rw (c.in_ok-service_naming.ensures, c.in-Ok.e
 
 pub services_from_items-returns-in-Err : goal.services_from_items-returns-in-Err
 services_from_items-returns-in-Err t c =
-    stops service_tree (services_listed c.loop-i.list) c.deref-item-items.result.now c.loop-i.i c.item-item.result (a_record service) c.args.version (depth_of c.args.depth) (items_read (items_view c.args.items.now.items) c.args.version (a_record service) (depth_of c.args.depth) 0) c.in-Err.e c.at_item.result c.loop-i-test.true c.item-item.is c.in-Err.ensures c.at_item.ensures c.loop-i.invariant
+    stops service_tree (services_listed c.loop-i.list) c.deref-item-items.result.now c.loop-i.i c.item-item.result (a_record service) c.args.context.version (depth_of c.args.context.depth) (items_read (items_view c.args.items.now.items) c.args.context.version (a_record service) (depth_of c.args.context.depth) 0) c.in-Err.e c.at_item.result c.loop-i-test.true c.item-item.is c.in-Err.ensures c.at_item.ensures c.loop-i.invariant
 
 pub services_from_items-loop-i-preserved : goal.services_from_items-loop-i-preserved
 services_from_items-loop-i-preserved t c =
-    rw c.in_ok-push-in-Ok.ensures.ok (goes_on service_tree (services_listed c.loop-i.list) c.deref-item-items.result.now c.loop-i.i c.item-item.result c.in-Ok.held (a_record service) c.args.version (depth_of c.args.depth) (items_read (items_view c.args.items.now.items) c.args.version (a_record service) (depth_of c.args.depth) 0) c.loop-i-test.true c.item-item.is c.in-Ok.ensures c.loop-i.invariant)
+    rw c.in_ok-push-in-Ok.ensures.ok (goes_on service_tree (services_listed c.loop-i.list) c.deref-item-items.result.now c.loop-i.i c.item-item.result c.in-Ok.held (a_record service) c.args.context.version (depth_of c.args.context.depth) (items_read (items_view c.args.items.now.items) c.args.context.version (a_record service) (depth_of c.args.context.depth) 0) c.loop-i-test.true c.item-item.is c.in-Ok.ensures c.loop-i.invariant)
 
 pub services_from_items-returns : goal.services_from_items-returns
 services_from_items-returns t c =
-    ap (λ r. r >>= λ ts. Ok (items ts)) (ends service_tree (services_listed c.loop-i.list) c.deref-item-items.result.now c.loop-i.i (a_record service) c.args.version (depth_of c.args.depth) (items_read (items_view c.args.items.now.items) c.args.version (a_record service) (depth_of c.args.depth) 0) (omega arith) c.loop-i.invariant) ∙ ap Ok (sym (services_tree-out c.loop-i.list))
+    ap (λ r. r >>= λ ts. Ok (items ts)) (ends service_tree (services_listed c.loop-i.list) c.deref-item-items.result.now c.loop-i.i (a_record service) c.args.context.version (depth_of c.args.context.depth) (items_read (items_view c.args.items.now.items) c.args.context.version (a_record service) (depth_of c.args.context.depth) 0) (omega arith) c.loop-i.invariant) ∙ ap Ok (sym (services_tree-out c.loop-i.list))
 
 pub read_services-returns-in-None : goal.read_services-returns-in-None
-read_services-returns-in-None t c = list_err c.here.result (view c.args.value.now) services c.args.version (depth_of c.args.depth) c.in-None.ensures c.here.ensures
+read_services-returns-in-None t c = list_err c.here.result (view c.args.value.now) services c.args.context.version (depth_of c.args.context.depth) c.in-None.ensures c.here.ensures
 
 pub read_services-returns-in-Some : goal.read_services-returns-in-Some
 unfolding list
 read_services-returns-in-Some t c =
-    list_gives services_tree c.services_from_items.result (view c.args.value.now) (items_view c.in-Some.items.now.items) (a_record service) services c.args.version (depth_of c.args.depth) refl c.in-Some.ensures c.services_from_items.ensures
+    list_gives services_tree c.services_from_items.result (view c.args.value.now) (items_view c.in-Some.items.now.items) (a_record service) services c.args.context.version (depth_of c.args.context.depth) refl c.in-Some.ensures c.services_from_items.ensures
 
 pub read_service_contents-returns-in_err-properties : goal.read_service_contents-returns-in_err-properties
 unfolding rows_made rows list
@@ -94,10 +94,10 @@ unfolding rows_made rows list
 read_service_contents-returns t c = rw (c.in_ok-properties.ensures, c.in_ok-services.ensures, c.in_ok-signature.ensures, c.in_ok-trust_zone.ensures) refl
 
 pub read_services_row-returns-in-None : goal.read_services_row-returns-in-None
-read_services_row-returns-in-None t c = may_none c.args.name.now (a_list services) (members_view c.args.map.now.entries) c.args.version (depth_of c.args.depth) c.in-None.ensures
+read_services_row-returns-in-None t c = may_none c.args.name.now (a_list services) (members_view c.args.map.now.entries) c.args.context.version (depth_of c.args.context.depth) c.in-None.ensures
 
 pub read_services_row-returns-in-Ok : goal.read_services_row-returns-in-Ok
-read_services_row-returns-in-Ok t c = live_ok c.args.name.now optional (a_list services) (members_view c.args.map.now.entries) c.args.version (depth_of c.args.depth) (view c.in-Some.value.now) (services_tree c.in-Ok.held) c.in-Some.ensures c.in-Ok.ensures
+read_services_row-returns-in-Ok t c = live_ok c.args.name.now optional (a_list services) (members_view c.args.map.now.entries) c.args.context.version (depth_of c.args.context.depth) (view c.in-Some.value.now) (services_tree c.in-Ok.held) c.in-Some.ensures c.in-Ok.ensures
 
 pub read_services_row-returns-in-Err : goal.read_services_row-returns-in-Err
-read_services_row-returns-in-Err t c = live_err c.in-Err.e c.at_member.result c.args.name.now optional (a_list services) (members_view c.args.map.now.entries) c.args.version (depth_of c.args.depth) (view c.in-Some.value.now) c.in-Some.ensures c.in-Err.ensures c.at_member.ensures
+read_services_row-returns-in-Err t c = live_err c.in-Err.e c.at_member.result c.args.name.now optional (a_list services) (members_view c.args.map.now.entries) c.args.context.version (depth_of c.args.context.depth) (view c.in-Some.value.now) c.in-Some.ensures c.in-Err.ensures c.at_member.ensures

@@ -11,23 +11,23 @@ use Rattle.cdx_service.proofs.json.reading.+service_read.Given as goal
 -- Each service is one level deeper, and at most 32 stand in one another.
 
 abbrev pub decreases-read_service : goal.decreases-read_service
-decreases-read_service l = 10 * (40 - l.depth.services) + 0
+decreases-read_service l = 10 * (40 - l.context.depth.services) + 0
 
 abbrev pub decreases-services_from_items : goal.decreases-services_from_items
-decreases-services_from_items l = 10 * (40 - l.depth.services) + 1
+decreases-services_from_items l = 10 * (40 - l.context.depth.services) + 1
 
 abbrev pub decreases-read_services : goal.decreases-read_services
-decreases-read_services l = 10 * (40 - l.depth.services) + 2
+decreases-read_services l = 10 * (40 - l.context.depth.services) + 2
 
 abbrev pub decreases-read_services_row : goal.decreases-read_services_row
-decreases-read_services_row l = 10 * (40 - l.depth.services) + 3
+decreases-read_services_row l = 10 * (40 - l.context.depth.services) + 3
 
 abbrev pub decreases-read_service_contents : goal.decreases-read_service_contents
-decreases-read_service_contents l = 10 * (40 - l.depth.services) + 4
+decreases-read_service_contents l = 10 * (40 - l.context.depth.services) + 4
 
 abbrev pub decreases-service_from_members : goal.decreases-service_from_members
-decreases-service_from_members l = 10 * (40 - l.depth.services) + 5
+decreases-service_from_members l = 10 * (40 - l.context.depth.services) + 5
 
 abbrev pub invariant-services_from_items-loop-i : goal.invariant-services_from_items-loop-i
 invariant-services_from_items-loop-i l =
-    with_front (each service_tree (services_listed l.list)) (items_read (items_view (drop l.i l.item-items)) l.version (a_record service) (depth_of l.depth) l.i) ≡ items_read (items_view l.items.items) l.version (a_record service) (depth_of l.depth) 0
+    with_front (each service_tree (services_listed l.list)) (items_read (items_view (drop l.i l.item-items)) l.context.version (a_record service) (depth_of l.context.depth) l.i) ≡ items_read (items_view l.items.items) l.context.version (a_record service) (depth_of l.context.depth) 0

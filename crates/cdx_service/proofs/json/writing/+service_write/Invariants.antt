@@ -7,4 +7,4 @@ use Rattle.cdx_service.specs.Trees.{service_tree}
 use Rattle.cdx_service.proofs.json.writing.+service_write.Given as goal
 
 abbrev pub invariant-write_services-loop-item : goal.invariant-write_services-loop-item
-invariant-write_services-loop-item l = map view l.values.items ≡ map (spelled service_tree (a_record service) l.version) (take l.item-index l.item-items)
+invariant-write_services-loop-item l = map view l.values.items ≡ map (spelled service_tree (a_record service) l.target.version) (take l.item-index l.item-items)

@@ -14,10 +14,10 @@ unfolding rows_made rows
 returns-in_err-classification c =
     let p = err_from_is_err_and c.from_residual-in_err-classification.result c.from_residual-in_err-classification.ensures.1 in
     let o = seen (members_view c.args.map.now.entries) in
-    rw (p.1, p.2, c.in_ok-name.ensures, c.in_ok-description.ensures) (fails_then _ _ _ (own_fails c.in_err-classification.field-0.0 o c.args.version (depth_of c.args.depth) c.in_err-classification.ensures))
+    rw (p.1, p.2, c.in_ok-name.ensures, c.in_ok-description.ensures) (fails_then _ _ _ (own_fails c.in_err-classification.field-0.0 o c.args.context.version (depth_of c.args.context.depth) c.in_err-classification.ensures))
 
 pub returns : goal.returns
 unfolding rows_made rows
 returns c =
     let o = seen (members_view c.args.map.now.entries) in
-    rw (c.in_ok-name.ensures, c.in_ok-description.ensures, sym (own_classification o c.args.version (depth_of c.args.depth)) ∙ c.in_ok-classification.ensures) refl
+    rw (c.in_ok-name.ensures, c.in_ok-description.ensures, sym (own_classification o c.args.context.version (depth_of c.args.context.depth)) ∙ c.in_ok-classification.ensures) refl

@@ -13,7 +13,7 @@ pub returns : goal.returns
 unfolding rows_put rows
 returns c =
     let held = classification_tree c.args.self.now.classification in
-    let w = c.args.version in
+    let w = c.args.target.version in
     on_ok c.put_members.result
     (λ e. e ∙ own_put w (fields_of held) (members_view c.put_row-2.new.map.entries) ∙ ap (λ ms. put_own (a_record classification) held w ms) (c.in_ok-put_row-2.ensures ∙ ap (λ ms. put_kept (codes "description") a_text (present text c.args.self.now.description) w ms) c.in_ok-put_row.ensures))
     c.put_members.ensures

@@ -8,9 +8,9 @@ use Rattle.cdx_signature.proofs.Algorithms.{name_of_algorithm as algorithm_back}
 use Rattle.cdx_signature.proofs.json.AlgorithmFromJson.from_json_at.Goals as goal
 
 pub returns-in-None-clause-gives : goal.returns-in-None-clause-gives
-returns-in-None-clause-gives c = text_err c.here.result (view c.args.value.now) c.args.version (depth_of c.args.depth) c.in-None.ensures c.here.ensures
+returns-in-None-clause-gives c = text_err c.here.result (view c.args.value.now) c.args.context.version (depth_of c.args.context.depth) c.in-None.ensures c.here.ensures
 
 pub returns-in_ok-new_unchecked-in-Some-clause-gives : goal.returns-in_ok-new_unchecked-in-Some-clause-gives
 returns-in_ok-new_unchecked-in-Some-clause-gives c =
-    text_ok (view c.args.value.now) c.in-Some.text.now c.args.version (depth_of c.args.depth) c.in-Some.ensures
+    text_ok (view c.args.value.now) c.in-Some.text.now c.args.context.version (depth_of c.args.context.depth) c.in-Some.ensures
     ∙ ap (λ s. Ok (text s)) (sym (ap algorithm_name c.in_ok-new_unchecked-in-Some.ensures ∙ algorithm_back c.in-Some.text.now))

@@ -9,15 +9,15 @@ use Rattle.cdx_signature.proofs.json.SignatureFromJson.from_json_at.Goals as goa
 pub returns-in_err-list_from_items-in-Some : goal.returns-in_err-list_from_items-in-Some
 returns-in_err-list_from_items-in-Some c =
     let p = err_from_is_err_and c.from_residual.result c.from_residual.ensures.1 in
-    rw (p.1, p.2) (signers_err c.in_err-list_from_items-in-Some.field-0.0 (view c.args.value.now) (items_view c.in-Some.items.now.items) c.args.version (depth_of c.args.depth) c.in-Some.ensures c.in_err-list_from_items-in-Some.ensures)
+    rw (p.1, p.2) (signers_err c.in_err-list_from_items-in-Some.field-0.0 (view c.args.value.now) (items_view c.in-Some.items.now.items) c.args.context.version (depth_of c.args.context.depth) c.in-Some.ensures c.in_err-list_from_items-in-Some.ensures)
 
 pub returns-in_ok-list_from_items-in-Some : goal.returns-in_ok-list_from_items-in-Some
 returns-in_ok-list_from_items-in-Some c =
-    signers_ok (view c.args.value.now) (items_view c.in-Some.items.now.items) (list_tree signer_tree c.in_ok-list_from_items-in-Some.field-0) c.args.version (depth_of c.args.depth) c.in-Some.ensures c.in_ok-list_from_items-in-Some.ensures
+    signers_ok (view c.args.value.now) (items_view c.in-Some.items.now.items) (list_tree signer_tree c.in_ok-list_from_items-in-Some.field-0) c.args.context.version (depth_of c.args.context.depth) c.in-Some.ensures c.in_ok-list_from_items-in-Some.ensures
 
 pub returns-in-None-as_object : goal.returns-in-None-as_object
-returns-in-None-as_object c = signature_err c.here.result (view c.args.value.now) c.args.version (depth_of c.args.depth) c.in-None.ensures c.in-None-as_object.ensures c.here.ensures
+returns-in-None-as_object c = signature_err c.here.result (view c.args.value.now) c.args.context.version (depth_of c.args.context.depth) c.in-None.ensures c.in-None-as_object.ensures c.here.ensures
 
 pub returns-in-Some-as_object : goal.returns-in-Some-as_object
 returns-in-Some-as_object c =
-    signature_gives signature_tree c.signature_from_members.result (view c.args.value.now) (members_view c.in-Some-as_object.map.now.entries) c.args.version (depth_of c.args.depth) c.in-Some-as_object.ensures c.signature_from_members.ensures
+    signature_gives signature_tree c.signature_from_members.result (view c.args.value.now) (members_view c.in-Some-as_object.map.now.entries) c.args.context.version (depth_of c.args.context.depth) c.in-Some-as_object.ensures c.signature_from_members.ensures

@@ -8,11 +8,11 @@ use Rattle.cdx_signature.proofs.json.SignatureKept.kept_as.Goals as goal
 
 pub returns-in_ok-keep_list-in-Signers : goal.returns-in_ok-keep_list-in-Signers
 unfolding list
-returns-in_ok-keep_list-in-Signers c = rw c.in-Signers.is (ap (λ t. fields signers (one t)) (c.in_ok-keep_list-in-Signers.ensures signer_list refl) ∙ signers_kept c.args.version c.args.label (list_tree signer_tree c.in-Signers.held))
+returns-in_ok-keep_list-in-Signers c = rw c.in-Signers.is (ap (λ t. fields signers (one t)) (c.in_ok-keep_list-in-Signers.ensures signer_list refl) ∙ signers_kept c.args.keeping.version c.args.keeping.label (list_tree signer_tree c.in-Signers.held))
 
 pub returns-in_ok-keep_list-in-Chain : goal.returns-in_ok-keep_list-in-Chain
 unfolding list
-returns-in_ok-keep_list-in-Chain c = rw c.in-Chain.is (ap (λ t. fields chain (one t)) (c.in_ok-keep_list-in-Chain.ensures chain_list refl) ∙ chain_kept c.args.version c.args.label (list_tree signer_tree c.in-Chain.held))
+returns-in_ok-keep_list-in-Chain c = rw c.in-Chain.is (ap (λ t. fields chain (one t)) (c.in_ok-keep_list-in-Chain.ensures chain_list refl) ∙ chain_kept c.args.keeping.version c.args.keeping.label (list_tree signer_tree c.in-Chain.held))
 
 pub returns-in_ok-kept_as-in-Single : goal.returns-in_ok-kept_as-in-Single
-returns-in_ok-kept_as-in-Single c = rw c.in-Single.is (c.in_ok-kept_as-in-Single.ensures ∙ single_kept c.args.version c.args.label signer (fields_of (signer_tree c.in-Single.held)))
+returns-in_ok-kept_as-in-Single c = rw c.in-Single.is (c.in_ok-kept_as-in-Single.ensures ∙ single_kept c.args.keeping.version c.args.keeping.label signer (fields_of (signer_tree c.in-Single.held)))

@@ -8,4 +8,4 @@ use Rattle.cdx_nest.proofs.Grouped.{metadata_in_groups}
 use Rattle.cdx_nest.proofs.json.metadata.MetadataJsonRecord.from_members.Goals as goal
 
 pub returns : goal.returns
-returns c = subst (Gives metadata_tree c.metadata_from_members.result) (sym (metadata_in_groups (seen (members_view c.args.map.now.entries)) c.args.version (depth_of c.args.depth))) c.metadata_from_members.ensures
+returns c = subst (Gives metadata_tree c.metadata_from_members.result) (sym (metadata_in_groups (seen (members_view c.args.map.now.entries)) c.args.context.version (depth_of c.args.context.depth))) c.metadata_from_members.ensures

@@ -9,15 +9,15 @@ use Rattle.cdx_nest.proofs.json.tools.ToolsFromJson.from_json_at.Goals as goal
 pub returns-in_err-list_from_items-in-Some : goal.returns-in_err-list_from_items-in-Some
 returns-in_err-list_from_items-in-Some c =
     let p = err_from_is_err_and c.from_residual.result c.from_residual.ensures.1 in
-    rw (p.1, p.2) (tools_err c.in_err-list_from_items-in-Some.field-0.0 (view c.args.value.now) (items_view c.in-Some.items.now.items) c.args.version (depth_of c.args.depth) c.in-Some.ensures c.in_err-list_from_items-in-Some.ensures)
+    rw (p.1, p.2) (tools_err c.in_err-list_from_items-in-Some.field-0.0 (view c.args.value.now) (items_view c.in-Some.items.now.items) c.args.context.version (depth_of c.args.context.depth) c.in-Some.ensures c.in_err-list_from_items-in-Some.ensures)
 
 pub returns-in_ok-list_from_items-in-Some : goal.returns-in_ok-list_from_items-in-Some
 returns-in_ok-list_from_items-in-Some c =
-    tools_ok (view c.args.value.now) (items_view c.in-Some.items.now.items) (list_tree tool_tree c.in_ok-list_from_items-in-Some.field-0) c.args.version (depth_of c.args.depth) c.in-Some.ensures c.in_ok-list_from_items-in-Some.ensures
+    tools_ok (view c.args.value.now) (items_view c.in-Some.items.now.items) (list_tree tool_tree c.in_ok-list_from_items-in-Some.field-0) c.args.context.version (depth_of c.args.context.depth) c.in-Some.ensures c.in_ok-list_from_items-in-Some.ensures
 
 pub returns-in-None-as_object : goal.returns-in-None-as_object
-returns-in-None-as_object c = tools_wrong c.here.result (view c.args.value.now) c.args.version (depth_of c.args.depth) c.in-None.ensures c.in-None-as_object.ensures c.here.ensures
+returns-in-None-as_object c = tools_wrong c.here.result (view c.args.value.now) c.args.context.version (depth_of c.args.context.depth) c.in-None.ensures c.in-None-as_object.ensures c.here.ensures
 
 pub returns-in-Some-as_object : goal.returns-in-Some-as_object
 returns-in-Some-as_object c =
-    tools_gives c.tools_from_object.result (view c.args.value.now) (members_view c.in-Some-as_object.map.now.entries) c.args.version (depth_of c.args.depth) c.in-Some-as_object.ensures c.tools_from_object.ensures
+    tools_gives c.tools_from_object.result (view c.args.value.now) (members_view c.in-Some-as_object.map.now.entries) c.args.context.version (depth_of c.args.context.depth) c.in-Some-as_object.ensures c.tools_from_object.ensures

@@ -8,4 +8,4 @@ use Rattle.cdx_nest.proofs.json.tools.ToolsKept.kept_as.Goals as goal
 
 pub returns-in_ok-keep_list-in-List : goal.returns-in_ok-keep_list-in-List
 unfolding list
-returns-in_ok-keep_list-in-List c = rw c.in-List.is (c.in_ok-keep_list-in-List.ensures tool_list refl ∙ list_kept c.args.version c.args.label (each tool_tree c.in-List.held))
+returns-in_ok-keep_list-in-List c = rw c.in-List.is (c.in_ok-keep_list-in-List.ensures tool_list refl ∙ list_kept c.args.keeping.version c.args.keeping.label (each tool_tree c.in-List.held))

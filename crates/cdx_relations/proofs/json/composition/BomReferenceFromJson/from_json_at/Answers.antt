@@ -6,9 +6,9 @@ use Rattle.cdx_json.proofs.Values.{reference_ok, reference_err}
 use Rattle.cdx_relations.proofs.json.composition.BomReferenceFromJson.from_json_at.Goals as goal
 
 pub returns-in-None : goal.returns-in-None
-returns-in-None c = reference_err c.here.result (view c.args.value.now) c.args.version (depth_of c.args.depth) c.in-None.ensures c.here.ensures
+returns-in-None c = reference_err c.here.result (view c.args.value.now) c.args.context.version (depth_of c.args.context.depth) c.in-None.ensures c.here.ensures
 
 pub returns-in_ok-new-in-Some : goal.returns-in_ok-new-in-Some
 returns-in_ok-new-in-Some c =
-    reference_ok (view c.args.value.now) c.in-Some.text.now c.args.version (depth_of c.args.depth) c.in-Some.ensures
+    reference_ok (view c.args.value.now) c.in-Some.text.now c.args.context.version (depth_of c.args.context.depth) c.in-Some.ensures
     ∙ ap (λ s. Ok (text s)) (sym c.in_ok-new-in-Some.ensures)
