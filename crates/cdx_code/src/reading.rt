@@ -2,7 +2,9 @@
 
 use crate::{Commit, Commits, IdentifiableAction};
 use cdx_events::{EventReader, List, OwnedAttribute, OwnedName};
-use cdx_leaf::{Children, FromXml, Rule, Taken, XmlRecord, read_lax_validation_list_tag, take_one};
+use cdx_leaf::{
+    Children, End, FromXml, Rule, Start, Taken, XmlRecord, read_lax_validation_list_tag, take_one,
+};
 use cdx_models::{SpecVersion, XmlReadError};
 use std::alloc::Global;
 
@@ -51,13 +53,7 @@ impl XmlRecord for IdentifiableAction {
 
     ghost same_depth = { λ part. refl };
 
-    fn begin(
-        _alloc: Global,
-        _place: usize,
-        _v: SpecVersion,
-        _element: &OwnedName,
-        _attributes: &List<OwnedAttribute>,
-    ) -> Result<IdentifiableAction, XmlReadError> {
+    fn begin(_opened: &Start<'_>) -> Result<IdentifiableAction, XmlReadError> {
         Ok(IdentifiableAction {
             timestamp: None,
             name: None,
@@ -66,10 +62,7 @@ impl XmlRecord for IdentifiableAction {
     }
 
     fn finish(
-        _alloc: Global,
-        _place: usize,
-        _v: SpecVersion,
-        _element: &OwnedName,
+        _closed: &End<'_>,
         part: IdentifiableAction,
     ) -> Result<IdentifiableAction, XmlReadError> {
         Ok(part)
@@ -123,13 +116,7 @@ impl XmlRecord for Commit {
 
     ghost same_depth = { λ part. refl };
 
-    fn begin(
-        _alloc: Global,
-        _place: usize,
-        _v: SpecVersion,
-        _element: &OwnedName,
-        _attributes: &List<OwnedAttribute>,
-    ) -> Result<Commit, XmlReadError> {
+    fn begin(_opened: &Start<'_>) -> Result<Commit, XmlReadError> {
         Ok(Commit {
             uid: None,
             url: None,
@@ -139,13 +126,7 @@ impl XmlRecord for Commit {
         })
     }
 
-    fn finish(
-        _alloc: Global,
-        _place: usize,
-        _v: SpecVersion,
-        _element: &OwnedName,
-        part: Commit,
-    ) -> Result<Commit, XmlReadError> {
+    fn finish(_closed: &End<'_>, part: Commit) -> Result<Commit, XmlReadError> {
         Ok(part)
     }
 }

@@ -19,9 +19,9 @@ use crate::frames::putting::{
 use crate::reading::begin::{begin_component, begin_pedigree};
 use crate::reading::finish::{finish_component, finish_pedigree};
 use crate::reading::parts::{ComponentPart, PedigreePart};
-use cdx_events::{List, OwnedAttribute, OwnedName};
+use cdx_events::OwnedName;
 use cdx_json::Depth;
-use cdx_leaf::Rule;
+use cdx_leaf::{End, Rule, Start};
 use cdx_machine::Found;
 use cdx_models::{SpecVersion, XmlReadError};
 use cdx_nest_machine::{Nested, Reads};
@@ -108,20 +108,15 @@ impl Nested for ComponentFrame {
         }
     }
 
-    fn begin(
-        alloc: Global,
-        sort: ComponentKind,
-        place: usize,
-        _v: SpecVersion,
-        element: &OwnedName,
-        attributes: &List<OwnedAttribute>,
-    ) -> Result<ComponentFrame, XmlReadError> {
+    fn begin(sort: ComponentKind, opened: &Start<'_>) -> Result<ComponentFrame, XmlReadError> {
         match sort {
             ComponentKind::Component => {
-                let part = begin_component(alloc, place, element, attributes)?;
+                let part = begin_component(opened)?;
                 Ok(ComponentFrame::Component(part))
             }
-            ComponentKind::Components => Ok(ComponentFrame::Components(Components::new(alloc))),
+            ComponentKind::Components => Ok(ComponentFrame::Components(Components::new(
+                opened.alloc,
+            ))),
             ComponentKind::Pedigree => Ok(ComponentFrame::Pedigree(begin_pedigree())),
         }
     }
@@ -180,16 +175,10 @@ impl Nested for ComponentFrame {
         }
     }
 
-    fn finish(
-        self,
-        alloc: Global,
-        place: usize,
-        v: SpecVersion,
-        element: &OwnedName,
-    ) -> Result<ComponentValue, XmlReadError> {
+    fn finish(self, closed: &End<'_>) -> Result<ComponentValue, XmlReadError> {
         match self {
             ComponentFrame::Component(part) => {
-                let component = finish_component(alloc, place, v, element, part)?;
+                let component = finish_component(closed, part)?;
                 Ok(ComponentValue::Component(component))
             }
             ComponentFrame::Components(list) => Ok(ComponentValue::Components(list)),

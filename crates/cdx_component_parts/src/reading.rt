@@ -3,8 +3,8 @@
 use crate::component::{ComponentEvidence, Copyright, CopyrightTexts, Cpe, Swid};
 use cdx_events::{EventReader, List, OwnedAttribute, OwnedName, Text};
 use cdx_leaf::{
-    Children, FromXml, Rule, Taken, TextRecord, XmlRecord, attribute_or_error, attribute_or_none,
-    attribute_value, read_list_tag, read_text_record, take_one,
+    Children, End, FromXml, Rule, Start, Taken, TextRecord, XmlRecord, attribute_or_error,
+    attribute_or_none, attribute_value, read_list_tag, read_text_record, take_one,
 };
 use cdx_models::{SpecVersion, XmlReadError};
 use std::alloc::Global;
@@ -53,31 +53,36 @@ impl XmlRecord for Swid {
 
     ghost same_depth = { λ part. refl };
 
-    fn begin(
-        alloc: Global,
-        place: usize,
-        _v: SpecVersion,
-        element: &OwnedName,
-        attributes: &List<OwnedAttribute>,
-    ) -> Result<Swid, XmlReadError> {
+    fn begin(opened: &Start<'_>) -> Result<Swid, XmlReadError> {
         Ok(Swid {
-            tag_id: attribute_or_error(alloc, place, element, attributes, "tagId")?,
-            name: attribute_or_error(alloc, place, element, attributes, "name")?,
-            version: attribute_or_none(alloc, attributes, "version")?,
-            tag_version: attribute_value(alloc, place, attributes, "tagVersion")?,
-            patch: attribute_value(alloc, place, attributes, "patch")?,
+            tag_id: attribute_or_error(
+                opened.alloc,
+                opened.place,
+                opened.element,
+                opened.attributes,
+                "tagId",
+            )?,
+            name: attribute_or_error(
+                opened.alloc,
+                opened.place,
+                opened.element,
+                opened.attributes,
+                "name",
+            )?,
+            version: attribute_or_none(opened.alloc, opened.attributes, "version")?,
+            tag_version: attribute_value(
+                opened.alloc,
+                opened.place,
+                opened.attributes,
+                "tagVersion",
+            )?,
+            patch: attribute_value(opened.alloc, opened.place, opened.attributes, "patch")?,
             text: None,
             url: None,
         })
     }
 
-    fn finish(
-        _alloc: Global,
-        _place: usize,
-        _v: SpecVersion,
-        _element: &OwnedName,
-        part: Swid,
-    ) -> Result<Swid, XmlReadError> {
+    fn finish(_closed: &End<'_>, part: Swid) -> Result<Swid, XmlReadError> {
         Ok(part)
     }
 }
@@ -144,13 +149,7 @@ impl XmlRecord for ComponentEvidence {
 
     ghost same_depth = { λ part. refl };
 
-    fn begin(
-        _alloc: Global,
-        _place: usize,
-        _v: SpecVersion,
-        _element: &OwnedName,
-        _attributes: &List<OwnedAttribute>,
-    ) -> Result<ComponentEvidence, XmlReadError> {
+    fn begin(_opened: &Start<'_>) -> Result<ComponentEvidence, XmlReadError> {
         Ok(ComponentEvidence {
             licenses: None,
             copyright: None,
@@ -158,10 +157,7 @@ impl XmlRecord for ComponentEvidence {
     }
 
     fn finish(
-        _alloc: Global,
-        _place: usize,
-        _v: SpecVersion,
-        _element: &OwnedName,
+        _closed: &End<'_>,
         part: ComponentEvidence,
     ) -> Result<ComponentEvidence, XmlReadError> {
         Ok(part)
@@ -184,13 +180,7 @@ impl TextRecord for Copyright {
 
     ghost whole = { copyright_whole };
 
-    fn begin(
-        _alloc: Global,
-        _place: usize,
-        _v: SpecVersion,
-        _element: &OwnedName,
-        _attributes: &List<OwnedAttribute>,
-    ) -> Result<(), XmlReadError> {
+    fn begin(_opened: &Start<'_>) -> Result<(), XmlReadError> {
         Ok(())
     }
 

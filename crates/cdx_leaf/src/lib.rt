@@ -13,6 +13,7 @@ mod reading;
 mod record;
 mod root;
 mod rule;
+mod start;
 mod tags;
 mod take;
 mod taken;
@@ -33,6 +34,7 @@ pub use reading::begin_attached_text;
 pub use record::{TextRecord, XmlRecord, read_text_record, read_whole};
 pub use root::{Root, read_root, root_of};
 pub use rule::Rule;
+pub use start::{End, Start};
 pub use tags::{
     closing_tag_or_error, inner_text_or_error, inner_text_or_none, read_boolean_tag,
     read_exact_tag, read_lax_validation_tag, read_optional_tag, read_simple_tag, read_u32_tag,

@@ -7,6 +7,7 @@ ghost use Rattle.cdx_leaf.specs.Reading.{IsIn, ReadsAs};
 use crate::children::{Children, read_record};
 use crate::content::read_content;
 use crate::from_xml::FromXml;
+use crate::start::{End, Start};
 use cdx_events::{EventReader, List, OwnedAttribute, OwnedName, Text};
 use cdx_models::{SpecVersion, XmlReadError};
 use cdx_schema::Record;
@@ -25,29 +26,17 @@ pub trait XmlRecord: Record + Drop {
     type Part: Children;
 
     /// What the attributes give, or the fault of the first row that is lacking or that no value can be read from, at
-    /// `place`, that of the element's start.
-    fn begin(
-        alloc: Global,
-        place: usize,
-        version: SpecVersion,
-        element: &OwnedName,
-        attributes: &List<OwnedAttribute>,
-    ) -> Result<Self::Part, XmlReadError>
-        ensures { Gives Self.Part.slots (place + 1)
-            (start_read Self.name version element.now.local_name attributes.now place) result };
+    /// the element's start.
+    fn begin(opened: &Start<'_>) -> Result<Self::Part, XmlReadError>
+        ensures { Gives Self.Part.slots (opened.now.place + 1)
+            (start_read Self.name opened.now.version opened.now.element.now.local_name
+            opened.now.attributes.now opened.now.place) result };
 
-    /// The record that was read, or the fault of the first required child that is missing, at `place`, that of the
-    /// element's end.
-    fn finish(
-        alloc: Global,
-        place: usize,
-        version: SpecVersion,
-        element: &OwnedName,
-        part: Self::Part,
-    ) -> Result<Self, XmlReadError>
-        ensures { Gives (λ x. fields_of (Self.tree x)) (place + 1)
-            (ended (rows Self.name) (Self.Part.slots part) version element.now.local_name place)
-            result };
+    /// The record that was read, or the fault of the first required child that is missing, at the element's end.
+    fn finish(closed: &End<'_>, part: Self::Part) -> Result<Self, XmlReadError>
+        ensures { Gives (λ x. fields_of (Self.tree x)) (closed.now.place + 1)
+            (ended (rows Self.name) (Self.Part.slots part) closed.now.version
+            closed.now.element.now.local_name closed.now.place) result };
 
     // None of its rows is a text that stands right in it.
     ghost no_content: { content_from 0 (rows Self.name) ≡ xml.no_content };
@@ -71,9 +60,23 @@ pub fn read_whole<X: XmlRecord>(
     ensures { ReadsAs X.tree reader.old reader.new element.now attributes.now version
         (a_record X.name) (λ d. d) result }
 {
-    let begun = X::begin(alloc, reader.place() - 1, version, element, attributes);
+    let begun = X::begin(&Start {
+        alloc,
+        place: reader.place() - 1,
+        version,
+        element,
+        attributes,
+    });
     let part: X::Part = read_record(alloc, reader, version, element, begun)?;
-    X::finish(alloc, reader.place() - 1, version, element, part)
+    X::finish(
+        &End {
+            alloc,
+            place: reader.place() - 1,
+            version,
+            element,
+        },
+        part,
+    )
 }
 
 /// A record is read at the depth around it.
@@ -111,16 +114,11 @@ pub trait TextRecord: Record + Drop {
     /// The row of the text.
     ghost at: { ℕ };
 
-    /// What the attributes give, or the fault of the first row that is lacking, at `place`, that of the element's start.
-    fn begin(
-        alloc: Global,
-        place: usize,
-        version: SpecVersion,
-        element: &OwnedName,
-        attributes: &List<OwnedAttribute>,
-    ) -> Result<Self::Start, XmlReadError>
-        ensures { Gives start (place + 1)
-            (start_read Self.name version element.now.local_name attributes.now place) result };
+    /// What the attributes give, or the fault of the first row that is lacking, at the element's start.
+    fn begin(opened: &Start<'_>) -> Result<Self::Start, XmlReadError>
+        ensures { Gives start (opened.now.place + 1)
+            (start_read Self.name opened.now.version opened.now.element.now.local_name
+            opened.now.attributes.now opened.now.place) result };
 
     /// The record with this text.
     fn with_text(begun: Self::Start, content: Text) -> Self
@@ -148,7 +146,13 @@ pub fn read_text_record<X: TextRecord>(
     ensures { ReadsAs X.tree reader.old reader.new element.now attributes.now version
         (a_record X.name) (λ d. d) result }
 {
-    let begun = X::begin(alloc, reader.place() - 1, version, element, attributes);
+    let begun = X::begin(&Start {
+        alloc,
+        place: reader.place() - 1,
+        version,
+        element,
+        attributes,
+    });
     let (start, content) = read_content(alloc, reader, element, begun)?;
     Ok(X::with_text(start, content))
 }

@@ -4,9 +4,9 @@ use crate::license::{Expression, License, LicenseChoice, LicenseIdentifier, Lice
 use crate::parts::{ChoicesPart, LicensePart};
 use cdx_events::{EventReader, List, OwnedAttribute, OwnedName, Text};
 use cdx_leaf::{
-    Children, FromXml, Rule, Taken, TextRecord, XmlRecord, attribute_or_none, attribute_since,
-    child_or_error, read_exact_content, read_record, read_text_record, refuse_missing, take_into,
-    take_one,
+    Children, End, FromXml, Rule, Start, Taken, TextRecord, XmlRecord, attribute_or_none,
+    attribute_since, child_or_error, read_exact_content, read_record, read_text_record,
+    refuse_missing, take_into, take_one,
 };
 use cdx_models::{SpecVersion, XmlReadError};
 use std::alloc::Global;
@@ -114,15 +114,15 @@ impl XmlRecord for License {
 
     ghost same_depth = { λ part. refl };
 
-    fn begin(
-        alloc: Global,
-        _place: usize,
-        v: SpecVersion,
-        _element: &OwnedName,
-        attributes: &List<OwnedAttribute>,
-    ) -> Result<LicensePart, XmlReadError> {
+    fn begin(opened: &Start<'_>) -> Result<LicensePart, XmlReadError> {
         Ok(LicensePart {
-            bom_ref: attribute_since(alloc, SpecVersion::V1_5, v, attributes, "bom-ref")?,
+            bom_ref: attribute_since(
+                opened.alloc,
+                SpecVersion::V1_5,
+                opened.version,
+                opened.attributes,
+                "bom-ref",
+            )?,
             license_identifier: None,
             text: None,
             url: None,
@@ -130,17 +130,11 @@ impl XmlRecord for License {
         })
     }
 
-    fn finish(
-        alloc: Global,
-        place: usize,
-        _v: SpecVersion,
-        element: &OwnedName,
-        part: LicensePart,
-    ) -> Result<License, XmlReadError> {
+    fn finish(closed: &End<'_>, part: LicensePart) -> Result<License, XmlReadError> {
         let license_identifier = child_or_error(
-            alloc,
-            place,
-            element,
+            closed.alloc,
+            closed.place,
+            closed.element,
             part.license_identifier,
             "id or name",
         )?;
@@ -171,14 +165,8 @@ impl TextRecord for Expression {
 
     ghost whole = { expression_whole };
 
-    fn begin(
-        alloc: Global,
-        _place: usize,
-        _v: SpecVersion,
-        _element: &OwnedName,
-        attributes: &List<OwnedAttribute>,
-    ) -> Result<Option<Text>, XmlReadError> {
-        Ok(attribute_or_none(alloc, attributes, "bom-ref")?)
+    fn begin(opened: &Start<'_>) -> Result<Option<Text>, XmlReadError> {
+        Ok(attribute_or_none(opened.alloc, opened.attributes, "bom-ref")?)
     }
 
     fn with_text(begun: Option<Text>, content: Text) -> Expression {

@@ -2,10 +2,9 @@
 
 use crate::machine::Machine;
 use crate::or::Or;
-use cdx_events::{List, OwnedAttribute, OwnedName, XmlEvent};
-use cdx_leaf::refuse_missing;
-use cdx_models::{SpecVersion, XmlReadError};
-use std::alloc::Global;
+use cdx_events::XmlEvent;
+use cdx_leaf::{Start, refuse_missing};
+use cdx_models::XmlReadError;
 
 /// A kind that is one of two, by the name of its element.
 pub trait ByName {
@@ -79,24 +78,18 @@ impl<K: ByName> Machine for NamedMachine<K> {
 
     ghost holds = { λ m. named_holds K.one K.other K.First.holds K.Second.holds m.machine };
 
-    fn start(
-        alloc: Global,
-        place: usize,
-        v: SpecVersion,
-        element: &OwnedName,
-        attributes: &List<OwnedAttribute>,
-    ) -> Result<NamedMachine<K>, XmlReadError> {
-        if element.local_name.is(K::first()) {
+    fn start(opened: &Start<'_>) -> Result<NamedMachine<K>, XmlReadError> {
+        if opened.element.local_name.is(K::first()) {
             return Ok(NamedMachine {
-                machine: Or::This(K::First::start(alloc, place, v, element, attributes)?),
+                machine: Or::This(K::First::start(opened)?),
             });
         }
-        if element.local_name.is(K::second()) {
+        if opened.element.local_name.is(K::second()) {
             return Ok(NamedMachine {
-                machine: Or::Other(K::Second::start(alloc, place, v, element, attributes)?),
+                machine: Or::Other(K::Second::start(opened)?),
             });
         }
-        refuse_missing(alloc, place, element, K::lacks())
+        refuse_missing(opened.alloc, opened.place, opened.element, K::lacks())
     }
 
     fn step(&mut self, place: usize, event: &XmlEvent) -> Result<bool, XmlReadError> {

@@ -4,8 +4,9 @@ ghost use Rattle.cdx_machine.specs.Contents.{TakesText};
 
 use crate::machine::Machine;
 use crate::refusal::refuse_in;
-use cdx_events::{List, OwnedAttribute, OwnedName, Text, XmlEvent};
-use cdx_models::{HasTree, SpecVersion, XmlReadError};
+use cdx_events::{OwnedName, Text, XmlEvent};
+use cdx_leaf::Start;
+use cdx_models::{HasTree, XmlReadError};
 use std::alloc::Global;
 
 /// What the attributes of an element begin, that holds one text at most.
@@ -31,16 +32,11 @@ pub trait Content: Drop {
     /// The fields that were begun.
     ghost start: { Self → Trees };
 
-    /// What the attributes begin, or their first fault, at `place`, that of the element's start.
-    fn begin(
-        alloc: Global,
-        place: usize,
-        v: SpecVersion,
-        element: &OwnedName,
-        attributes: &List<OwnedAttribute>,
-    ) -> Result<Self, XmlReadError>
-        ensures { Gives start (place + 1) (first element.now.local_name attributes.now v place)
-            result };
+    /// What the attributes begin, or their first fault, at the element's start.
+    fn begin(opened: &Start<'_>) -> Result<Self, XmlReadError>
+        ensures { Gives start (opened.now.place + 1)
+            (first opened.now.element.now.local_name opened.now.attributes.now opened.now.version
+            opened.now.place) result };
 
     /// The value by the text, where there is one, or its fault, at `place`, that of the element's end.
     fn finish(
@@ -108,17 +104,11 @@ impl<C: Content> Machine for ContentMachine<C> {
 
     ghost holds = { λ m v p d o. content_holds C.first C.start m.name m.content m.text v p o };
 
-    fn start(
-        alloc: Global,
-        place: usize,
-        v: SpecVersion,
-        element: &OwnedName,
-        attributes: &List<OwnedAttribute>,
-    ) -> Result<ContentMachine<C>, XmlReadError> {
-        let content = C::begin(alloc, place, v, element, attributes)?;
+    fn start(opened: &Start<'_>) -> Result<ContentMachine<C>, XmlReadError> {
+        let content = C::begin(opened)?;
         Ok(ContentMachine {
-            alloc,
-            name: element.local_name.copy(alloc)?,
+            alloc: opened.alloc,
+            name: opened.element.local_name.copy(opened.alloc)?,
             content,
             text: None,
         })

@@ -10,7 +10,7 @@ use crate::machine::Machine;
 use crate::or::Machines;
 use crate::refusal::refuse_in;
 use cdx_events::{List, OwnedAttribute, OwnedName, Text, XmlEvent};
-use cdx_leaf::Rule;
+use cdx_leaf::{End, Rule, Start};
 use cdx_models::{SpecVersion, XmlReadError};
 use std::alloc::{AllocError, Global};
 use std::mem::replace;
@@ -77,16 +77,11 @@ pub trait Frame: Drop {
     fn rule(&self) -> Rule
         ensures { plan.rule ≡ as_rule result };
 
-    /// What the attributes begin, or their first fault, at `place`, that of the element's start.
-    fn begin(
-        alloc: Global,
-        place: usize,
-        v: SpecVersion,
-        element: &OwnedName,
-        attributes: &List<OwnedAttribute>,
-    ) -> Result<Self, XmlReadError>
-        ensures { Gives slots (place + 1) (first element.now.local_name attributes.now v place)
-            result };
+    /// What the attributes begin, or their first fault, at the element's start.
+    fn begin(opened: &Start<'_>) -> Result<Self, XmlReadError>
+        ensures { Gives slots (opened.now.place + 1)
+            (first opened.now.element.now.local_name opened.now.attributes.now opened.now.version
+            opened.now.place) result };
 
     /// The child that `v` knows by the name.
     fn find(&self, v: SpecVersion, name: &OwnedName) -> Found
@@ -101,16 +96,11 @@ pub trait Frame: Drop {
         ensures { OnOk result (Puts plan.children (Self.Child.source value)
             (Self.Child.tree value) (slots self.old) (slots self.new)) };
 
-    /// The value, or the fault of the first required child that is missing, at `place`, that of the element's end.
-    fn finish(
-        self,
-        alloc: Global,
-        place: usize,
-        v: SpecVersion,
-        element: &OwnedName,
-    ) -> Result<Self::Value, XmlReadError>
-        ensures { Gives tree (place + 1)
-            (last element.now.local_name v place (slots self)) result };
+    /// The value, or the fault of the first required child that is missing, at the element's end.
+    fn finish(self, closed: &End<'_>) -> Result<Self::Value, XmlReadError>
+        ensures { Gives tree (closed.now.place + 1)
+            (last closed.now.element.now.local_name closed.now.version closed.now.place
+            (slots self)) result };
 
     // The machines read the kinds of the children.
     ghost kinds: { Self.Child.kinds ≡ kinds_of plan.children };
@@ -159,7 +149,16 @@ fn enter<F: Frame>(
 {
     match part.find(v, name) {
         Found::At(position) => {
-            let child = F::Child::start(position, alloc, place, v, name, attributes)?;
+            let child = F::Child::start(
+                position,
+                &Start {
+                    alloc,
+                    place,
+                    version: v,
+                    element: name,
+                    attributes,
+                },
+            )?;
             Ok(Inside::Read(boxed(alloc, child)?))
         }
         Found::Unknown => {
@@ -218,18 +217,12 @@ impl<F: Frame> Machine for FrameMachine<F> {
         holds_inside (reads_boxed F.plan F.Child.position_of F.Child.holds) F.first F.plan m.name
         m.v (F.slots m.part) m.inside v p d o };
 
-    fn start(
-        alloc: Global,
-        place: usize,
-        v: SpecVersion,
-        element: &OwnedName,
-        attributes: &List<OwnedAttribute>,
-    ) -> Result<FrameMachine<F>, XmlReadError> {
-        let part = F::begin(alloc, place, v, element, attributes)?;
+    fn start(opened: &Start<'_>) -> Result<FrameMachine<F>, XmlReadError> {
+        let part = F::begin(opened)?;
         Ok(FrameMachine {
-            alloc,
-            v,
-            name: element.local_name.copy(alloc)?,
+            alloc: opened.alloc,
+            v: opened.version,
+            name: opened.element.local_name.copy(opened.alloc)?,
             part,
             inside: Inside::Nothing,
         })
@@ -271,6 +264,11 @@ impl<F: Frame> Machine for FrameMachine<F> {
         let XmlEvent::EndElement { name } = event else {
             unreachable!()
         };
-        self.part.finish(self.alloc, place, self.v, name)
+        self.part.finish(&End {
+            alloc: self.alloc,
+            place,
+            version: self.v,
+            element: name,
+        })
     }
 }

@@ -3,8 +3,8 @@
 use crate::frame::{Found, Frame, FrameMachine};
 use crate::machine::Machine;
 use crate::or::Only;
-use cdx_events::{List, OwnedAttribute, OwnedName};
-use cdx_leaf::Rule;
+use cdx_events::{List, OwnedName};
+use cdx_leaf::{End, Rule, Start};
 use cdx_models::{SpecVersion, XmlReadError};
 use std::alloc::{AllocError, Global};
 
@@ -77,15 +77,9 @@ impl<L: ListOf> Frame for Items<L> {
         L::rule()
     }
 
-    fn begin(
-        alloc: Global,
-        _place: usize,
-        _v: SpecVersion,
-        _element: &OwnedName,
-        _attributes: &List<OwnedAttribute>,
-    ) -> Result<Items<L>, XmlReadError> {
+    fn begin(opened: &Start<'_>) -> Result<Items<L>, XmlReadError> {
         Ok(Items {
-            items: List::new(alloc),
+            items: List::new(opened.alloc),
         })
     }
 
@@ -104,13 +98,7 @@ impl<L: ListOf> Frame for Items<L> {
         self.items.push(value)
     }
 
-    fn finish(
-        self,
-        _alloc: Global,
-        _place: usize,
-        _v: SpecVersion,
-        _element: &OwnedName,
-    ) -> Result<List<<L::Item as Machine>::Value>, XmlReadError> {
+    fn finish(self, _closed: &End<'_>) -> Result<List<<L::Item as Machine>::Value>, XmlReadError> {
         Ok(self.items)
     }
 }

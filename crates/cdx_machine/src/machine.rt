@@ -1,8 +1,8 @@
 //! Machines.
 
-use cdx_events::{List, OwnedAttribute, OwnedName, XmlEvent};
-use cdx_models::{SpecVersion, XmlReadError};
-use std::alloc::Global;
+use cdx_events::XmlEvent;
+use cdx_leaf::Start;
+use cdx_models::XmlReadError;
 
 /// What reads one element of a kind, event by event.
 pub trait Machine: Drop {
@@ -26,15 +26,10 @@ pub trait Machine: Drop {
     /// What the machine keeps of the events so far: in a version, with the element's start at a place, at a depth.
     ghost holds: { Self → SpecVersion → ℕ → Depth → Begun → Type 0 };
 
-    /// Takes the element's start, at `place`. A refusal is the fault of the start alone.
-    fn start(
-        alloc: Global,
-        place: usize,
-        v: SpecVersion,
-        element: &OwnedName,
-        attributes: &List<OwnedAttribute>,
-    ) -> Result<Self, XmlReadError>
-        ensures { StartsAs holds kind v place element.now attributes.now result };
+    /// Takes the element's start. A refusal is the fault of the start alone.
+    fn start(opened: &Start<'_>) -> Result<Self, XmlReadError>
+        ensures { StartsAs holds kind opened.now.version opened.now.place opened.now.element.now
+            opened.now.attributes.now result };
 
     /// Takes the next event, at `place`, and says whether it is the element's end, of which the machine keeps nothing. A
     /// refusal comes with the first event through which the element has a fault; that is the fault, and it stands at this

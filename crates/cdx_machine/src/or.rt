@@ -1,9 +1,9 @@
 //! Several machines in a row, of which one runs.
 
 use crate::machine::Machine;
-use cdx_events::{List, OwnedAttribute, OwnedName, XmlEvent};
-use cdx_models::{SpecVersion, XmlReadError};
-use std::alloc::Global;
+use cdx_events::XmlEvent;
+use cdx_leaf::Start;
+use cdx_models::XmlReadError;
 
 /// Several machines in a row, of which one runs.
 pub trait Machines: Drop {
@@ -34,18 +34,12 @@ pub trait Machines: Drop {
     /// The tree of the value.
     ghost tree: { Self.Value → Tree };
 
-    /// Takes the element's start, at `place`, by the machine at the position. A refusal is the fault of the start alone.
-    fn start(
-        position: usize,
-        alloc: Global,
-        place: usize,
-        v: SpecVersion,
-        element: &OwnedName,
-        attributes: &List<OwnedAttribute>,
-    ) -> Result<Self, XmlReadError>
+    /// Takes the element's start, by the machine at the position. A refusal is the fault of the start alone.
+    fn start(position: usize, opened: &Start<'_>) -> Result<Self, XmlReadError>
         ensures runs { IsThere kinds position → IfOk result (λ m. position_of m ≡ position) }
-        ensures starts { (k : Kind) → at_position kinds position ≡ Some k
-            → StartsAs holds k v place element.now attributes.now result };
+        ensures starts { (k : Kind) → at_position kinds position ≡ Some k → StartsAs holds k
+            opened.now.version opened.now.place opened.now.element.now opened.now.attributes.now
+            result };
 
     /// Takes the next event, at `place`, as a machine does, and says whether it is the element's end.
     fn step(&mut self, place: usize, event: &XmlEvent) -> Result<bool, XmlReadError>
@@ -93,18 +87,11 @@ impl<M: Machine, R: Machines> Machines for Or<M, R> {
 
     ghost tree = { or_tree M.tree R.tree };
 
-    fn start(
-        position: usize,
-        alloc: Global,
-        place: usize,
-        v: SpecVersion,
-        element: &OwnedName,
-        attributes: &List<OwnedAttribute>,
-    ) -> Result<Or<M, R>, XmlReadError> {
+    fn start(position: usize, opened: &Start<'_>) -> Result<Or<M, R>, XmlReadError> {
         if position == 0 {
-            return Ok(Or::This(M::start(alloc, place, v, element, attributes)?));
+            return Ok(Or::This(M::start(opened)?));
         }
-        Ok(Or::Other(R::start(position - 1, alloc, place, v, element, attributes)?))
+        Ok(Or::Other(R::start(position - 1, opened)?))
     }
 
     fn step(&mut self, place: usize, event: &XmlEvent) -> Result<bool, XmlReadError> {
@@ -141,16 +128,9 @@ impl<M: Machine> Machines for Only<M> {
 
     ghost tree = { M.tree };
 
-    fn start(
-        _position: usize,
-        alloc: Global,
-        place: usize,
-        v: SpecVersion,
-        element: &OwnedName,
-        attributes: &List<OwnedAttribute>,
-    ) -> Result<Only<M>, XmlReadError> {
+    fn start(_position: usize, opened: &Start<'_>) -> Result<Only<M>, XmlReadError> {
         Ok(Only {
-            machine: M::start(alloc, place, v, element, attributes)?,
+            machine: M::start(opened)?,
         })
     }
 
@@ -183,14 +163,7 @@ impl Machines for NoMachine {
 
     ghost tree = { λ x. absent };
 
-    fn start(
-        _position: usize,
-        _alloc: Global,
-        _place: usize,
-        _v: SpecVersion,
-        _element: &OwnedName,
-        _attributes: &List<OwnedAttribute>,
-    ) -> Result<NoMachine, XmlReadError> {
+    fn start(_position: usize, _opened: &Start<'_>) -> Result<NoMachine, XmlReadError> {
         Ok(NoMachine)
     }
 

@@ -5,6 +5,7 @@ ghost use Rattle.cdx_machine.specs.Feeding.{IsNoBill};
 
 use crate::machine::Machine;
 use cdx_events::{EventReader, List, OwnedAttribute, OwnedName};
+use cdx_leaf::Start;
 use cdx_models::{SpecVersion, XmlReadError};
 use std::alloc::Global;
 
@@ -21,7 +22,13 @@ pub fn read_by_machine<M: Machine>(
     ensures { ReadsAs M.tree reader.old reader.new element.now attributes.now v M.kind
         (λ d. d) result }
 {
-    let mut machine = M::start(alloc, reader.place() - 1, v, element, attributes)?;
+    let mut machine = M::start(&Start {
+        alloc,
+        place: reader.place() - 1,
+        version: v,
+        element,
+        attributes,
+    })?;
     'events: loop {
         let place = reader.place();
         let Some(event) = reader.next() else {

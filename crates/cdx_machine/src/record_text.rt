@@ -1,9 +1,9 @@
 //! Records of attributes and a text, which may be missing or has to be there.
 
 use crate::content::{Content, ContentMachine};
-use cdx_events::{EventKind, List, OwnedAttribute, OwnedName, Text};
-use cdx_leaf::TextRecord;
-use cdx_models::{HasTree, SpecVersion, XmlReadError};
+use cdx_events::{EventKind, OwnedName, Text};
+use cdx_leaf::{Start, TextRecord};
+use cdx_models::{HasTree, XmlReadError};
 use std::alloc::Global;
 
 /// What the attributes of a record begin, whose content is a text that may be missing.
@@ -33,15 +33,9 @@ impl<X: TextRecord> Content for BegunText<X> {
     ghost content = { record_content X.name X.at (λ r. X.start r.start)
         (any_content X.name X.at X.content) X.plain (λ r. X.whole r.start) };
 
-    fn begin(
-        alloc: Global,
-        place: usize,
-        v: SpecVersion,
-        element: &OwnedName,
-        attributes: &List<OwnedAttribute>,
-    ) -> Result<BegunText<X>, XmlReadError> {
+    fn begin(opened: &Start<'_>) -> Result<BegunText<X>, XmlReadError> {
         Ok(BegunText {
-            start: X::begin(alloc, place, v, element, attributes)?,
+            start: X::begin(opened)?,
         })
     }
 
@@ -84,16 +78,11 @@ pub trait ExactRecord {
     /// The row of the text.
     ghost at: { ℕ };
 
-    /// What the attributes give, or their first fault, at `place`, that of the element's start.
-    fn begin(
-        alloc: Global,
-        place: usize,
-        v: SpecVersion,
-        element: &OwnedName,
-        attributes: &List<OwnedAttribute>,
-    ) -> Result<Self::Start, XmlReadError>
-        ensures { Gives start (place + 1)
-            (start_read name v element.now.local_name attributes.now place) result };
+    /// What the attributes give, or their first fault, at the element's start.
+    fn begin(opened: &Start<'_>) -> Result<Self::Start, XmlReadError>
+        ensures { Gives start (opened.now.place + 1)
+            (start_read name opened.now.version opened.now.element.now.local_name
+            opened.now.attributes.now opened.now.place) result };
 
     /// The record with this text.
     fn with_text(begun: Self::Start, content: Text) -> Self::Value
@@ -138,15 +127,9 @@ impl<X: ExactRecord> Content for BegunExact<X> {
     ghost content = { exact_record_content X.name X.at (λ r. X.start r.start)
         (one_content X.name X.at X.content) X.plain (λ r. X.whole r.start) };
 
-    fn begin(
-        alloc: Global,
-        place: usize,
-        v: SpecVersion,
-        element: &OwnedName,
-        attributes: &List<OwnedAttribute>,
-    ) -> Result<BegunExact<X>, XmlReadError> {
+    fn begin(opened: &Start<'_>) -> Result<BegunExact<X>, XmlReadError> {
         Ok(BegunExact {
-            start: X::begin(alloc, place, v, element, attributes)?,
+            start: X::begin(opened)?,
         })
     }
 

@@ -2,8 +2,8 @@
 
 use crate::frame::{Found, Frame, FrameMachine};
 use crate::or::Machines;
-use cdx_events::{List, OwnedAttribute, OwnedName};
-use cdx_leaf::{Children, Rule, XmlRecord};
+use cdx_events::OwnedName;
+use cdx_leaf::{Children, End, Rule, Start, XmlRecord};
 use cdx_models::{SpecVersion, XmlReadError};
 use std::alloc::{AllocError, Global};
 
@@ -77,15 +77,9 @@ impl<K: PushRecord> Frame for BegunRecord<K> {
         self.part.rule()
     }
 
-    fn begin(
-        alloc: Global,
-        place: usize,
-        v: SpecVersion,
-        element: &OwnedName,
-        attributes: &List<OwnedAttribute>,
-    ) -> Result<BegunRecord<K>, XmlReadError> {
+    fn begin(opened: &Start<'_>) -> Result<BegunRecord<K>, XmlReadError> {
         Ok(BegunRecord {
-            part: <K::Record as XmlRecord>::begin(alloc, place, v, element, attributes)?,
+            part: <K::Record as XmlRecord>::begin(opened)?,
         })
     }
 
@@ -101,13 +95,7 @@ impl<K: PushRecord> Frame for BegunRecord<K> {
         K::put(&mut self.part, alloc, value)
     }
 
-    fn finish(
-        self,
-        alloc: Global,
-        place: usize,
-        v: SpecVersion,
-        element: &OwnedName,
-    ) -> Result<K::Record, XmlReadError> {
-        <K::Record as XmlRecord>::finish(alloc, place, v, element, self.part)
+    fn finish(self, closed: &End<'_>) -> Result<K::Record, XmlReadError> {
+        <K::Record as XmlRecord>::finish(closed, self.part)
     }
 }

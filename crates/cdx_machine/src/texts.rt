@@ -2,9 +2,9 @@
 
 use crate::content::{Content, ContentMachine};
 use crate::machine::Machine;
-use cdx_events::{List, OwnedAttribute, OwnedName, Text, XmlEvent};
-use cdx_leaf::FromXmlType;
-use cdx_models::{SpecVersion, XmlReadError};
+use cdx_events::{OwnedName, Text, XmlEvent};
+use cdx_leaf::{FromXmlType, Start};
+use cdx_models::XmlReadError;
 use std::alloc::Global;
 
 /// What the start of a text begins.
@@ -33,15 +33,9 @@ impl Machine for TextMachine {
 
     ghost holds = { λ m. ⟦<ContentMachine<PlainText> as Machine>⟧.holds m.machine };
 
-    fn start(
-        alloc: Global,
-        place: usize,
-        v: SpecVersion,
-        element: &OwnedName,
-        attributes: &List<OwnedAttribute>,
-    ) -> Result<TextMachine, XmlReadError> {
+    fn start(opened: &Start<'_>) -> Result<TextMachine, XmlReadError> {
         Ok(TextMachine {
-            machine: ContentMachine::<PlainText>::start(alloc, place, v, element, attributes)?,
+            machine: ContentMachine::<PlainText>::start(opened)?,
         })
     }
 
@@ -72,15 +66,9 @@ impl Machine for FlagMachine {
 
     ghost holds = { λ m. ⟦<ContentMachine<PlainFlag> as Machine>⟧.holds m.machine };
 
-    fn start(
-        alloc: Global,
-        place: usize,
-        v: SpecVersion,
-        element: &OwnedName,
-        attributes: &List<OwnedAttribute>,
-    ) -> Result<FlagMachine, XmlReadError> {
+    fn start(opened: &Start<'_>) -> Result<FlagMachine, XmlReadError> {
         Ok(FlagMachine {
-            machine: ContentMachine::<PlainFlag>::start(alloc, place, v, element, attributes)?,
+            machine: ContentMachine::<PlainFlag>::start(opened)?,
         })
     }
 
@@ -109,13 +97,7 @@ impl Content for PlainText {
 
     ghost content = { text_content };
 
-    fn begin(
-        _alloc: Global,
-        _place: usize,
-        _v: SpecVersion,
-        _element: &OwnedName,
-        _attributes: &List<OwnedAttribute>,
-    ) -> Result<PlainText, XmlReadError> {
+    fn begin(_opened: &Start<'_>) -> Result<PlainText, XmlReadError> {
         Ok(PlainText)
     }
 
@@ -149,13 +131,7 @@ impl Content for PlainFlag {
 
     ghost content = { flag_content };
 
-    fn begin(
-        _alloc: Global,
-        _place: usize,
-        _v: SpecVersion,
-        _element: &OwnedName,
-        _attributes: &List<OwnedAttribute>,
-    ) -> Result<PlainFlag, XmlReadError> {
+    fn begin(_opened: &Start<'_>) -> Result<PlainFlag, XmlReadError> {
         Ok(PlainFlag)
     }
 

@@ -22,9 +22,9 @@ use crate::frames::tools::{
 use crate::metadata::Metadata;
 use crate::tools::Tools;
 use cdx_component::{Component, ComponentFrame, ComponentKind, Components, Pedigree};
-use cdx_events::{List, OwnedAttribute, OwnedName};
+use cdx_events::OwnedName;
 use cdx_json::Depth;
-use cdx_leaf::Rule;
+use cdx_leaf::{End, Rule, Start};
 use cdx_machine::Found;
 use cdx_models::{SpecVersion, XmlReadError};
 use cdx_nest_machine::{Nested, Reads};
@@ -138,35 +138,28 @@ impl Nested for NestFrame {
         }
     }
 
-    fn begin(
-        alloc: Global,
-        sort: NestKind,
-        place: usize,
-        v: SpecVersion,
-        element: &OwnedName,
-        attributes: &List<OwnedAttribute>,
-    ) -> Result<NestFrame, XmlReadError> {
+    fn begin(sort: NestKind, opened: &Start<'_>) -> Result<NestFrame, XmlReadError> {
         match sort {
-            NestKind::Tools => Ok(NestFrame::Tools(begin_tools(alloc))),
+            NestKind::Tools => Ok(NestFrame::Tools(begin_tools(opened.alloc))),
             NestKind::Component => {
                 let kind = ComponentKind::Component;
-                begin_in_components(alloc, kind, place, v, element, attributes)
+                begin_in_components(kind, opened)
             }
             NestKind::Components => {
                 let kind = ComponentKind::Components;
-                begin_in_components(alloc, kind, place, v, element, attributes)
+                begin_in_components(kind, opened)
             }
             NestKind::Pedigree => {
                 let kind = ComponentKind::Pedigree;
-                begin_in_components(alloc, kind, place, v, element, attributes)
+                begin_in_components(kind, opened)
             }
             NestKind::Service => {
                 let kind = ServiceKind::Service;
-                begin_in_services(alloc, kind, place, v, element, attributes)
+                begin_in_services(kind, opened)
             }
             NestKind::Services => {
                 let kind = ServiceKind::Services;
-                begin_in_services(alloc, kind, place, v, element, attributes)
+                begin_in_services(kind, opened)
             }
             NestKind::Metadata => Ok(NestFrame::Metadata(begin_metadata())),
         }
@@ -222,19 +215,11 @@ impl Nested for NestFrame {
         }
     }
 
-    fn finish(
-        self,
-        alloc: Global,
-        place: usize,
-        v: SpecVersion,
-        element: &OwnedName,
-    ) -> Result<NestValue, XmlReadError> {
+    fn finish(self, closed: &End<'_>) -> Result<NestValue, XmlReadError> {
         match self {
-            NestFrame::Component(frame) => finish_in_components(frame, alloc, place, v, element),
-            NestFrame::Service(frame) => finish_in_services(frame, alloc, place, v, element),
-            NestFrame::Tools(part) => {
-                Ok(NestValue::Tools(finish_tools(alloc, place, v, element, part)?))
-            }
+            NestFrame::Component(frame) => finish_in_components(frame, closed),
+            NestFrame::Service(frame) => finish_in_services(frame, closed),
+            NestFrame::Tools(part) => { Ok(NestValue::Tools(finish_tools(closed, part)?)) }
             NestFrame::Metadata(part) => Ok(NestValue::Metadata(finish_metadata(part))),
         }
     }

@@ -13,6 +13,7 @@ ghost use Rattle.cdx_nest.specs.NestSteps.{IsOfKind, IsMore, IsMemory, as_steps}
 use crate::frames::{NestFrame, NestKind, NestStep};
 use cdx_events::{List, OwnedAttribute, OwnedName, XmlEvent};
 use cdx_json::Depth;
+use cdx_leaf::Start;
 use cdx_machine::Listener;
 use cdx_models::{SpecVersion, XmlReadError};
 use cdx_nest_machine::{Keeps, StackMachine};
@@ -70,7 +71,15 @@ impl NestMachine {
             (StartElement element.now attributes.now s ∷ []) result }
     {
         let machine = StackMachine::<NestFrame>::start(
-            alloc, kind, place, v, depth, element, attributes,
+            kind,
+            depth,
+            &Start {
+                alloc,
+                place,
+                version: v,
+                element,
+                attributes,
+            },
         )?;
         Ok(NestMachine {
             kind,

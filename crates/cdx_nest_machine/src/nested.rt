@@ -1,8 +1,8 @@
 //! Kinds that stand in themselves.
 
-use cdx_events::{List, OwnedAttribute, OwnedName};
+use cdx_events::OwnedName;
 use cdx_json::Depth;
-use cdx_leaf::Rule;
+use cdx_leaf::{End, Rule, Start};
 use cdx_machine::{Found, Leaves};
 use cdx_models::{SpecVersion, XmlReadError};
 use std::alloc::{AllocError, Global};
@@ -66,18 +66,12 @@ pub trait Nested: Drop {
     fn deeper(sort: &Self::Sort, depth: Depth) -> Option<Depth>
         ensures { Deepens (as_kind sort.now) (depth_of depth) result };
 
-    /// What the attributes begin, or their first fault, at `place`, that of the element's start.
-    fn begin(
-        alloc: Global,
-        sort: Self::Sort,
-        place: usize,
-        v: SpecVersion,
-        element: &OwnedName,
-        attributes: &List<OwnedAttribute>,
-    ) -> Result<Self, XmlReadError>
+    /// What the attributes begin, or their first fault, at the element's start.
+    fn begin(sort: Self::Sort, opened: &Start<'_>) -> Result<Self, XmlReadError>
         ensures sort { IfOk result (λ x. sort_of x ≡ sort) }
-        ensures gives { Gives fields (place + 1)
-            (first_of (as_kind sort) element.now.local_name attributes.now v place) result };
+        ensures gives { Gives fields (opened.now.place + 1)
+            (first_of (as_kind sort) opened.now.element.now.local_name opened.now.attributes.now
+            opened.now.version opened.now.place) result };
 
     /// The child that `v` knows by the name.
     fn find(&self, v: SpecVersion, name: &OwnedName) -> Found
@@ -108,18 +102,12 @@ pub trait Nested: Drop {
         ensures puts { OnOk result (Puts (plan_of (as_kind (sort_of self.old))).children position
             (Self.Leaf.tree value) (fields self.old) (fields self.new)) };
 
-    /// The value, or the fault of the first required child that is missing, at `place`, that of the element's end.
-    fn finish(
-        self,
-        alloc: Global,
-        place: usize,
-        v: SpecVersion,
-        element: &OwnedName,
-    ) -> Result<Self::Value, XmlReadError>
+    /// The value, or the fault of the first required child that is missing, at the element's end.
+    fn finish(self, closed: &End<'_>) -> Result<Self::Value, XmlReadError>
         ensures sort { IfOk result (λ x. value_sort x ≡ sort_of self) }
-        ensures gives { Gives tree (place + 1)
-            (last_of (as_kind (sort_of self)) element.now.local_name v place (fields self))
-            result };
+        ensures gives { Gives tree (closed.now.place + 1)
+            (last_of (as_kind (sort_of self)) closed.now.element.now.local_name closed.now.version
+            closed.now.place (fields self)) result };
 
     // The child of each position is read as its kind.
     ghost children: { (s : Self.Sort)

@@ -8,6 +8,7 @@ use crate::nested::Nested;
 use crate::stack::StackMachine;
 use cdx_events::{EventReader, List, OwnedAttribute, OwnedName};
 use cdx_json::Depth;
+use cdx_leaf::Start;
 use cdx_models::{SpecVersion, XmlReadError};
 use std::alloc::Global;
 
@@ -28,13 +29,15 @@ pub fn read_element<F: Nested>(
     ensures sort { IfOk result (λ x. F.value_sort x ≡ sort) }
 {
     let mut machine = StackMachine::<F>::start(
-        alloc,
         sort,
-        reader.place() - 1,
-        v,
         depth,
-        element,
-        attributes,
+        &Start {
+            alloc,
+            place: reader.place() - 1,
+            version: v,
+            element,
+            attributes,
+        },
     )?;
     'events: loop {
         let place = reader.place();

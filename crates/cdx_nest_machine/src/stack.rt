@@ -17,6 +17,7 @@ use crate::keeps::Keeps;
 use crate::nested::{Nested, Reads};
 use cdx_events::{List, OwnedAttribute, OwnedName, Text, XmlEvent};
 use cdx_json::Depth;
+use cdx_leaf::{End, Start};
 use cdx_machine::{Found, Inside, Leaves, boxed, refuse_in, skip};
 use cdx_models::{SpecVersion, XmlReadError};
 use std::alloc::{AllocError, Global};
@@ -67,24 +68,22 @@ impl<F: Nested> Keeps for StackMachine<F> {
 
 // Begins an element at this depth.
 fn open_at<F: Nested>(
-    alloc: Global,
     sort: F::Sort,
-    place: usize,
-    v: SpecVersion,
     depth: Depth,
-    element: &OwnedName,
-    attributes: &List<OwnedAttribute>,
+    opened: &Start<'_>,
 ) -> Result<Open<F>, XmlReadError>
     ensures sort { IfOk result (λ t. F.sort_of t.part ≡ sort) }
-    ensures begins { BeginsOpen (F.as_kind sort) F.fields place v (depth_of depth) element.now
-        attributes.now result }
+    ensures begins { BeginsOpen (F.as_kind sort) F.fields opened.now.place opened.now.version
+        (depth_of depth) opened.now.element.now opened.now.attributes.now result }
 {
     let Some(inner) = F::deeper(&sort, depth) else {
-        return Err(XmlReadError::TooDeep { place });
+        return Err(XmlReadError::TooDeep {
+            place: opened.place,
+        });
     };
-    let part = F::begin(alloc, sort, place, v, element, attributes)?;
+    let part = F::begin(sort, opened)?;
     Ok(Open {
-        name: element.local_name.copy(alloc)?,
+        name: opened.element.local_name.copy(opened.alloc)?,
         depth: inner,
         part,
     })
@@ -126,25 +125,22 @@ fn push_below<W: Drop>(below: &mut Vec<W>, waiting: W) -> Result<(), AllocError>
 }
 
 impl<F: Nested> StackMachine<F> {
-    /// Takes the element's start, at `place`, inside so many components and services. A refusal is the fault of the start
-    /// alone, as where the element is too deep, or want of memory.
+    /// Takes the element's start, inside so many components and services. A refusal is the fault of the start alone, as
+    /// where the element is too deep, or want of memory.
     pub fn start(
-        alloc: Global,
         sort: F::Sort,
-        place: usize,
-        v: SpecVersion,
         depth: Depth,
-        element: &OwnedName,
-        attributes: &List<OwnedAttribute>,
+        opened: &Start<'_>,
     ) -> Result<StackMachine<F>, XmlReadError>
-        ensures { StartsStack (⟦<StackMachine<F> as Keeps>⟧.holds sort) (F.as_kind sort) v place
-            (depth_of depth) element.now attributes.now result }
+        ensures { StartsStack (⟦<StackMachine<F> as Keeps>⟧.holds sort) (F.as_kind sort)
+            opened.now.version opened.now.place (depth_of depth) opened.now.element.now
+            opened.now.attributes.now result }
     {
-        let open = open_at::<F>(alloc, sort, place, v, depth, element, attributes)?;
+        let open = open_at::<F>(sort, depth, opened)?;
         Ok(StackMachine {
-            alloc,
-            v,
-            below: Vec::new(alloc),
+            alloc: opened.alloc,
+            v: opened.version,
+            below: Vec::new(opened.alloc),
             top: open,
             inside: Inside::Nothing,
         })
@@ -169,7 +165,14 @@ impl<F: Nested> StackMachine<F> {
             Found::At(position) => match self.top.part.child(position) {
                 Reads::Leaf(sort) => {
                     let started = F::Leaf::start(
-                        self.alloc, sort, place, self.v, name, attributes,
+                        sort,
+                        &Start {
+                            alloc: self.alloc,
+                            place,
+                            version: self.v,
+                            element: name,
+                            attributes,
+                        },
                     )?;
                     let machine = boxed(self.alloc, started)?;
                     self.inside = Inside::Read(LeafChild { machine, position });
@@ -178,7 +181,15 @@ impl<F: Nested> StackMachine<F> {
                 Reads::Nested(sort) => {
                     let inner = self.top.depth;
                     let open = open_at::<F>(
-                        self.alloc, sort, place, self.v, inner, name, attributes,
+                        sort,
+                        inner,
+                        &Start {
+                            alloc: self.alloc,
+                            place,
+                            version: self.v,
+                            element: name,
+                            attributes,
+                        },
                     )?;
                     let open = replace(&mut self.top, open);
                     push_below(&mut self.below, Waiting { open, position })?;
@@ -213,7 +224,12 @@ impl<F: Nested> StackMachine<F> {
             return Ok(true);
         };
         let ended = replace(&mut self.top, waiting.open);
-        let value = ended.part.finish(self.alloc, place, self.v, name)?;
+        let value = ended.part.finish(&End {
+            alloc: self.alloc,
+            place,
+            version: self.v,
+            element: name,
+        })?;
         self.top.part.put(waiting.position, self.alloc, value)?;
         Ok(false)
     }
@@ -262,6 +278,11 @@ impl<F: Nested> StackMachine<F> {
             unreachable!()
         };
         let top = self.top;
-        top.part.finish(self.alloc, place, self.v, name)
+        top.part.finish(&End {
+            alloc: self.alloc,
+            place,
+            version: self.v,
+            element: name,
+        })
     }
 }

@@ -1,9 +1,10 @@
 //! The machine of any kind that doesn't contain itself.
 
 use crate::kinds::{LeafKind, LeafValue};
-use cdx_events::{List, OwnedAttribute, OwnedName, XmlEvent};
+use cdx_events::XmlEvent;
+use cdx_leaf::Start;
 use cdx_machine::{FlagMachine, Leaves, Machine, TextMachine};
-use cdx_models::{SpecVersion, XmlReadError};
+use cdx_models::XmlReadError;
 use cdx_push_code::{CommitsMachine, PatchesMachine};
 use cdx_push_models::{
     AttachedTextMachine, AuthorsMachine, EndpointsMachine, EntityMachine,
@@ -11,7 +12,6 @@ use cdx_push_models::{
 };
 use cdx_push_parts::{ComponentEvidenceMachine, DataMachine, LicensesMachine, SwidMachine};
 use cdx_push_relations::{CompositionsMachine, DependenciesMachine, SignatureMachine};
-use std::alloc::Global;
 
 /// The machine of the kind that its variant names.
 pub enum Leaf {
@@ -119,72 +119,29 @@ impl Leaves for Leaf {
       | Data m ↦ ⟦<DataMachine as Machine>⟧.holds m
     ] };
 
-    fn start(
-        alloc: Global,
-        sort: LeafKind,
-        place: usize,
-        v: SpecVersion,
-        element: &OwnedName,
-        attributes: &List<OwnedAttribute>,
-    ) -> Result<Leaf, XmlReadError> {
+    fn start(sort: LeafKind, opened: &Start<'_>) -> Result<Leaf, XmlReadError> {
         match sort {
-            LeafKind::Text => Ok(Leaf::Text(TextMachine::start(
-                alloc, place, v, element, attributes,
-            )?)),
-            LeafKind::Flag => Ok(Leaf::Flag(FlagMachine::start(
-                alloc, place, v, element, attributes,
-            )?)),
-            LeafKind::AttachedText => Ok(Leaf::AttachedText(AttachedTextMachine::start(
-                alloc, place, v, element, attributes,
-            )?)),
-            LeafKind::Endpoints => Ok(Leaf::Endpoints(EndpointsMachine::start(
-                alloc, place, v, element, attributes,
-            )?)),
-            LeafKind::Authors => Ok(Leaf::Authors(AuthorsMachine::start(
-                alloc, place, v, element, attributes,
-            )?)),
-            LeafKind::Entity => Ok(Leaf::Entity(EntityMachine::start(
-                alloc, place, v, element, attributes,
-            )?)),
-            LeafKind::Hashes => Ok(Leaf::Hashes(HashesMachine::start(
-                alloc, place, v, element, attributes,
-            )?)),
-            LeafKind::Properties => Ok(Leaf::Properties(PropertiesMachine::start(
-                alloc, place, v, element, attributes,
-            )?)),
-            LeafKind::Commits => Ok(Leaf::Commits(CommitsMachine::start(
-                alloc, place, v, element, attributes,
-            )?)),
-            LeafKind::Patches => Ok(Leaf::Patches(PatchesMachine::start(
-                alloc, place, v, element, attributes,
-            )?)),
+            LeafKind::Text => Ok(Leaf::Text(TextMachine::start(opened)?)),
+            LeafKind::Flag => Ok(Leaf::Flag(FlagMachine::start(opened)?)),
+            LeafKind::AttachedText => Ok(Leaf::AttachedText(AttachedTextMachine::start(opened)?)),
+            LeafKind::Endpoints => Ok(Leaf::Endpoints(EndpointsMachine::start(opened)?)),
+            LeafKind::Authors => Ok(Leaf::Authors(AuthorsMachine::start(opened)?)),
+            LeafKind::Entity => Ok(Leaf::Entity(EntityMachine::start(opened)?)),
+            LeafKind::Hashes => Ok(Leaf::Hashes(HashesMachine::start(opened)?)),
+            LeafKind::Properties => Ok(Leaf::Properties(PropertiesMachine::start(opened)?)),
+            LeafKind::Commits => Ok(Leaf::Commits(CommitsMachine::start(opened)?)),
+            LeafKind::Patches => Ok(Leaf::Patches(PatchesMachine::start(opened)?)),
             LeafKind::ExternalReferences => Ok(Leaf::ExternalReferences(
-                ExternalReferencesMachine::start(alloc, place, v, element, attributes)?,
+                ExternalReferencesMachine::start(opened)?,
             )),
-            LeafKind::Dependencies => Ok(Leaf::Dependencies(DependenciesMachine::start(
-                alloc, place, v, element, attributes,
-            )?)),
-            LeafKind::Compositions => Ok(Leaf::Compositions(CompositionsMachine::start(
-                alloc, place, v, element, attributes,
-            )?)),
-            LeafKind::Licenses => Ok(Leaf::Licenses(LicensesMachine::start(
-                alloc, place, v, element, attributes,
-            )?)),
-            LeafKind::Signature => Ok(Leaf::Signature(SignatureMachine::start(
-                alloc, place, v, element, attributes,
-            )?)),
-            LeafKind::Tool => Ok(Leaf::Tool(ToolMachine::start(
-                alloc, place, v, element, attributes,
-            )?)),
-            LeafKind::Swid => Ok(Leaf::Swid(SwidMachine::start(
-                alloc, place, v, element, attributes,
-            )?)),
-            LeafKind::Evidence => Ok(Leaf::Evidence(ComponentEvidenceMachine::start(
-                alloc, place, v, element, attributes,
-            )?)),
-            LeafKind::Data => Ok(Leaf::Data(DataMachine::start(
-                alloc, place, v, element, attributes,
-            )?)),
+            LeafKind::Dependencies => Ok(Leaf::Dependencies(DependenciesMachine::start(opened)?)),
+            LeafKind::Compositions => Ok(Leaf::Compositions(CompositionsMachine::start(opened)?)),
+            LeafKind::Licenses => Ok(Leaf::Licenses(LicensesMachine::start(opened)?)),
+            LeafKind::Signature => Ok(Leaf::Signature(SignatureMachine::start(opened)?)),
+            LeafKind::Tool => Ok(Leaf::Tool(ToolMachine::start(opened)?)),
+            LeafKind::Swid => Ok(Leaf::Swid(SwidMachine::start(opened)?)),
+            LeafKind::Evidence => Ok(Leaf::Evidence(ComponentEvidenceMachine::start(opened)?)),
+            LeafKind::Data => Ok(Leaf::Data(DataMachine::start(opened)?)),
         }
     }
 

@@ -13,6 +13,7 @@ ghost use Rattle.cdx_push.specs.LeafSteps.{IsOfKind, IsMore, IsMemory, as_steps}
 use crate::kinds::{LeafKind, LeafStep};
 use crate::leaf::Leaf;
 use cdx_events::{List, OwnedAttribute, OwnedName, XmlEvent};
+use cdx_leaf::Start;
 use cdx_machine::{Leaves, Listener};
 use cdx_models::{SpecVersion, XmlReadError};
 use std::alloc::Global;
@@ -61,7 +62,16 @@ impl LeafMachine {
         ensures opens { (s : Namespace) → OpensAs ⟦<LeafMachine as Listener>⟧.heard v (kind_of kind)
             place top (StartElement element.now attributes.now s ∷ []) result }
     {
-        let machine = Leaf::start(alloc, kind, place, v, element, attributes)?;
+        let machine = Leaf::start(
+            kind,
+            &Start {
+                alloc,
+                place,
+                version: v,
+                element,
+                attributes,
+            },
+        )?;
         Ok(LeafMachine {
             kind,
             place,

@@ -1,8 +1,8 @@
 //! Commits.
 
 use cdx_code::{Commit, Commits, IdentifiableAction};
-use cdx_events::{List, OwnedAttribute, OwnedName, Text, XmlEvent};
-use cdx_leaf::Rule;
+use cdx_events::{OwnedName, Text, XmlEvent};
+use cdx_leaf::{Rule, Start};
 use cdx_machine::{
     Found, ListMachine, ListOf, Machine, Only, Or, PushRecord, RecordMachine, TextMachine,
 };
@@ -31,17 +31,9 @@ impl Machine for IdentifiableActionMachine {
 
     ghost holds = { λ m. ⟦<RecordMachine<IdentifiableActionChildren> as Machine>⟧.holds m.machine };
 
-    fn start(
-        alloc: Global,
-        place: usize,
-        v: SpecVersion,
-        element: &OwnedName,
-        attributes: &List<OwnedAttribute>,
-    ) -> Result<IdentifiableActionMachine, XmlReadError> {
+    fn start(opened: &Start<'_>) -> Result<IdentifiableActionMachine, XmlReadError> {
         Ok(IdentifiableActionMachine {
-            machine: RecordMachine::<IdentifiableActionChildren>::start(
-                alloc, place, v, element, attributes,
-            )?,
+            machine: RecordMachine::<IdentifiableActionChildren>::start(opened)?,
         })
     }
 
@@ -109,15 +101,9 @@ impl Machine for CommitMachine {
 
     ghost holds = { λ m. ⟦<RecordMachine<CommitChildren> as Machine>⟧.holds m.machine };
 
-    fn start(
-        alloc: Global,
-        place: usize,
-        v: SpecVersion,
-        element: &OwnedName,
-        attributes: &List<OwnedAttribute>,
-    ) -> Result<CommitMachine, XmlReadError> {
+    fn start(opened: &Start<'_>) -> Result<CommitMachine, XmlReadError> {
         Ok(CommitMachine {
-            machine: RecordMachine::<CommitChildren>::start(alloc, place, v, element, attributes)?,
+            machine: RecordMachine::<CommitChildren>::start(opened)?,
         })
     }
 
@@ -201,15 +187,9 @@ impl Machine for CommitsMachine {
 
     ghost holds = { λ m. ⟦<ListMachine<CommitList> as Machine>⟧.holds m.machine };
 
-    fn start(
-        alloc: Global,
-        place: usize,
-        v: SpecVersion,
-        element: &OwnedName,
-        attributes: &List<OwnedAttribute>,
-    ) -> Result<CommitsMachine, XmlReadError> {
+    fn start(opened: &Start<'_>) -> Result<CommitsMachine, XmlReadError> {
         Ok(CommitsMachine {
-            machine: ListMachine::<CommitList>::start(alloc, place, v, element, attributes)?,
+            machine: ListMachine::<CommitList>::start(opened)?,
         })
     }
 

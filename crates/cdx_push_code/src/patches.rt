@@ -1,7 +1,7 @@
 //! Patches, and the issues that they resolve.
 
-use cdx_events::{List, OwnedAttribute, OwnedName, Text, XmlEvent};
-use cdx_leaf::Rule;
+use cdx_events::{List, OwnedName, Text, XmlEvent};
+use cdx_leaf::{Rule, Start};
 use cdx_machine::{
     Found, ListMachine, ListOf, Machine, Only, Or, PushRecord, RecordMachine, TextMachine,
 };
@@ -32,15 +32,9 @@ impl Machine for DiffMachine {
 
     ghost holds = { λ m. ⟦<RecordMachine<DiffChildren> as Machine>⟧.holds m.machine };
 
-    fn start(
-        alloc: Global,
-        place: usize,
-        v: SpecVersion,
-        element: &OwnedName,
-        attributes: &List<OwnedAttribute>,
-    ) -> Result<DiffMachine, XmlReadError> {
+    fn start(opened: &Start<'_>) -> Result<DiffMachine, XmlReadError> {
         Ok(DiffMachine {
-            machine: RecordMachine::<DiffChildren>::start(alloc, place, v, element, attributes)?,
+            machine: RecordMachine::<DiffChildren>::start(opened)?,
         })
     }
 
@@ -106,15 +100,9 @@ impl Machine for SourceMachine {
 
     ghost holds = { λ m. ⟦<RecordMachine<SourceChildren> as Machine>⟧.holds m.machine };
 
-    fn start(
-        alloc: Global,
-        place: usize,
-        v: SpecVersion,
-        element: &OwnedName,
-        attributes: &List<OwnedAttribute>,
-    ) -> Result<SourceMachine, XmlReadError> {
+    fn start(opened: &Start<'_>) -> Result<SourceMachine, XmlReadError> {
         Ok(SourceMachine {
-            machine: RecordMachine::<SourceChildren>::start(alloc, place, v, element, attributes)?,
+            machine: RecordMachine::<SourceChildren>::start(opened)?,
         })
     }
 
@@ -176,15 +164,9 @@ impl Machine for IssueMachine {
 
     ghost holds = { λ m. ⟦<RecordMachine<IssueChildren> as Machine>⟧.holds m.machine };
 
-    fn start(
-        alloc: Global,
-        place: usize,
-        v: SpecVersion,
-        element: &OwnedName,
-        attributes: &List<OwnedAttribute>,
-    ) -> Result<IssueMachine, XmlReadError> {
+    fn start(opened: &Start<'_>) -> Result<IssueMachine, XmlReadError> {
         Ok(IssueMachine {
-            machine: RecordMachine::<IssueChildren>::start(alloc, place, v, element, attributes)?,
+            machine: RecordMachine::<IssueChildren>::start(opened)?,
         })
     }
 
@@ -261,15 +243,9 @@ impl Machine for IssuesMachine {
 
     ghost holds = { λ m. ⟦<ListMachine<IssueList> as Machine>⟧.holds m.machine };
 
-    fn start(
-        alloc: Global,
-        place: usize,
-        v: SpecVersion,
-        element: &OwnedName,
-        attributes: &List<OwnedAttribute>,
-    ) -> Result<IssuesMachine, XmlReadError> {
+    fn start(opened: &Start<'_>) -> Result<IssuesMachine, XmlReadError> {
         Ok(IssuesMachine {
-            machine: ListMachine::<IssueList>::start(alloc, place, v, element, attributes)?,
+            machine: ListMachine::<IssueList>::start(opened)?,
         })
     }
 
@@ -326,15 +302,9 @@ impl Machine for PatchMachine {
 
     ghost holds = { λ m. ⟦<RecordMachine<PatchChildren> as Machine>⟧.holds m.machine };
 
-    fn start(
-        alloc: Global,
-        place: usize,
-        v: SpecVersion,
-        element: &OwnedName,
-        attributes: &List<OwnedAttribute>,
-    ) -> Result<PatchMachine, XmlReadError> {
+    fn start(opened: &Start<'_>) -> Result<PatchMachine, XmlReadError> {
         Ok(PatchMachine {
-            machine: RecordMachine::<PatchChildren>::start(alloc, place, v, element, attributes)?,
+            machine: RecordMachine::<PatchChildren>::start(opened)?,
         })
     }
 
@@ -404,15 +374,9 @@ impl Machine for PatchesMachine {
 
     ghost holds = { λ m. ⟦<ListMachine<PatchList> as Machine>⟧.holds m.machine };
 
-    fn start(
-        alloc: Global,
-        place: usize,
-        v: SpecVersion,
-        element: &OwnedName,
-        attributes: &List<OwnedAttribute>,
-    ) -> Result<PatchesMachine, XmlReadError> {
+    fn start(opened: &Start<'_>) -> Result<PatchesMachine, XmlReadError> {
         Ok(PatchesMachine {
-            machine: ListMachine::<PatchList>::start(alloc, place, v, element, attributes)?,
+            machine: ListMachine::<PatchList>::start(opened)?,
         })
     }
 

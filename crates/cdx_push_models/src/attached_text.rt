@@ -1,10 +1,9 @@
 //! Attached texts.
 
-use cdx_events::{List, OwnedAttribute, OwnedName, Text, XmlEvent};
-use cdx_leaf::begin_attached_text;
+use cdx_events::{Text, XmlEvent};
+use cdx_leaf::{Start, begin_attached_text};
 use cdx_machine::{ExactRecord, ExactRecordMachine, Machine};
-use cdx_models::{AttachedText, SpecVersion, XmlReadError};
-use std::alloc::Global;
+use cdx_models::{AttachedText, XmlReadError};
 
 /// An attached text, whose text has to be there.
 pub struct ExactAttachedText;
@@ -33,17 +32,9 @@ impl Machine for AttachedTextMachine {
 
     ghost holds = { λ m. ⟦<ExactRecordMachine<ExactAttachedText> as Machine>⟧.holds m.machine };
 
-    fn start(
-        alloc: Global,
-        place: usize,
-        v: SpecVersion,
-        element: &OwnedName,
-        attributes: &List<OwnedAttribute>,
-    ) -> Result<AttachedTextMachine, XmlReadError> {
+    fn start(opened: &Start<'_>) -> Result<AttachedTextMachine, XmlReadError> {
         Ok(AttachedTextMachine {
-            machine: ExactRecordMachine::<ExactAttachedText>::start(
-                alloc, place, v, element, attributes,
-            )?,
+            machine: ExactRecordMachine::<ExactAttachedText>::start(opened)?,
         })
     }
 
@@ -80,14 +71,8 @@ impl ExactRecord for ExactAttachedText {
 
     ghost whole = { attached_whole };
 
-    fn begin(
-        alloc: Global,
-        place: usize,
-        v: SpecVersion,
-        element: &OwnedName,
-        attributes: &List<OwnedAttribute>,
-    ) -> Result<(Option<Text>, Option<Text>), XmlReadError> {
-        begin_attached_text(alloc, place, v, element, attributes)
+    fn begin(opened: &Start<'_>) -> Result<(Option<Text>, Option<Text>), XmlReadError> {
+        begin_attached_text(opened)
     }
 
     fn with_text(begun: (Option<Text>, Option<Text>), content: Text) -> AttachedText {

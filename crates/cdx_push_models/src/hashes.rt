@@ -1,10 +1,9 @@
 //! Hashes and properties.
 
-use cdx_events::{List, OwnedAttribute, OwnedName, XmlEvent};
-use cdx_leaf::Rule;
+use cdx_events::XmlEvent;
+use cdx_leaf::{Rule, Start};
 use cdx_machine::{ListMachine, ListOf, Machine, TextRecordMachine};
-use cdx_models::{Hash, Hashes, Properties, Property, SpecVersion, XmlReadError};
-use std::alloc::Global;
+use cdx_models::{Hash, Hashes, Properties, Property, XmlReadError};
 
 /// Hashes as a list.
 pub struct HashList;
@@ -32,15 +31,9 @@ impl Machine for HashesMachine {
 
     ghost holds = { λ m. ⟦<ListMachine<HashList> as Machine>⟧.holds m.machine };
 
-    fn start(
-        alloc: Global,
-        place: usize,
-        v: SpecVersion,
-        element: &OwnedName,
-        attributes: &List<OwnedAttribute>,
-    ) -> Result<HashesMachine, XmlReadError> {
+    fn start(opened: &Start<'_>) -> Result<HashesMachine, XmlReadError> {
         Ok(HashesMachine {
-            machine: ListMachine::<HashList>::start(alloc, place, v, element, attributes)?,
+            machine: ListMachine::<HashList>::start(opened)?,
         })
     }
 
@@ -102,15 +95,9 @@ impl Machine for PropertiesMachine {
 
     ghost holds = { λ m. ⟦<ListMachine<PropertyList> as Machine>⟧.holds m.machine };
 
-    fn start(
-        alloc: Global,
-        place: usize,
-        v: SpecVersion,
-        element: &OwnedName,
-        attributes: &List<OwnedAttribute>,
-    ) -> Result<PropertiesMachine, XmlReadError> {
+    fn start(opened: &Start<'_>) -> Result<PropertiesMachine, XmlReadError> {
         Ok(PropertiesMachine {
-            machine: ListMachine::<PropertyList>::start(alloc, place, v, element, attributes)?,
+            machine: ListMachine::<PropertyList>::start(opened)?,
         })
     }
 

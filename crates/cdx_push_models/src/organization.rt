@@ -1,7 +1,7 @@
 //! Organizations and their contacts.
 
-use cdx_events::{List, OwnedAttribute, OwnedName, Text, XmlEvent};
-use cdx_leaf::{Rule, push_into};
+use cdx_events::{List, OwnedName, Text, XmlEvent};
+use cdx_leaf::{Rule, Start, push_into};
 use cdx_machine::{
     Found, ListMachine, ListOf, Machine, Only, Or, PushRecord, RecordMachine, TextMachine,
 };
@@ -30,15 +30,9 @@ impl Machine for ContactMachine {
 
     ghost holds = { λ m. ⟦<RecordMachine<ContactChildren> as Machine>⟧.holds m.machine };
 
-    fn start(
-        alloc: Global,
-        place: usize,
-        v: SpecVersion,
-        element: &OwnedName,
-        attributes: &List<OwnedAttribute>,
-    ) -> Result<ContactMachine, XmlReadError> {
+    fn start(opened: &Start<'_>) -> Result<ContactMachine, XmlReadError> {
         Ok(ContactMachine {
-            machine: RecordMachine::<ContactChildren>::start(alloc, place, v, element, attributes)?,
+            machine: RecordMachine::<ContactChildren>::start(opened)?,
         })
     }
 
@@ -111,15 +105,9 @@ impl Machine for EntityMachine {
 
     ghost holds = { λ m. ⟦<RecordMachine<EntityChildren> as Machine>⟧.holds m.machine };
 
-    fn start(
-        alloc: Global,
-        place: usize,
-        v: SpecVersion,
-        element: &OwnedName,
-        attributes: &List<OwnedAttribute>,
-    ) -> Result<EntityMachine, XmlReadError> {
+    fn start(opened: &Start<'_>) -> Result<EntityMachine, XmlReadError> {
         Ok(EntityMachine {
-            machine: RecordMachine::<EntityChildren>::start(alloc, place, v, element, attributes)?,
+            machine: RecordMachine::<EntityChildren>::start(opened)?,
         })
     }
 
@@ -193,15 +181,9 @@ impl Machine for AuthorsMachine {
 
     ghost holds = { λ m. ⟦<ListMachine<AuthorList> as Machine>⟧.holds m.machine };
 
-    fn start(
-        alloc: Global,
-        place: usize,
-        v: SpecVersion,
-        element: &OwnedName,
-        attributes: &List<OwnedAttribute>,
-    ) -> Result<AuthorsMachine, XmlReadError> {
+    fn start(opened: &Start<'_>) -> Result<AuthorsMachine, XmlReadError> {
         Ok(AuthorsMachine {
-            machine: ListMachine::<AuthorList>::start(alloc, place, v, element, attributes)?,
+            machine: ListMachine::<AuthorList>::start(opened)?,
         })
     }
 

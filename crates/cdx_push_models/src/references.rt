@@ -1,8 +1,8 @@
 //! References to what stands outside the bill, and tools.
 
 use crate::hashes::HashesMachine;
-use cdx_events::{List, OwnedAttribute, OwnedName, Text, XmlEvent};
-use cdx_leaf::{Rule, XmlRecord};
+use cdx_events::{OwnedName, Text, XmlEvent};
+use cdx_leaf::{Rule, Start, XmlRecord};
 use cdx_machine::{
     Found, ListMachine, ListOf, Machine, Only, Or, PushRecord, RecordMachine, TextMachine,
 };
@@ -31,17 +31,9 @@ impl Machine for ReferenceMachine {
 
     ghost holds = { λ m. ⟦<RecordMachine<ReferenceChildren> as Machine>⟧.holds m.machine };
 
-    fn start(
-        alloc: Global,
-        place: usize,
-        v: SpecVersion,
-        element: &OwnedName,
-        attributes: &List<OwnedAttribute>,
-    ) -> Result<ReferenceMachine, XmlReadError> {
+    fn start(opened: &Start<'_>) -> Result<ReferenceMachine, XmlReadError> {
         Ok(ReferenceMachine {
-            machine: RecordMachine::<ReferenceChildren>::start(
-                alloc, place, v, element, attributes,
-            )?,
+            machine: RecordMachine::<ReferenceChildren>::start(opened)?,
         })
     }
 
@@ -117,15 +109,9 @@ impl Machine for ExternalReferencesMachine {
 
     ghost holds = { λ m. ⟦<ListMachine<ReferenceList> as Machine>⟧.holds m.machine };
 
-    fn start(
-        alloc: Global,
-        place: usize,
-        v: SpecVersion,
-        element: &OwnedName,
-        attributes: &List<OwnedAttribute>,
-    ) -> Result<ExternalReferencesMachine, XmlReadError> {
+    fn start(opened: &Start<'_>) -> Result<ExternalReferencesMachine, XmlReadError> {
         Ok(ExternalReferencesMachine {
-            machine: ListMachine::<ReferenceList>::start(alloc, place, v, element, attributes)?,
+            machine: ListMachine::<ReferenceList>::start(opened)?,
         })
     }
 
@@ -188,15 +174,9 @@ impl Machine for ToolMachine {
 
     ghost holds = { λ m. ⟦<RecordMachine<ToolChildren> as Machine>⟧.holds m.machine };
 
-    fn start(
-        alloc: Global,
-        place: usize,
-        v: SpecVersion,
-        element: &OwnedName,
-        attributes: &List<OwnedAttribute>,
-    ) -> Result<ToolMachine, XmlReadError> {
+    fn start(opened: &Start<'_>) -> Result<ToolMachine, XmlReadError> {
         Ok(ToolMachine {
-            machine: RecordMachine::<ToolChildren>::start(alloc, place, v, element, attributes)?,
+            machine: RecordMachine::<ToolChildren>::start(opened)?,
         })
     }
 

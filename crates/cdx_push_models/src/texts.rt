@@ -1,10 +1,9 @@
 //! Lists of texts.
 
-use cdx_events::{List, OwnedAttribute, OwnedName, Text, XmlEvent};
-use cdx_leaf::Rule;
+use cdx_events::{List, Text, XmlEvent};
+use cdx_leaf::{Rule, Start};
 use cdx_machine::{ListMachine, ListOf, Machine, TextMachine};
-use cdx_models::{SpecVersion, XmlReadError};
-use std::alloc::Global;
+use cdx_models::XmlReadError;
 
 /// The addresses of an issue as a list.
 pub struct LinkList;
@@ -32,15 +31,9 @@ impl Machine for LinksMachine {
 
     ghost holds = { λ m. ⟦<ListMachine<LinkList> as Machine>⟧.holds m.machine };
 
-    fn start(
-        alloc: Global,
-        place: usize,
-        v: SpecVersion,
-        element: &OwnedName,
-        attributes: &List<OwnedAttribute>,
-    ) -> Result<LinksMachine, XmlReadError> {
+    fn start(opened: &Start<'_>) -> Result<LinksMachine, XmlReadError> {
         Ok(LinksMachine {
-            machine: ListMachine::<LinkList>::start(alloc, place, v, element, attributes)?,
+            machine: ListMachine::<LinkList>::start(opened)?,
         })
     }
 
@@ -102,15 +95,9 @@ impl Machine for EndpointsMachine {
 
     ghost holds = { λ m. ⟦<ListMachine<EndpointList> as Machine>⟧.holds m.machine };
 
-    fn start(
-        alloc: Global,
-        place: usize,
-        v: SpecVersion,
-        element: &OwnedName,
-        attributes: &List<OwnedAttribute>,
-    ) -> Result<EndpointsMachine, XmlReadError> {
+    fn start(opened: &Start<'_>) -> Result<EndpointsMachine, XmlReadError> {
         Ok(EndpointsMachine {
-            machine: ListMachine::<EndpointList>::start(alloc, place, v, element, attributes)?,
+            machine: ListMachine::<EndpointList>::start(opened)?,
         })
     }
 

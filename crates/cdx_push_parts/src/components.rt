@@ -2,8 +2,8 @@
 
 use crate::licenses::LicensesMachine;
 use cdx_component_parts::{ComponentEvidence, Copyright, CopyrightTexts, Swid};
-use cdx_events::{List, OwnedAttribute, OwnedName, Text, XmlEvent};
-use cdx_leaf::Rule;
+use cdx_events::{OwnedName, Text, XmlEvent};
+use cdx_leaf::{Rule, Start};
 use cdx_license::Licenses;
 use cdx_machine::{
     Found, ListMachine, ListOf, Machine, Only, Or, PushRecord, RecordMachine, TextMachine,
@@ -40,15 +40,9 @@ impl Machine for SwidMachine {
 
     ghost holds = { λ m. ⟦<RecordMachine<SwidChildren> as Machine>⟧.holds m.machine };
 
-    fn start(
-        alloc: Global,
-        place: usize,
-        v: SpecVersion,
-        element: &OwnedName,
-        attributes: &List<OwnedAttribute>,
-    ) -> Result<SwidMachine, XmlReadError> {
+    fn start(opened: &Start<'_>) -> Result<SwidMachine, XmlReadError> {
         Ok(SwidMachine {
-            machine: RecordMachine::<SwidChildren>::start(alloc, place, v, element, attributes)?,
+            machine: RecordMachine::<SwidChildren>::start(opened)?,
         })
     }
 
@@ -114,15 +108,9 @@ impl Machine for CopyrightTextsMachine {
 
     ghost holds = { λ m. ⟦<ListMachine<CopyrightList> as Machine>⟧.holds m.machine };
 
-    fn start(
-        alloc: Global,
-        place: usize,
-        v: SpecVersion,
-        element: &OwnedName,
-        attributes: &List<OwnedAttribute>,
-    ) -> Result<CopyrightTextsMachine, XmlReadError> {
+    fn start(opened: &Start<'_>) -> Result<CopyrightTextsMachine, XmlReadError> {
         Ok(CopyrightTextsMachine {
-            machine: ListMachine::<CopyrightList>::start(alloc, place, v, element, attributes)?,
+            machine: ListMachine::<CopyrightList>::start(opened)?,
         })
     }
 
@@ -184,17 +172,9 @@ impl Machine for ComponentEvidenceMachine {
 
     ghost holds = { λ m. ⟦<RecordMachine<ComponentEvidenceChildren> as Machine>⟧.holds m.machine };
 
-    fn start(
-        alloc: Global,
-        place: usize,
-        v: SpecVersion,
-        element: &OwnedName,
-        attributes: &List<OwnedAttribute>,
-    ) -> Result<ComponentEvidenceMachine, XmlReadError> {
+    fn start(opened: &Start<'_>) -> Result<ComponentEvidenceMachine, XmlReadError> {
         Ok(ComponentEvidenceMachine {
-            machine: RecordMachine::<ComponentEvidenceChildren>::start(
-                alloc, place, v, element, attributes,
-            )?,
+            machine: RecordMachine::<ComponentEvidenceChildren>::start(opened)?,
         })
     }
 

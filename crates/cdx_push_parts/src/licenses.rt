@@ -1,7 +1,7 @@
 //! Licenses.
 
-use cdx_events::{List, OwnedAttribute, OwnedName, Text, XmlEvent};
-use cdx_leaf::Rule;
+use cdx_events::{List, OwnedName, Text, XmlEvent};
+use cdx_leaf::{End, Rule, Start};
 use cdx_license::{Expression, License, LicenseChoice, LicenseIdentifier, LicensePart, Licenses};
 use cdx_machine::{
     ByName, ExactRecord, ExactRecordMachine, Found, Frame, FrameMachine, Machine, NamedMachine,
@@ -36,13 +36,7 @@ impl ExactRecord for ExactId {
 
     ghost whole = { id_whole };
 
-    fn begin(
-        _alloc: Global,
-        _place: usize,
-        _v: SpecVersion,
-        _element: &OwnedName,
-        _attributes: &List<OwnedAttribute>,
-    ) -> Result<(), XmlReadError> {
+    fn begin(_opened: &Start<'_>) -> Result<(), XmlReadError> {
         Ok(())
     }
 
@@ -76,13 +70,7 @@ impl ExactRecord for ExactName {
 
     ghost whole = { name_whole };
 
-    fn begin(
-        _alloc: Global,
-        _place: usize,
-        _v: SpecVersion,
-        _element: &OwnedName,
-        _attributes: &List<OwnedAttribute>,
-    ) -> Result<(), XmlReadError> {
+    fn begin(_opened: &Start<'_>) -> Result<(), XmlReadError> {
         Ok(())
     }
 
@@ -112,15 +100,9 @@ impl Machine for LicenseIdentifierMachine {
 
     ghost holds = { λ m. ⟦<NamedMachine<IdOrName> as Machine>⟧.holds m.machine };
 
-    fn start(
-        alloc: Global,
-        place: usize,
-        v: SpecVersion,
-        element: &OwnedName,
-        attributes: &List<OwnedAttribute>,
-    ) -> Result<LicenseIdentifierMachine, XmlReadError> {
+    fn start(opened: &Start<'_>) -> Result<LicenseIdentifierMachine, XmlReadError> {
         Ok(LicenseIdentifierMachine {
-            machine: NamedMachine::<IdOrName>::start(alloc, place, v, element, attributes)?,
+            machine: NamedMachine::<IdOrName>::start(opened)?,
         })
     }
 
@@ -204,15 +186,9 @@ impl Machine for LicenseMachine {
 
     ghost holds = { λ m. ⟦<RecordMachine<LicenseChildren> as Machine>⟧.holds m.machine };
 
-    fn start(
-        alloc: Global,
-        place: usize,
-        v: SpecVersion,
-        element: &OwnedName,
-        attributes: &List<OwnedAttribute>,
-    ) -> Result<LicenseMachine, XmlReadError> {
+    fn start(opened: &Start<'_>) -> Result<LicenseMachine, XmlReadError> {
         Ok(LicenseMachine {
-            machine: RecordMachine::<LicenseChildren>::start(alloc, place, v, element, attributes)?,
+            machine: RecordMachine::<LicenseChildren>::start(opened)?,
         })
     }
 
@@ -306,17 +282,9 @@ impl Machine for LicenseChoiceMachine {
 
     ghost holds = { λ m. ⟦<NamedMachine<LicenseOrExpression> as Machine>⟧.holds m.machine };
 
-    fn start(
-        alloc: Global,
-        place: usize,
-        v: SpecVersion,
-        element: &OwnedName,
-        attributes: &List<OwnedAttribute>,
-    ) -> Result<LicenseChoiceMachine, XmlReadError> {
+    fn start(opened: &Start<'_>) -> Result<LicenseChoiceMachine, XmlReadError> {
         Ok(LicenseChoiceMachine {
-            machine: NamedMachine::<LicenseOrExpression>::start(
-                alloc, place, v, element, attributes,
-            )?,
+            machine: NamedMachine::<LicenseOrExpression>::start(opened)?,
         })
     }
 
@@ -407,15 +375,9 @@ impl Machine for LicensesMachine {
 
     ghost holds = { λ m. ⟦<FrameMachine<BegunLicenses> as Machine>⟧.holds m.machine };
 
-    fn start(
-        alloc: Global,
-        place: usize,
-        v: SpecVersion,
-        element: &OwnedName,
-        attributes: &List<OwnedAttribute>,
-    ) -> Result<LicensesMachine, XmlReadError> {
+    fn start(opened: &Start<'_>) -> Result<LicensesMachine, XmlReadError> {
         Ok(LicensesMachine {
-            machine: FrameMachine::<BegunLicenses>::start(alloc, place, v, element, attributes)?,
+            machine: FrameMachine::<BegunLicenses>::start(opened)?,
         })
     }
 
@@ -461,15 +423,9 @@ impl Frame for BegunLicenses {
         Rule::Strict
     }
 
-    fn begin(
-        alloc: Global,
-        _place: usize,
-        _v: SpecVersion,
-        _element: &OwnedName,
-        _attributes: &List<OwnedAttribute>,
-    ) -> Result<BegunLicenses, XmlReadError> {
+    fn begin(opened: &Start<'_>) -> Result<BegunLicenses, XmlReadError> {
         Ok(BegunLicenses {
-            items: List::new(alloc),
+            items: List::new(opened.alloc),
         })
     }
 
@@ -492,13 +448,7 @@ impl Frame for BegunLicenses {
         }
     }
 
-    fn finish(
-        self,
-        _alloc: Global,
-        _place: usize,
-        _v: SpecVersion,
-        _element: &OwnedName,
-    ) -> Result<Licenses, XmlReadError> {
+    fn finish(self, _closed: &End<'_>) -> Result<Licenses, XmlReadError> {
         Ok(Licenses(self.items))
     }
 }

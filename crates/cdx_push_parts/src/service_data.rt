@@ -1,7 +1,7 @@
 //! The data of services.
 
-use cdx_events::{List, OwnedAttribute, OwnedName, XmlEvent};
-use cdx_leaf::{Children, Rule, XmlRecord};
+use cdx_events::{List, OwnedName, XmlEvent};
+use cdx_leaf::{Children, End, Rule, Start, XmlRecord};
 use cdx_machine::{
     Found, Frame, FrameMachine, Machine, Only, Or, PushRecord, RecordMachine, TextRecordMachine,
 };
@@ -69,15 +69,9 @@ impl Machine for EntryMachine {
 
     ghost holds = { λ m. ⟦<FrameMachine<BegunEntry> as Machine>⟧.holds m.machine };
 
-    fn start(
-        alloc: Global,
-        place: usize,
-        v: SpecVersion,
-        element: &OwnedName,
-        attributes: &List<OwnedAttribute>,
-    ) -> Result<EntryMachine, XmlReadError> {
+    fn start(opened: &Start<'_>) -> Result<EntryMachine, XmlReadError> {
         Ok(EntryMachine {
-            machine: FrameMachine::<BegunEntry>::start(alloc, place, v, element, attributes)?,
+            machine: FrameMachine::<BegunEntry>::start(opened)?,
         })
     }
 
@@ -124,15 +118,9 @@ impl Frame for BegunEntry {
         self.part.rule()
     }
 
-    fn begin(
-        alloc: Global,
-        place: usize,
-        v: SpecVersion,
-        element: &OwnedName,
-        attributes: &List<OwnedAttribute>,
-    ) -> Result<BegunEntry, XmlReadError> {
+    fn begin(opened: &Start<'_>) -> Result<BegunEntry, XmlReadError> {
         Ok(BegunEntry {
-            part: ServiceData::begin(alloc, place, v, element, attributes)?,
+            part: ServiceData::begin(opened)?,
         })
     }
 
@@ -144,14 +132,8 @@ impl Frame for BegunEntry {
         ServiceDataChildren::put(&mut self.part, alloc, value)
     }
 
-    fn finish(
-        self,
-        alloc: Global,
-        place: usize,
-        v: SpecVersion,
-        element: &OwnedName,
-    ) -> Result<ServiceData, XmlReadError> {
-        ServiceData::finish(alloc, place, v, element, self.part)
+    fn finish(self, closed: &End<'_>) -> Result<ServiceData, XmlReadError> {
+        ServiceData::finish(closed, self.part)
     }
 }
 
@@ -184,15 +166,9 @@ impl Machine for DataMachine {
 
     ghost holds = { λ m. ⟦<FrameMachine<BegunData> as Machine>⟧.holds m.machine };
 
-    fn start(
-        alloc: Global,
-        place: usize,
-        v: SpecVersion,
-        element: &OwnedName,
-        attributes: &List<OwnedAttribute>,
-    ) -> Result<DataMachine, XmlReadError> {
+    fn start(opened: &Start<'_>) -> Result<DataMachine, XmlReadError> {
         Ok(DataMachine {
-            machine: FrameMachine::<BegunData>::start(alloc, place, v, element, attributes)?,
+            machine: FrameMachine::<BegunData>::start(opened)?,
         })
     }
 
@@ -239,17 +215,11 @@ impl Frame for BegunData {
         Rule::Passing
     }
 
-    fn begin(
-        alloc: Global,
-        _place: usize,
-        _v: SpecVersion,
-        _element: &OwnedName,
-        _attributes: &List<OwnedAttribute>,
-    ) -> Result<BegunData, XmlReadError> {
+    fn begin(opened: &Start<'_>) -> Result<BegunData, XmlReadError> {
         Ok(BegunData {
             part: DataPart {
-                classifications: List::new(alloc),
-                flows: List::new(alloc),
+                classifications: List::new(opened.alloc),
+                flows: List::new(opened.alloc),
             },
         })
     }
@@ -278,13 +248,7 @@ impl Frame for BegunData {
         }
     }
 
-    fn finish(
-        self,
-        _alloc: Global,
-        _place: usize,
-        _v: SpecVersion,
-        _element: &OwnedName,
-    ) -> Result<Data, XmlReadError> {
+    fn finish(self, _closed: &End<'_>) -> Result<Data, XmlReadError> {
         let DataPart {
             classifications,
             flows,

@@ -1,8 +1,8 @@
 //! What reads the root of a document.
 
-use cdx_events::{List, OwnedAttribute, OwnedName, XmlEvent};
-use cdx_models::{SpecVersion, XmlReadError};
-use std::alloc::Global;
+use cdx_events::XmlEvent;
+use cdx_leaf::Start;
+use cdx_models::XmlReadError;
 
 /// What reads a bill's root event by event, whatever its name and its default namespace are.
 pub trait RootMachine: Drop {
@@ -26,17 +26,11 @@ pub trait RootMachine: Drop {
     /// What the machine keeps of the events so far: in a version, with the root's start at a place, at a depth.
     ghost holds: { Self → SpecVersion → ℕ → Depth → Begun → Type 0 };
 
-    /// Takes the root's start, at `place`. A refusal is the fault of the start alone.
-    fn start(
-        alloc: Global,
-        place: usize,
-        v: SpecVersion,
-        element: &OwnedName,
-        attributes: &List<OwnedAttribute>,
-    ) -> Result<Self, XmlReadError>
-        ensures { (z : Namespace) → Opens (λ m o. holds m v place top o)
-            (λ x. xread x v (a_record bill) place top) place
-            (innermost element.now attributes.now z no_nodes) result };
+    /// Takes the root's start. A refusal is the fault of the start alone.
+    fn start(opened: &Start<'_>) -> Result<Self, XmlReadError>
+        ensures { (z : Namespace) → Opens (λ m o. holds m opened.now.version opened.now.place top o)
+            (λ x. xread x opened.now.version (a_record bill) opened.now.place top) opened.now.place
+            (innermost opened.now.element.now opened.now.attributes.now z no_nodes) result };
 
     /// Takes the next event, at `place`, and says whether it is the root's end, of which the machine keeps nothing. A refusal
     /// comes with the first event through which the root has a fault; that is the fault, and it stands at this event.

@@ -9,7 +9,7 @@ ghost use Rattle.cdx_push_reader.specs.declared.hearing.Stage.TheVariants.{Befor
 use crate::hearing::Stage;
 use crate::machine::RootMachine;
 use cdx_events::{EventKind, OwnedName, Text, XmlEvent};
-use cdx_leaf::expected_namespace_or_error;
+use cdx_leaf::{Start, expected_namespace_or_error};
 use cdx_models::{SpecVersion, XmlReadError};
 use std::alloc::Global;
 
@@ -45,7 +45,13 @@ pub(crate) fn begin<M: RootMachine>(
         } => {
             check_name(alloc, name)?;
             expected_namespace_or_error(alloc, v, namespace)?;
-            let machine = M::start(alloc, place, v, name, attributes)?;
+            let machine = M::start(&Start {
+                alloc,
+                place,
+                version: v,
+                element: name,
+                attributes,
+            })?;
             Ok(Stage::Within { machine })
         }
         _ => Ok(Stage::Before),

@@ -1,7 +1,7 @@
 //! References to other parts of the bill.
 
-use cdx_events::{List, OwnedAttribute, OwnedName, Text, XmlEvent};
-use cdx_leaf::{Rule, attribute_or_error};
+use cdx_events::{OwnedName, Text, XmlEvent};
+use cdx_leaf::{End, Rule, Start, attribute_or_error};
 use cdx_machine::{Found, Frame, FrameMachine, Machine, NoMachine};
 use cdx_models::{SpecVersion, XmlReadError};
 use cdx_relations::BomReference;
@@ -31,15 +31,9 @@ impl Machine for BomReferenceMachine {
 
     ghost holds = { λ m. ⟦<FrameMachine<BegunReference> as Machine>⟧.holds m.machine };
 
-    fn start(
-        alloc: Global,
-        place: usize,
-        v: SpecVersion,
-        element: &OwnedName,
-        attributes: &List<OwnedAttribute>,
-    ) -> Result<BomReferenceMachine, XmlReadError> {
+    fn start(opened: &Start<'_>) -> Result<BomReferenceMachine, XmlReadError> {
         Ok(BomReferenceMachine {
-            machine: FrameMachine::<BegunReference>::start(alloc, place, v, element, attributes)?,
+            machine: FrameMachine::<BegunReference>::start(opened)?,
         })
     }
 
@@ -84,15 +78,15 @@ impl Frame for BegunReference {
         Rule::Strict
     }
 
-    fn begin(
-        alloc: Global,
-        place: usize,
-        _v: SpecVersion,
-        element: &OwnedName,
-        attributes: &List<OwnedAttribute>,
-    ) -> Result<BegunReference, XmlReadError> {
+    fn begin(opened: &Start<'_>) -> Result<BegunReference, XmlReadError> {
         Ok(BegunReference {
-            reference: attribute_or_error(alloc, place, element, attributes, "ref")?,
+            reference: attribute_or_error(
+                opened.alloc,
+                opened.place,
+                opened.element,
+                opened.attributes,
+                "ref",
+            )?,
         })
     }
 
@@ -104,13 +98,7 @@ impl Frame for BegunReference {
         Ok(())
     }
 
-    fn finish(
-        self,
-        _alloc: Global,
-        _place: usize,
-        _v: SpecVersion,
-        _element: &OwnedName,
-    ) -> Result<BomReference, XmlReadError> {
+    fn finish(self, _closed: &End<'_>) -> Result<BomReference, XmlReadError> {
         Ok(BomReference(self.reference))
     }
 }

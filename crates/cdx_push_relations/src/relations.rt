@@ -2,8 +2,8 @@
 
 use crate::bom_reference::BomReferenceMachine;
 use crate::signature::SignatureMachine;
-use cdx_events::{List, OwnedAttribute, OwnedName, Text, XmlEvent};
-use cdx_leaf::{Rule, XmlRecord};
+use cdx_events::{List, OwnedName, Text, XmlEvent};
+use cdx_leaf::{Rule, Start, XmlRecord};
 use cdx_machine::{
     Found, ListMachine, ListOf, Machine, NoMachine, Only, Or, PushRecord, RecordMachine,
     TextMachine,
@@ -35,17 +35,9 @@ impl Machine for DependencyMachine {
 
     ghost holds = { λ m. ⟦<RecordMachine<DependencyChildren> as Machine>⟧.holds m.machine };
 
-    fn start(
-        alloc: Global,
-        place: usize,
-        v: SpecVersion,
-        element: &OwnedName,
-        attributes: &List<OwnedAttribute>,
-    ) -> Result<DependencyMachine, XmlReadError> {
+    fn start(opened: &Start<'_>) -> Result<DependencyMachine, XmlReadError> {
         Ok(DependencyMachine {
-            machine: RecordMachine::<DependencyChildren>::start(
-                alloc, place, v, element, attributes,
-            )?,
+            machine: RecordMachine::<DependencyChildren>::start(opened)?,
         })
     }
 
@@ -113,15 +105,9 @@ impl Machine for DependenciesMachine {
 
     ghost holds = { λ m. ⟦<ListMachine<DependencyList> as Machine>⟧.holds m.machine };
 
-    fn start(
-        alloc: Global,
-        place: usize,
-        v: SpecVersion,
-        element: &OwnedName,
-        attributes: &List<OwnedAttribute>,
-    ) -> Result<DependenciesMachine, XmlReadError> {
+    fn start(opened: &Start<'_>) -> Result<DependenciesMachine, XmlReadError> {
         Ok(DependenciesMachine {
-            machine: ListMachine::<DependencyList>::start(alloc, place, v, element, attributes)?,
+            machine: ListMachine::<DependencyList>::start(opened)?,
         })
     }
 
@@ -179,15 +165,9 @@ impl Machine for AssembliesMachine {
 
     ghost holds = { λ m. ⟦<ListMachine<AssemblyList> as Machine>⟧.holds m.machine };
 
-    fn start(
-        alloc: Global,
-        place: usize,
-        v: SpecVersion,
-        element: &OwnedName,
-        attributes: &List<OwnedAttribute>,
-    ) -> Result<AssembliesMachine, XmlReadError> {
+    fn start(opened: &Start<'_>) -> Result<AssembliesMachine, XmlReadError> {
         Ok(AssembliesMachine {
-            machine: ListMachine::<AssemblyList>::start(alloc, place, v, element, attributes)?,
+            machine: ListMachine::<AssemblyList>::start(opened)?,
         })
     }
 
@@ -244,15 +224,9 @@ impl Machine for ComposedMachine {
 
     ghost holds = { λ m. ⟦<ListMachine<ComposedList> as Machine>⟧.holds m.machine };
 
-    fn start(
-        alloc: Global,
-        place: usize,
-        v: SpecVersion,
-        element: &OwnedName,
-        attributes: &List<OwnedAttribute>,
-    ) -> Result<ComposedMachine, XmlReadError> {
+    fn start(opened: &Start<'_>) -> Result<ComposedMachine, XmlReadError> {
         Ok(ComposedMachine {
-            machine: ListMachine::<ComposedList>::start(alloc, place, v, element, attributes)?,
+            machine: ListMachine::<ComposedList>::start(opened)?,
         })
     }
 
@@ -309,15 +283,9 @@ impl Machine for VulnerabilitiesMachine {
 
     ghost holds = { λ m. ⟦<ListMachine<VulnerabilityList> as Machine>⟧.holds m.machine };
 
-    fn start(
-        alloc: Global,
-        place: usize,
-        v: SpecVersion,
-        element: &OwnedName,
-        attributes: &List<OwnedAttribute>,
-    ) -> Result<VulnerabilitiesMachine, XmlReadError> {
+    fn start(opened: &Start<'_>) -> Result<VulnerabilitiesMachine, XmlReadError> {
         Ok(VulnerabilitiesMachine {
-            machine: ListMachine::<VulnerabilityList>::start(alloc, place, v, element, attributes)?,
+            machine: ListMachine::<VulnerabilityList>::start(opened)?,
         })
     }
 
@@ -374,17 +342,9 @@ impl Machine for CompositionMachine {
 
     ghost holds = { λ m. ⟦<RecordMachine<CompositionChildren> as Machine>⟧.holds m.machine };
 
-    fn start(
-        alloc: Global,
-        place: usize,
-        v: SpecVersion,
-        element: &OwnedName,
-        attributes: &List<OwnedAttribute>,
-    ) -> Result<CompositionMachine, XmlReadError> {
+    fn start(opened: &Start<'_>) -> Result<CompositionMachine, XmlReadError> {
         Ok(CompositionMachine {
-            machine: RecordMachine::<CompositionChildren>::start(
-                alloc, place, v, element, attributes,
-            )?,
+            machine: RecordMachine::<CompositionChildren>::start(opened)?,
         })
     }
 
@@ -482,15 +442,9 @@ impl Machine for CompositionsMachine {
 
     ghost holds = { λ m. ⟦<ListMachine<CompositionList> as Machine>⟧.holds m.machine };
 
-    fn start(
-        alloc: Global,
-        place: usize,
-        v: SpecVersion,
-        element: &OwnedName,
-        attributes: &List<OwnedAttribute>,
-    ) -> Result<CompositionsMachine, XmlReadError> {
+    fn start(opened: &Start<'_>) -> Result<CompositionsMachine, XmlReadError> {
         Ok(CompositionsMachine {
-            machine: ListMachine::<CompositionList>::start(alloc, place, v, element, attributes)?,
+            machine: ListMachine::<CompositionList>::start(opened)?,
         })
     }
 

@@ -1,7 +1,7 @@
 //! Signatures.
 
-use cdx_events::{List, OwnedAttribute, OwnedName, Text, XmlEvent};
-use cdx_leaf::{Rule, XmlRecord};
+use cdx_events::{List, OwnedName, Text, XmlEvent};
+use cdx_leaf::{End, Rule, Start, XmlRecord};
 use cdx_machine::{
     Found, Frame, FrameMachine, Machine, NoMachine, Only, Or, PushRecord, RecordMachine,
     TextMachine,
@@ -32,15 +32,9 @@ impl Machine for SignerMachine {
 
     ghost holds = { λ m. ⟦<RecordMachine<SignerChildren> as Machine>⟧.holds m.machine };
 
-    fn start(
-        alloc: Global,
-        place: usize,
-        v: SpecVersion,
-        element: &OwnedName,
-        attributes: &List<OwnedAttribute>,
-    ) -> Result<SignerMachine, XmlReadError> {
+    fn start(opened: &Start<'_>) -> Result<SignerMachine, XmlReadError> {
         Ok(SignerMachine {
-            machine: RecordMachine::<SignerChildren>::start(alloc, place, v, element, attributes)?,
+            machine: RecordMachine::<SignerChildren>::start(opened)?,
         })
     }
 
@@ -105,15 +99,9 @@ impl Machine for SignersMachine {
 
     ghost holds = { λ m. ⟦<FrameMachine<BegunSigners> as Machine>⟧.holds m.machine };
 
-    fn start(
-        alloc: Global,
-        place: usize,
-        v: SpecVersion,
-        element: &OwnedName,
-        attributes: &List<OwnedAttribute>,
-    ) -> Result<SignersMachine, XmlReadError> {
+    fn start(opened: &Start<'_>) -> Result<SignersMachine, XmlReadError> {
         Ok(SignersMachine {
-            machine: FrameMachine::<BegunSigners>::start(alloc, place, v, element, attributes)?,
+            machine: FrameMachine::<BegunSigners>::start(opened)?,
         })
     }
 
@@ -162,15 +150,9 @@ impl Frame for BegunSigners {
         Rule::Strict
     }
 
-    fn begin(
-        alloc: Global,
-        _place: usize,
-        _v: SpecVersion,
-        _element: &OwnedName,
-        _attributes: &List<OwnedAttribute>,
-    ) -> Result<BegunSigners, XmlReadError> {
+    fn begin(opened: &Start<'_>) -> Result<BegunSigners, XmlReadError> {
         Ok(BegunSigners {
-            items: List::new(alloc),
+            items: List::new(opened.alloc),
         })
     }
 
@@ -188,13 +170,7 @@ impl Frame for BegunSigners {
         }
     }
 
-    fn finish(
-        self,
-        _alloc: Global,
-        _place: usize,
-        _v: SpecVersion,
-        _element: &OwnedName,
-    ) -> Result<Signature, XmlReadError> {
+    fn finish(self, _closed: &End<'_>) -> Result<Signature, XmlReadError> {
         Ok(Signature::Signers(self.items))
     }
 }
@@ -224,15 +200,9 @@ impl Machine for ChainMachine {
 
     ghost holds = { λ m. ⟦<FrameMachine<BegunChain> as Machine>⟧.holds m.machine };
 
-    fn start(
-        alloc: Global,
-        place: usize,
-        v: SpecVersion,
-        element: &OwnedName,
-        attributes: &List<OwnedAttribute>,
-    ) -> Result<ChainMachine, XmlReadError> {
+    fn start(opened: &Start<'_>) -> Result<ChainMachine, XmlReadError> {
         Ok(ChainMachine {
-            machine: FrameMachine::<BegunChain>::start(alloc, place, v, element, attributes)?,
+            machine: FrameMachine::<BegunChain>::start(opened)?,
         })
     }
 
@@ -281,15 +251,9 @@ impl Frame for BegunChain {
         Rule::Strict
     }
 
-    fn begin(
-        alloc: Global,
-        _place: usize,
-        _v: SpecVersion,
-        _element: &OwnedName,
-        _attributes: &List<OwnedAttribute>,
-    ) -> Result<BegunChain, XmlReadError> {
+    fn begin(opened: &Start<'_>) -> Result<BegunChain, XmlReadError> {
         Ok(BegunChain {
-            items: List::new(alloc),
+            items: List::new(opened.alloc),
         })
     }
 
@@ -307,13 +271,7 @@ impl Frame for BegunChain {
         }
     }
 
-    fn finish(
-        self,
-        _alloc: Global,
-        _place: usize,
-        _v: SpecVersion,
-        _element: &OwnedName,
-    ) -> Result<Signature, XmlReadError> {
+    fn finish(self, _closed: &End<'_>) -> Result<Signature, XmlReadError> {
         Ok(Signature::Chain(self.items))
     }
 }
@@ -347,15 +305,9 @@ impl Machine for SignatureMachine {
 
     ghost holds = { λ m. ⟦<FrameMachine<BegunSignature> as Machine>⟧.holds m.machine };
 
-    fn start(
-        alloc: Global,
-        place: usize,
-        v: SpecVersion,
-        element: &OwnedName,
-        attributes: &List<OwnedAttribute>,
-    ) -> Result<SignatureMachine, XmlReadError> {
+    fn start(opened: &Start<'_>) -> Result<SignatureMachine, XmlReadError> {
         Ok(SignatureMachine {
-            machine: FrameMachine::<BegunSignature>::start(alloc, place, v, element, attributes)?,
+            machine: FrameMachine::<BegunSignature>::start(opened)?,
         })
     }
 
@@ -402,13 +354,7 @@ impl Frame for BegunSignature {
         Rule::Strict
     }
 
-    fn begin(
-        _alloc: Global,
-        _place: usize,
-        _v: SpecVersion,
-        _element: &OwnedName,
-        _attributes: &List<OwnedAttribute>,
-    ) -> Result<BegunSignature, XmlReadError> {
+    fn begin(_opened: &Start<'_>) -> Result<BegunSignature, XmlReadError> {
         Ok(BegunSignature {
             part: SignaturePart {
                 list: None,
@@ -446,17 +392,11 @@ impl Frame for BegunSignature {
         Ok(())
     }
 
-    fn finish(
-        self,
-        alloc: Global,
-        place: usize,
-        v: SpecVersion,
-        element: &OwnedName,
-    ) -> Result<Signature, XmlReadError> {
+    fn finish(self, closed: &End<'_>) -> Result<Signature, XmlReadError> {
         let SignaturePart { list, signer } = self.part;
         match list {
             Some(list) => Ok(list),
-            None => Ok(Signature::Single(Signer::finish(alloc, place, v, element, signer)?)),
+            None => Ok(Signature::Single(Signer::finish(closed, signer)?)),
         }
     }
 }

@@ -6,9 +6,9 @@ mod part;
 mod putting;
 
 use crate::service::{Service, Services};
-use cdx_events::{List, OwnedAttribute, OwnedName};
+use cdx_events::OwnedName;
 use cdx_json::Depth;
-use cdx_leaf::Rule;
+use cdx_leaf::{End, Rule, Start};
 use cdx_machine::Found;
 use cdx_models::{SpecVersion, XmlReadError};
 use cdx_nest_machine::{Nested, Reads};
@@ -100,17 +100,13 @@ impl Nested for ServiceFrame {
         }
     }
 
-    fn begin(
-        alloc: Global,
-        sort: ServiceKind,
-        _place: usize,
-        _v: SpecVersion,
-        _element: &OwnedName,
-        attributes: &List<OwnedAttribute>,
-    ) -> Result<ServiceFrame, XmlReadError> {
+    fn begin(sort: ServiceKind, opened: &Start<'_>) -> Result<ServiceFrame, XmlReadError> {
         match sort {
-            ServiceKind::Service => Ok(ServiceFrame::Service(begin_service(alloc, attributes)?)),
-            ServiceKind::Services => Ok(ServiceFrame::Services(Services::new(alloc))),
+            ServiceKind::Service => Ok(ServiceFrame::Service(begin_service(
+                opened.alloc,
+                opened.attributes,
+            )?)),
+            ServiceKind::Services => Ok(ServiceFrame::Services(Services::new(opened.alloc))),
         }
     }
 
@@ -161,17 +157,9 @@ impl Nested for ServiceFrame {
         Ok(())
     }
 
-    fn finish(
-        self,
-        alloc: Global,
-        place: usize,
-        _v: SpecVersion,
-        element: &OwnedName,
-    ) -> Result<ServiceValue, XmlReadError> {
+    fn finish(self, closed: &End<'_>) -> Result<ServiceValue, XmlReadError> {
         match self {
-            ServiceFrame::Service(part) => Ok(ServiceValue::Service(finish_service(
-                alloc, place, element, part,
-            )?)),
+            ServiceFrame::Service(part) => Ok(ServiceValue::Service(finish_service(closed, part)?)),
             ServiceFrame::Services(list) => Ok(ServiceValue::Services(list)),
         }
     }

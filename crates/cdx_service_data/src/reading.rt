@@ -4,8 +4,8 @@ use crate::parts::{DataPart, ServiceDataPart};
 use crate::service::{Data, DataClassification, ServiceData};
 use cdx_events::{EventReader, List, OwnedAttribute, OwnedName, Text};
 use cdx_leaf::{
-    Children, FromXml, Rule, Taken, TextRecord, XmlRecord, attribute_or_error, attribute_or_none,
-    child_or_error, read_record, read_text_record, take_into, take_one,
+    Children, End, FromXml, Rule, Start, Taken, TextRecord, XmlRecord, attribute_or_error,
+    attribute_or_none, child_or_error, read_record, read_text_record, take_into, take_one,
 };
 use cdx_models::{SpecVersion, XmlReadError};
 use std::alloc::Global;
@@ -26,14 +26,14 @@ impl TextRecord for DataClassification {
 
     ghost whole = { classification_whole };
 
-    fn begin(
-        alloc: Global,
-        place: usize,
-        _v: SpecVersion,
-        element: &OwnedName,
-        attributes: &List<OwnedAttribute>,
-    ) -> Result<Text, XmlReadError> {
-        attribute_or_error(alloc, place, element, attributes, "flow")
+    fn begin(opened: &Start<'_>) -> Result<Text, XmlReadError> {
+        attribute_or_error(
+            opened.alloc,
+            opened.place,
+            opened.element,
+            opened.attributes,
+            "flow",
+        )
     }
 
     fn with_text(begun: Text, content: Text) -> DataClassification {
@@ -112,31 +112,19 @@ impl XmlRecord for ServiceData {
 
     ghost same_depth = { λ part. refl };
 
-    fn begin(
-        alloc: Global,
-        _place: usize,
-        _v: SpecVersion,
-        _element: &OwnedName,
-        attributes: &List<OwnedAttribute>,
-    ) -> Result<ServiceDataPart, XmlReadError> {
+    fn begin(opened: &Start<'_>) -> Result<ServiceDataPart, XmlReadError> {
         Ok(ServiceDataPart {
-            name: attribute_or_none(alloc, attributes, "name")?,
-            description: attribute_or_none(alloc, attributes, "description")?,
+            name: attribute_or_none(opened.alloc, opened.attributes, "name")?,
+            description: attribute_or_none(opened.alloc, opened.attributes, "description")?,
             classification: None,
         })
     }
 
-    fn finish(
-        alloc: Global,
-        place: usize,
-        _v: SpecVersion,
-        element: &OwnedName,
-        part: ServiceDataPart,
-    ) -> Result<ServiceData, XmlReadError> {
+    fn finish(closed: &End<'_>, part: ServiceDataPart) -> Result<ServiceData, XmlReadError> {
         let classification = child_or_error(
-            alloc,
-            place,
-            element,
+            closed.alloc,
+            closed.place,
+            closed.element,
             part.classification,
             "classification",
         )?;

@@ -4,7 +4,8 @@ use crate::parts::{SignaturePart, SignerPart};
 use crate::signature::{Algorithm, Signature, Signer};
 use cdx_events::{EventReader, List, OwnedAttribute, OwnedName};
 use cdx_leaf::{
-    Children, FromXml, Rule, Taken, XmlRecord, child_or_error, read_items, read_record, take_one,
+    Children, End, FromXml, Rule, Start, Taken, XmlRecord, child_or_error, read_items, read_record,
+    take_one,
 };
 use cdx_models::{SpecVersion, XmlReadError};
 use std::alloc::Global;
@@ -53,30 +54,30 @@ impl XmlRecord for Signer {
 
     ghost same_depth = { λ part. refl };
 
-    fn begin(
-        _alloc: Global,
-        _place: usize,
-        _v: SpecVersion,
-        _element: &OwnedName,
-        _attributes: &List<OwnedAttribute>,
-    ) -> Result<SignerPart, XmlReadError> {
+    fn begin(_opened: &Start<'_>) -> Result<SignerPart, XmlReadError> {
         Ok(SignerPart {
             algorithm: None,
             value: None,
         })
     }
 
-    fn finish(
-        alloc: Global,
-        place: usize,
-        _v: SpecVersion,
-        element: &OwnedName,
-        part: SignerPart,
-    ) -> Result<Signer, XmlReadError> {
-        let algorithm = child_or_error(alloc, place, element, part.algorithm, "algorithm")?;
-        let value = child_or_error(alloc, place, element, part.value, "value")?;
+    fn finish(closed: &End<'_>, part: SignerPart) -> Result<Signer, XmlReadError> {
+        let algorithm = child_or_error(
+            closed.alloc,
+            closed.place,
+            closed.element,
+            part.algorithm,
+            "algorithm",
+        )?;
+        let value = child_or_error(
+            closed.alloc,
+            closed.place,
+            closed.element,
+            part.value,
+            "value",
+        )?;
         Ok(Signer {
-            algorithm: Algorithm::new_unchecked(alloc, algorithm.as_str())?,
+            algorithm: Algorithm::new_unchecked(closed.alloc, algorithm.as_str())?,
             value,
         })
     }
@@ -163,7 +164,15 @@ impl FromXml for Signature {
         match list {
             Some(list) => Ok(list),
             None => {
-                let single = Signer::finish(alloc, reader.place() - 1, v, element, signer)?;
+                let single = Signer::finish(
+                    &End {
+                        alloc,
+                        place: reader.place() - 1,
+                        version: v,
+                        element,
+                    },
+                    signer,
+                )?;
                 Ok(Signature::Single(single))
             }
         }

@@ -11,9 +11,9 @@ use crate::push::children::{bill_child, find_in_bill, nest_reads};
 use crate::push::putting::{put_nested, put_relation};
 use crate::reading::part::{BillPart, finish_bill};
 use crate::reading::start::begin_bill;
-use cdx_events::{List, OwnedAttribute, OwnedName};
+use cdx_events::OwnedName;
 use cdx_json::Depth;
-use cdx_leaf::Rule;
+use cdx_leaf::{End, Rule, Start};
 use cdx_machine::Found;
 use cdx_models::{SpecVersion, XmlReadError};
 use cdx_nest::{NestFrame, NestKind, NestValue};
@@ -106,21 +106,14 @@ impl Nested for BillFrame {
         }
     }
 
-    fn begin(
-        alloc: Global,
-        sort: BillKind,
-        place: usize,
-        v: SpecVersion,
-        element: &OwnedName,
-        attributes: &List<OwnedAttribute>,
-    ) -> Result<BillFrame, XmlReadError> {
+    fn begin(sort: BillKind, opened: &Start<'_>) -> Result<BillFrame, XmlReadError> {
         match sort {
             BillKind::Nest(kind) => {
-                let frame = NestFrame::begin(alloc, kind, place, v, element, attributes)?;
+                let frame = NestFrame::begin(kind, opened)?;
                 Ok(BillFrame::Nest(frame))
             }
             BillKind::Bill => {
-                let part = begin_bill(alloc, place, v, element, attributes)?;
+                let part = begin_bill(opened)?;
                 Ok(BillFrame::Bill(part))
             }
         }
@@ -166,16 +159,10 @@ impl Nested for BillFrame {
         }
     }
 
-    fn finish(
-        self,
-        alloc: Global,
-        place: usize,
-        v: SpecVersion,
-        element: &OwnedName,
-    ) -> Result<BillValue, XmlReadError> {
+    fn finish(self, closed: &End<'_>) -> Result<BillValue, XmlReadError> {
         match self {
             BillFrame::Nest(frame) => {
-                let value = frame.finish(alloc, place, v, element)?;
+                let value = frame.finish(closed)?;
                 Ok(BillValue::Nest(value))
             }
             BillFrame::Bill(part) => Ok(BillValue::Bill(finish_bill(part))),

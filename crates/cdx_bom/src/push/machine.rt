@@ -2,12 +2,12 @@
 
 use crate::bom::Bom;
 use crate::push::frame::{BillFrame, BillKind, bill_of};
-use cdx_events::{List, OwnedAttribute, OwnedName, XmlEvent};
+use cdx_events::XmlEvent;
 use cdx_json::Depth;
-use cdx_models::{SpecVersion, XmlReadError};
+use cdx_leaf::Start;
+use cdx_models::XmlReadError;
 use cdx_nest_machine::{Keeps, StackMachine};
 use cdx_push_reader::RootMachine;
-use std::alloc::Global;
 
 /// Reads a bill, whatever its root's name and namespace are. The frames of the open elements wait in a stack, so depth
 /// takes memory and no recursion.
@@ -33,26 +33,12 @@ impl RootMachine for BillMachine {
     ghost holds = { λ m v p d o.
         ⟦<StackMachine<BillFrame> as Keeps>⟧.holds Bill m.stack v p d o };
 
-    fn start(
-        alloc: Global,
-        place: usize,
-        v: SpecVersion,
-        element: &OwnedName,
-        attributes: &List<OwnedAttribute>,
-    ) -> Result<BillMachine, XmlReadError> {
+    fn start(opened: &Start<'_>) -> Result<BillMachine, XmlReadError> {
         let depth = Depth {
             components: 0,
             services: 0,
         };
-        let stack = StackMachine::<BillFrame>::start(
-            alloc,
-            BillKind::Bill,
-            place,
-            v,
-            depth,
-            element,
-            attributes,
-        )?;
+        let stack = StackMachine::<BillFrame>::start(BillKind::Bill, depth, opened)?;
         Ok(BillMachine { stack })
     }
 

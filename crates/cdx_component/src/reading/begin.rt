@@ -15,10 +15,9 @@ ghost use Rattle.cdx_component.specs.ReadingParts.{component_part, pedigree_part
 use crate::component::parts::{Contents, Marks, Origin};
 use crate::reading::parts::{ComponentPart, NamingPart, PedigreePart};
 use cdx_component_parts::MimeType;
-use cdx_events::{List, OwnedAttribute, OwnedName, Text};
-use cdx_leaf::{attribute_or_error, attribute_or_none};
+use cdx_events::Text;
+use cdx_leaf::{Start, attribute_or_error, attribute_or_none};
 use cdx_models::XmlReadError;
-use std::alloc::Global;
 
 fn mime_type_of(held: Option<Text>) -> Option<MimeType>
     ensures { present mime_type_tree result ≡ present text held }
@@ -29,21 +28,21 @@ fn mime_type_of(held: Option<Text>) -> Option<MimeType>
     }
 }
 
-/// What the attributes give of the first rows, or the fault that the type is lacking, at `place`, that of the element's
-/// start.
-fn begin_origin(
-    alloc: Global,
-    place: usize,
-    element: &OwnedName,
-    attributes: &List<OwnedAttribute>,
-) -> Result<Origin, XmlReadError>
-    ensures { (v : SpecVersion) → Gives origin_trees (place + 1)
-        (attributes_read (group 0 component) attributes.now v element.now.local_name place)
-        result }
+/// What the attributes give of the first rows, or the fault that the type is lacking, at the element's start.
+fn begin_origin(opened: &Start<'_>) -> Result<Origin, XmlReadError>
+    ensures { (v : SpecVersion) → Gives origin_trees (opened.now.place + 1)
+        (attributes_read (group 0 component) opened.now.attributes.now v
+        opened.now.element.now.local_name opened.now.place) result }
 {
-    let component_type = attribute_or_error(alloc, place, element, attributes, "type")?;
-    let mime_type = attribute_or_none(alloc, attributes, "mime-type")?;
-    let bom_ref = attribute_or_none(alloc, attributes, "bom-ref")?;
+    let component_type = attribute_or_error(
+        opened.alloc,
+        opened.place,
+        opened.element,
+        opened.attributes,
+        "type",
+    )?;
+    let mime_type = attribute_or_none(opened.alloc, opened.attributes, "mime-type")?;
+    let bom_ref = attribute_or_none(opened.alloc, opened.attributes, "bom-ref")?;
     Ok(Origin {
         component_type,
         mime_type: mime_type_of(mime_type),
@@ -54,17 +53,13 @@ fn begin_origin(
     })
 }
 
-/// The component that the attributes begin, or the fault that the type is lacking, at `place`, that of the element's start.
-pub(crate) fn begin_component(
-    alloc: Global,
-    place: usize,
-    element: &OwnedName,
-    attributes: &List<OwnedAttribute>,
-) -> Result<ComponentPart, XmlReadError>
-    ensures { (v : SpecVersion) → Gives component_part (place + 1)
-        (attributes_first component element.now.local_name attributes.now v place) result }
+/// The component that the attributes begin, or the fault that the type is lacking, at the element's start.
+pub(crate) fn begin_component(opened: &Start<'_>) -> Result<ComponentPart, XmlReadError>
+    ensures { (v : SpecVersion) → Gives component_part (opened.now.place + 1)
+        (attributes_first component opened.now.element.now.local_name opened.now.attributes.now v
+        opened.now.place) result }
 {
-    let origin = begin_origin(alloc, place, element, attributes)?;
+    let origin = begin_origin(opened)?;
     Ok(ComponentPart {
         origin,
         naming: NamingPart {

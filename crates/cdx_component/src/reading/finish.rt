@@ -15,44 +15,48 @@ ghost use Rattle.cdx_component.specs.ReadingParts.{naming_part, component_part, 
 use crate::component::parts::{Naming, assemble};
 use crate::component::{Component, Pedigree};
 use crate::reading::parts::{ComponentPart, NamingPart, PedigreePart};
-use cdx_events::{OwnedName, Text};
-use cdx_leaf::child_or_error;
+use cdx_events::Text;
+use cdx_leaf::{End, child_or_error};
 use cdx_models::{SpecVersion, XmlReadError};
-use std::alloc::Global;
 
-/// A child that 1.3 requires. `RequiredDataMissing` at `place`, that of the element's end, where it isn't there in 1.3.
+/// A child that 1.3 requires. `RequiredDataMissing` at the element's end, where it isn't there in 1.3.
 fn first_child_or_error(
-    alloc: Global,
-    place: usize,
-    v: SpecVersion,
-    element: &OwnedName,
+    closed: &End<'_>,
     child: Option<Text>,
     expected: &str,
 ) -> Result<Option<Text>, XmlReadError>
-    ensures { Gives (λ o. o) (place + 1)
-        (in_first v child (lacking place element.now.local_name expected.now)) result }
+    ensures { Gives (λ o. o) (closed.now.place + 1)
+        (in_first closed.now.version child (lacking closed.now.place
+        closed.now.element.now.local_name expected.now)) result }
 {
-    match v {
-        SpecVersion::V1_3 => Ok(Some(child_or_error(alloc, place, element, child, expected)?)),
+    match closed.version {
+        SpecVersion::V1_3 => Ok(Some(child_or_error(
+            closed.alloc,
+            closed.place,
+            closed.element,
+            child,
+            expected,
+        )?)),
         SpecVersion::V1_4 => Ok(child),
         SpecVersion::V1_5 => Ok(child),
     }
 }
 
-/// The rows with the name. `RequiredDataMissing` at `place`, that of the element's end, where the name isn't there, or in
-/// 1.3 the version.
-fn finish_naming(
-    alloc: Global,
-    place: usize,
-    v: SpecVersion,
-    element: &OwnedName,
-    part: NamingPart,
-) -> Result<Naming, XmlReadError>
-    ensures { Gives naming_trees (place + 1)
-        (ended (group 1 component) (naming_part part) v element.now.local_name place) result }
+/// The rows with the name. `RequiredDataMissing` at the element's end, where the name isn't there, or in 1.3 the
+/// version.
+fn finish_naming(closed: &End<'_>, part: NamingPart) -> Result<Naming, XmlReadError>
+    ensures { Gives naming_trees (closed.now.place + 1)
+        (ended (group 1 component) (naming_part part) closed.now.version
+        closed.now.element.now.local_name closed.now.place) result }
 {
-    let name = child_or_error(alloc, place, element, part.name, "name")?;
-    let version = first_child_or_error(alloc, place, v, element, part.version, "version")?;
+    let name = child_or_error(
+        closed.alloc,
+        closed.place,
+        closed.element,
+        part.name,
+        "name",
+    )?;
+    let version = first_child_or_error(closed, part.version, "version")?;
     Ok(Naming {
         group: part.group,
         name,
@@ -63,17 +67,14 @@ fn finish_naming(
     })
 }
 
-/// The component that was read, or the fault of the first required child that is missing, at `place`, that of the
-/// element's end.
+/// The component that was read, or the fault of the first required child that is missing, at the element's end.
 pub(crate) fn finish_component(
-    alloc: Global,
-    place: usize,
-    v: SpecVersion,
-    element: &OwnedName,
+    closed: &End<'_>,
     part: ComponentPart,
 ) -> Result<Component, XmlReadError>
-    ensures { Gives component_tree (place + 1)
-        (record_end component element.now.local_name v place (component_part part)) result }
+    ensures { Gives component_tree (closed.now.place + 1)
+        (record_end component closed.now.element.now.local_name closed.now.version closed.now.place
+        (component_part part)) result }
 {
     let ComponentPart {
         origin,
@@ -81,7 +82,7 @@ pub(crate) fn finish_component(
         marks,
         contents,
     } = part;
-    match finish_naming(alloc, place, v, element, read) {
+    match finish_naming(closed, read) {
         Ok(naming) => Ok(assemble(origin, naming, marks, contents)),
         Err(error) => {
             drop(origin);

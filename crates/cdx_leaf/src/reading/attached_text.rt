@@ -8,24 +8,20 @@ ghost use Rattle.cdx_leaf.specs.Parts.{attached_start};
 use crate::attribute::last_attribute;
 use crate::content::read_exact_content;
 use crate::from_xml::FromXml;
+use crate::start::Start;
 use cdx_events::{EventReader, List, OwnedAttribute, OwnedName, Text};
 use cdx_models::{AttachedText, SpecVersion, XmlReadError};
 use std::alloc::Global;
 
 /// What the attributes of an attached text give, its content type and its encoding. Here the last attribute of a local name
 /// counts.
-pub fn begin_attached_text(
-    alloc: Global,
-    place: usize,
-    version: SpecVersion,
-    element: &OwnedName,
-    attributes: &List<OwnedAttribute>,
-) -> Result<(Option<Text>, Option<Text>), XmlReadError>
-    ensures { Gives attached_start (place + 1)
-        (start_read attached_text version element.now.local_name attributes.now place) result }
+pub fn begin_attached_text(opened: &Start<'_>) -> Result<(Option<Text>, Option<Text>), XmlReadError>
+    ensures { Gives attached_start (opened.now.place + 1)
+        (start_read attached_text opened.now.version opened.now.element.now.local_name
+        opened.now.attributes.now opened.now.place) result }
 {
-    let content_type = last_attribute(alloc, attributes, "content-type")?;
-    let encoding = last_attribute(alloc, attributes, "encoding")?;
+    let content_type = last_attribute(opened.alloc, opened.attributes, "content-type")?;
+    let encoding = last_attribute(opened.alloc, opened.attributes, "encoding")?;
     Ok((content_type, encoding))
 }
 
@@ -43,7 +39,13 @@ impl FromXml for AttachedText {
         element: &OwnedName,
         attributes: &List<OwnedAttribute>,
     ) -> Result<AttachedText, XmlReadError> {
-        let begun = begin_attached_text(alloc, reader.place() - 1, version, element, attributes);
+        let begun = begin_attached_text(&Start {
+            alloc,
+            place: reader.place() - 1,
+            version,
+            element,
+            attributes,
+        });
         let (start, content) = read_exact_content(alloc, reader, element, begun)?;
         Ok(AttachedText {
             content_type: start.0,

@@ -7,6 +7,7 @@ use crate::lists::read_list_tag;
 use crate::reading::parts::ReferencePart;
 use crate::record::XmlRecord;
 use crate::rule::Rule;
+use crate::start::{End, Start};
 use crate::take::take_one;
 use crate::taken::Taken;
 use cdx_events::{EventReader, List, OwnedAttribute, OwnedName};
@@ -72,29 +73,23 @@ impl XmlRecord for ExternalReference {
 
     ghost same_depth = { λ part. refl };
 
-    fn begin(
-        alloc: Global,
-        place: usize,
-        _version: SpecVersion,
-        element: &OwnedName,
-        attributes: &List<OwnedAttribute>,
-    ) -> Result<ReferencePart, XmlReadError> {
+    fn begin(opened: &Start<'_>) -> Result<ReferencePart, XmlReadError> {
         Ok(ReferencePart {
-            external_reference_type: attribute_or_error(alloc, place, element, attributes, "type")?,
+            external_reference_type: attribute_or_error(
+                opened.alloc,
+                opened.place,
+                opened.element,
+                opened.attributes,
+                "type",
+            )?,
             url: None,
             comment: None,
             hashes: None,
         })
     }
 
-    fn finish(
-        alloc: Global,
-        place: usize,
-        _version: SpecVersion,
-        element: &OwnedName,
-        part: ReferencePart,
-    ) -> Result<ExternalReference, XmlReadError> {
-        let url = child_or_error(alloc, place, element, part.url, "url")?;
+    fn finish(closed: &End<'_>, part: ReferencePart) -> Result<ExternalReference, XmlReadError> {
+        let url = child_or_error(closed.alloc, closed.place, closed.element, part.url, "url")?;
         Ok(ExternalReference {
             external_reference_type: part.external_reference_type,
             url: Uri::from_text(url),

@@ -4,6 +4,7 @@ use crate::attribute::attribute_or_error;
 use crate::from_xml::FromXml;
 use crate::lists::read_list_tag;
 use crate::record::{TextRecord, read_text_record};
+use crate::start::Start;
 use cdx_events::{EventReader, List, OwnedAttribute, OwnedName, Text};
 use cdx_models::{Hash, HashValue, Hashes, SpecVersion, XmlReadError};
 use std::alloc::Global;
@@ -24,14 +25,14 @@ impl TextRecord for Hash {
 
     ghost whole = { hash_whole };
 
-    fn begin(
-        alloc: Global,
-        place: usize,
-        _version: SpecVersion,
-        element: &OwnedName,
-        attributes: &List<OwnedAttribute>,
-    ) -> Result<Text, XmlReadError> {
-        attribute_or_error(alloc, place, element, attributes, "alg")
+    fn begin(opened: &Start<'_>) -> Result<Text, XmlReadError> {
+        attribute_or_error(
+            opened.alloc,
+            opened.place,
+            opened.element,
+            opened.attributes,
+            "alg",
+        )
     }
 
     fn with_text(begun: Text, content: Text) -> Hash {

@@ -5,6 +5,7 @@ use crate::children::Children;
 use crate::from_xml::FromXml;
 use crate::record::XmlRecord;
 use crate::rule::Rule;
+use crate::start::{End, Start};
 use crate::take::{take_more, take_one};
 use crate::taken::Taken;
 use cdx_events::{EventReader, List, OwnedAttribute, OwnedName};
@@ -56,15 +57,9 @@ impl XmlRecord for OrganizationalContact {
 
     ghost same_depth = { λ part. refl };
 
-    fn begin(
-        alloc: Global,
-        _place: usize,
-        _version: SpecVersion,
-        _element: &OwnedName,
-        attributes: &List<OwnedAttribute>,
-    ) -> Result<OrganizationalContact, XmlReadError> {
+    fn begin(opened: &Start<'_>) -> Result<OrganizationalContact, XmlReadError> {
         Ok(OrganizationalContact {
-            bom_ref: attribute_or_none(alloc, attributes, "bom-ref")?,
+            bom_ref: attribute_or_none(opened.alloc, opened.attributes, "bom-ref")?,
             name: None,
             email: None,
             phone: None,
@@ -72,10 +67,7 @@ impl XmlRecord for OrganizationalContact {
     }
 
     fn finish(
-        _alloc: Global,
-        _place: usize,
-        _version: SpecVersion,
-        _element: &OwnedName,
+        _closed: &End<'_>,
         part: OrganizationalContact,
     ) -> Result<OrganizationalContact, XmlReadError> {
         Ok(part)
@@ -134,15 +126,9 @@ impl XmlRecord for OrganizationalEntity {
 
     ghost same_depth = { λ part. refl };
 
-    fn begin(
-        alloc: Global,
-        _place: usize,
-        _version: SpecVersion,
-        _element: &OwnedName,
-        attributes: &List<OwnedAttribute>,
-    ) -> Result<OrganizationalEntity, XmlReadError> {
+    fn begin(opened: &Start<'_>) -> Result<OrganizationalEntity, XmlReadError> {
         Ok(OrganizationalEntity {
-            bom_ref: attribute_or_none(alloc, attributes, "bom-ref")?,
+            bom_ref: attribute_or_none(opened.alloc, opened.attributes, "bom-ref")?,
             name: None,
             url: None,
             contact: None,
@@ -150,10 +136,7 @@ impl XmlRecord for OrganizationalEntity {
     }
 
     fn finish(
-        _alloc: Global,
-        _place: usize,
-        _version: SpecVersion,
-        _element: &OwnedName,
+        _closed: &End<'_>,
         part: OrganizationalEntity,
     ) -> Result<OrganizationalEntity, XmlReadError> {
         Ok(part)

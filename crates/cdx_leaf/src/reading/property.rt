@@ -4,6 +4,7 @@ use crate::attribute::attribute_or_error;
 use crate::from_xml::FromXml;
 use crate::lists::read_lax_validation_list_tag;
 use crate::record::{TextRecord, read_text_record};
+use crate::start::Start;
 use cdx_events::{EventReader, List, OwnedAttribute, OwnedName, Text};
 use cdx_models::{Properties, Property, SpecVersion, XmlReadError};
 use std::alloc::Global;
@@ -24,14 +25,14 @@ impl TextRecord for Property {
 
     ghost whole = { property_whole };
 
-    fn begin(
-        alloc: Global,
-        place: usize,
-        _version: SpecVersion,
-        element: &OwnedName,
-        attributes: &List<OwnedAttribute>,
-    ) -> Result<Text, XmlReadError> {
-        attribute_or_error(alloc, place, element, attributes, "name")
+    fn begin(opened: &Start<'_>) -> Result<Text, XmlReadError> {
+        attribute_or_error(
+            opened.alloc,
+            opened.place,
+            opened.element,
+            opened.attributes,
+            "name",
+        )
     }
 
     fn with_text(begun: Text, content: Text) -> Property {

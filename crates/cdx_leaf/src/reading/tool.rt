@@ -4,6 +4,7 @@ use crate::children::Children;
 use crate::from_xml::FromXml;
 use crate::record::XmlRecord;
 use crate::rule::Rule;
+use crate::start::{End, Start};
 use crate::take::take_one;
 use crate::taken::Taken;
 use cdx_events::{EventReader, List, OwnedAttribute, OwnedName};
@@ -90,13 +91,7 @@ impl XmlRecord for Tool {
 
     ghost same_depth = { λ part. refl };
 
-    fn begin(
-        _alloc: Global,
-        _place: usize,
-        _version: SpecVersion,
-        _element: &OwnedName,
-        _attributes: &List<OwnedAttribute>,
-    ) -> Result<Tool, XmlReadError> {
+    fn begin(_opened: &Start<'_>) -> Result<Tool, XmlReadError> {
         Ok(Tool {
             vendor: None,
             name: None,
@@ -106,13 +101,7 @@ impl XmlRecord for Tool {
         })
     }
 
-    fn finish(
-        _alloc: Global,
-        _place: usize,
-        _version: SpecVersion,
-        _element: &OwnedName,
-        part: Tool,
-    ) -> Result<Tool, XmlReadError> {
+    fn finish(_closed: &End<'_>, part: Tool) -> Result<Tool, XmlReadError> {
         Ok(part)
     }
 }

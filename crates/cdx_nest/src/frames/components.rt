@@ -12,26 +12,23 @@ ghost use Rattle.cdx_nest.specs.Frames.{of_component, nest_kind, frame_kind, fra
 
 use crate::frames::{NestFrame, NestKind, NestValue};
 use cdx_component::{ComponentFrame, ComponentKind, ComponentValue};
-use cdx_events::{List, OwnedAttribute, OwnedName};
-use cdx_models::{SpecVersion, XmlReadError};
+use cdx_leaf::{End, Start};
+use cdx_models::XmlReadError;
 use cdx_nest_machine::{Nested, Reads};
 use cdx_push::LeafKind;
 use std::alloc::{AllocError, Global};
 
-/// What the attributes begin, or their first fault, at `place`, that of the element's start.
+/// What the attributes begin, or their first fault, at the element's start.
 pub(crate) fn begin_in_components(
-    alloc: Global,
     kind: ComponentKind,
-    place: usize,
-    v: SpecVersion,
-    element: &OwnedName,
-    attributes: &List<OwnedAttribute>,
+    opened: &Start<'_>,
 ) -> Result<NestFrame, XmlReadError>
     ensures sort { IfOk result (λ x. frame_kind x ≡ of_component kind) }
-    ensures gives { Gives frame_fields (place + 1)
-        (first_of (kind_of kind) element.now.local_name attributes.now v place) result }
+    ensures gives { Gives frame_fields (opened.now.place + 1)
+        (first_of (kind_of kind) opened.now.element.now.local_name opened.now.attributes.now
+        opened.now.version opened.now.place) result }
 {
-    let frame = ComponentFrame::begin(alloc, kind, place, v, element, attributes)?;
+    let frame = ComponentFrame::begin(kind, opened)?;
     Ok(NestFrame::Component(frame))
 }
 
@@ -90,20 +87,18 @@ pub(crate) fn put_in_components(
     frame.put(position, alloc, value_within(value))
 }
 
-/// The value, or the fault of the first required child that is missing, at `place`, that of the element's end.
+/// The value, or the fault of the first required child that is missing, at the element's end.
 pub(crate) fn finish_in_components(
     frame: ComponentFrame,
-    alloc: Global,
-    place: usize,
-    v: SpecVersion,
-    element: &OwnedName,
+    closed: &End<'_>,
 ) -> Result<NestValue, XmlReadError>
     ensures sort { IfOk result (λ x. value_kind x ≡ of_component (component_frame_kind frame)) }
-    ensures gives { Gives value_tree (place + 1)
-        (last_of (nest_kind (of_component (component_frame_kind frame))) element.now.local_name
-        v place (component_fields frame)) result }
+    ensures gives { Gives value_tree (closed.now.place + 1)
+        (last_of (nest_kind (of_component (component_frame_kind frame)))
+        closed.now.element.now.local_name closed.now.version closed.now.place
+        (component_fields frame)) result }
 {
-    match frame.finish(alloc, place, v, element)? {
+    match frame.finish(closed)? {
         ComponentValue::Component(component) => Ok(NestValue::Component(component)),
         ComponentValue::Components(components) => Ok(NestValue::Components(components)),
         ComponentValue::Pedigree(pedigree) => Ok(NestValue::Pedigree(pedigree)),

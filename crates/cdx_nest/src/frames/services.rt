@@ -11,27 +11,24 @@ ghost use Rattle.cdx_service.specs.Frames.{kind_of, frame_kind as service_frame_
 ghost use Rattle.cdx_nest.specs.Frames.{of_service, nest_kind, frame_kind, frame_fields, value_kind, value_tree, reader_of};
 
 use crate::frames::{NestFrame, NestKind, NestValue};
-use cdx_events::{List, OwnedAttribute, OwnedName};
-use cdx_models::{SpecVersion, XmlReadError};
+use cdx_leaf::{End, Start};
+use cdx_models::XmlReadError;
 use cdx_nest_machine::{Nested, Reads};
 use cdx_push::LeafKind;
 use cdx_service::{ServiceFrame, ServiceKind, ServiceValue};
 use std::alloc::{AllocError, Global};
 
-/// What the attributes begin, or their first fault, at `place`, that of the element's start.
+/// What the attributes begin, or their first fault, at the element's start.
 pub(crate) fn begin_in_services(
-    alloc: Global,
     kind: ServiceKind,
-    place: usize,
-    v: SpecVersion,
-    element: &OwnedName,
-    attributes: &List<OwnedAttribute>,
+    opened: &Start<'_>,
 ) -> Result<NestFrame, XmlReadError>
     ensures sort { IfOk result (λ x. frame_kind x ≡ of_service kind) }
-    ensures gives { Gives frame_fields (place + 1)
-        (first_of (kind_of kind) element.now.local_name attributes.now v place) result }
+    ensures gives { Gives frame_fields (opened.now.place + 1)
+        (first_of (kind_of kind) opened.now.element.now.local_name opened.now.attributes.now
+        opened.now.version opened.now.place) result }
 {
-    let frame = ServiceFrame::begin(alloc, kind, place, v, element, attributes)?;
+    let frame = ServiceFrame::begin(kind, opened)?;
     Ok(NestFrame::Service(frame))
 }
 
@@ -85,20 +82,18 @@ pub(crate) fn put_in_services(
     frame.put(position, alloc, value_within(value))
 }
 
-/// The value, or the fault of the first required child that is missing, at `place`, that of the element's end.
+/// The value, or the fault of the first required child that is missing, at the element's end.
 pub(crate) fn finish_in_services(
     frame: ServiceFrame,
-    alloc: Global,
-    place: usize,
-    v: SpecVersion,
-    element: &OwnedName,
+    closed: &End<'_>,
 ) -> Result<NestValue, XmlReadError>
     ensures sort { IfOk result (λ x. value_kind x ≡ of_service (service_frame_kind frame)) }
-    ensures gives { Gives value_tree (place + 1)
-        (last_of (nest_kind (of_service (service_frame_kind frame))) element.now.local_name v place
+    ensures gives { Gives value_tree (closed.now.place + 1)
+        (last_of (nest_kind (of_service (service_frame_kind frame)))
+        closed.now.element.now.local_name closed.now.version closed.now.place
         (service_fields frame)) result }
 {
-    match frame.finish(alloc, place, v, element)? {
+    match frame.finish(closed)? {
         ServiceValue::Service(service) => Ok(NestValue::Service(service)),
         ServiceValue::Services(services) => Ok(NestValue::Services(services)),
     }

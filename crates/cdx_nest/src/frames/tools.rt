@@ -19,6 +19,7 @@ use crate::frames::{NestKind, NestValue};
 use crate::tools::Tools;
 use cdx_component::Components;
 use cdx_events::{List, OwnedName};
+use cdx_leaf::End;
 use cdx_machine::Found;
 use cdx_models::{SpecVersion, Tool, XmlReadError};
 use cdx_nest_machine::Reads;
@@ -138,25 +139,25 @@ fn has_object(part: &ToolsPart) -> bool
     is_there(&part.services) || is_there(&part.components)
 }
 
-/// The tools where there is one, else the services and components, and before 1.5 the empty list. `RequiredDataMissing` of
-/// `tool array or services & components` at `place`, that of the element's end, exactly where services or components stand
-/// beside a tool.
-pub(crate) fn finish_tools(
-    alloc: Global,
-    place: usize,
-    v: SpecVersion,
-    element: &OwnedName,
-    part: ToolsPart,
-) -> Result<Tools, XmlReadError>
-    ensures { Gives tools_tree (place + 1)
-        (tools_last element.now.local_name v place (tools_part part)) result }
+/// The tools where there is one, else the services and components, and before 1.5 the empty list. `RequiredDataMissing`
+/// of `tool array or services & components` at the element's end, exactly where services or components stand beside a
+/// tool.
+pub(crate) fn finish_tools(closed: &End<'_>, part: ToolsPart) -> Result<Tools, XmlReadError>
+    ensures { Gives tools_tree (closed.now.place + 1)
+        (tools_last closed.now.element.now.local_name closed.now.version closed.now.place
+        (tools_part part)) result }
 {
     if part.tools.len() == 0 {
-        return Ok(object_in(alloc, v, part.services, part.components));
+        return Ok(object_in(closed.alloc, closed.version, part.services, part.components));
     }
     if has_object(&part) {
         let missing = "tool array or services & components";
-        return Err(XmlReadError::required_data_missing(alloc, place, missing, element)?);
+        return Err(XmlReadError::required_data_missing(
+            closed.alloc,
+            closed.place,
+            missing,
+            closed.element,
+        )?);
     }
     Ok(Tools::List(part.tools))
 }

@@ -2,7 +2,9 @@
 
 use crate::{Issue, Source};
 use cdx_events::{EventReader, List, OwnedAttribute, OwnedName};
-use cdx_leaf::{Children, Rule, Taken, XmlRecord, attribute_or_error, take_list, take_one};
+use cdx_leaf::{
+    Children, End, Rule, Start, Taken, XmlRecord, attribute_or_error, take_list, take_one,
+};
 use cdx_models::{SpecVersion, XmlReadError};
 use std::alloc::Global;
 
@@ -50,26 +52,14 @@ impl XmlRecord for Source {
 
     ghost same_depth = { λ part. refl };
 
-    fn begin(
-        _alloc: Global,
-        _place: usize,
-        _v: SpecVersion,
-        _element: &OwnedName,
-        _attributes: &List<OwnedAttribute>,
-    ) -> Result<Source, XmlReadError> {
+    fn begin(_opened: &Start<'_>) -> Result<Source, XmlReadError> {
         Ok(Source {
             name: None,
             url: None,
         })
     }
 
-    fn finish(
-        _alloc: Global,
-        _place: usize,
-        _v: SpecVersion,
-        _element: &OwnedName,
-        part: Source,
-    ) -> Result<Source, XmlReadError> {
+    fn finish(_closed: &End<'_>, part: Source) -> Result<Source, XmlReadError> {
         Ok(part)
     }
 }
@@ -129,15 +119,15 @@ impl XmlRecord for Issue {
 
     ghost same_depth = { λ part. refl };
 
-    fn begin(
-        alloc: Global,
-        place: usize,
-        _v: SpecVersion,
-        element: &OwnedName,
-        attributes: &List<OwnedAttribute>,
-    ) -> Result<Issue, XmlReadError> {
+    fn begin(opened: &Start<'_>) -> Result<Issue, XmlReadError> {
         Ok(Issue {
-            issue_type: attribute_or_error(alloc, place, element, attributes, "type")?,
+            issue_type: attribute_or_error(
+                opened.alloc,
+                opened.place,
+                opened.element,
+                opened.attributes,
+                "type",
+            )?,
             id: None,
             name: None,
             description: None,
@@ -146,13 +136,7 @@ impl XmlRecord for Issue {
         })
     }
 
-    fn finish(
-        _alloc: Global,
-        _place: usize,
-        _v: SpecVersion,
-        _element: &OwnedName,
-        part: Issue,
-    ) -> Result<Issue, XmlReadError> {
+    fn finish(_closed: &End<'_>, part: Issue) -> Result<Issue, XmlReadError> {
         Ok(part)
     }
 }

@@ -3,8 +3,8 @@
 use crate::{Diff, Patch, Patches};
 use cdx_events::{EventReader, List, OwnedAttribute, OwnedName};
 use cdx_leaf::{
-    Children, FromXml, Rule, Taken, XmlRecord, attribute_or_error, read_lax_validation_list_tag,
-    take_list, take_one,
+    Children, End, FromXml, Rule, Start, Taken, XmlRecord, attribute_or_error,
+    read_lax_validation_list_tag, take_list, take_one,
 };
 use cdx_models::{SpecVersion, XmlReadError};
 use std::alloc::Global;
@@ -53,26 +53,14 @@ impl XmlRecord for Diff {
 
     ghost same_depth = { λ part. refl };
 
-    fn begin(
-        _alloc: Global,
-        _place: usize,
-        _v: SpecVersion,
-        _element: &OwnedName,
-        _attributes: &List<OwnedAttribute>,
-    ) -> Result<Diff, XmlReadError> {
+    fn begin(_opened: &Start<'_>) -> Result<Diff, XmlReadError> {
         Ok(Diff {
             text: None,
             url: None,
         })
     }
 
-    fn finish(
-        _alloc: Global,
-        _place: usize,
-        _v: SpecVersion,
-        _element: &OwnedName,
-        part: Diff,
-    ) -> Result<Diff, XmlReadError> {
+    fn finish(_closed: &End<'_>, part: Diff) -> Result<Diff, XmlReadError> {
         Ok(part)
     }
 }
@@ -129,27 +117,21 @@ impl XmlRecord for Patch {
 
     ghost same_depth = { λ part. refl };
 
-    fn begin(
-        alloc: Global,
-        place: usize,
-        _v: SpecVersion,
-        element: &OwnedName,
-        attributes: &List<OwnedAttribute>,
-    ) -> Result<Patch, XmlReadError> {
+    fn begin(opened: &Start<'_>) -> Result<Patch, XmlReadError> {
         Ok(Patch {
-            patch_type: attribute_or_error(alloc, place, element, attributes, "type")?,
+            patch_type: attribute_or_error(
+                opened.alloc,
+                opened.place,
+                opened.element,
+                opened.attributes,
+                "type",
+            )?,
             diff: None,
             resolves: None,
         })
     }
 
-    fn finish(
-        _alloc: Global,
-        _place: usize,
-        _v: SpecVersion,
-        _element: &OwnedName,
-        part: Patch,
-    ) -> Result<Patch, XmlReadError> {
+    fn finish(_closed: &End<'_>, part: Patch) -> Result<Patch, XmlReadError> {
         Ok(part)
     }
 }

@@ -4,8 +4,8 @@ use crate::composition::{BomReference, Composition, Compositions};
 use crate::parts::CompositionPart;
 use cdx_events::{EventReader, List, OwnedAttribute, OwnedName};
 use cdx_leaf::{
-    Children, FromXml, Rule, Taken, XmlRecord, attribute_or_error, attribute_since, child_or_error,
-    closing_tag_or_error, read_lax_validation_list_tag, take_list, take_one,
+    Children, End, FromXml, Rule, Start, Taken, XmlRecord, attribute_or_error, attribute_since,
+    child_or_error, closing_tag_or_error, read_lax_validation_list_tag, take_list, take_one,
 };
 use cdx_models::{SpecVersion, XmlReadError};
 use std::alloc::Global;
@@ -111,15 +111,15 @@ impl XmlRecord for Composition {
 
     ghost same_depth = { λ part. refl };
 
-    fn begin(
-        alloc: Global,
-        _place: usize,
-        v: SpecVersion,
-        _element: &OwnedName,
-        attributes: &List<OwnedAttribute>,
-    ) -> Result<CompositionPart, XmlReadError> {
+    fn begin(opened: &Start<'_>) -> Result<CompositionPart, XmlReadError> {
         Ok(CompositionPart {
-            bom_ref: attribute_since(alloc, SpecVersion::V1_5, v, attributes, "bom-ref")?,
+            bom_ref: attribute_since(
+                opened.alloc,
+                SpecVersion::V1_5,
+                opened.version,
+                opened.attributes,
+                "bom-ref",
+            )?,
             aggregate: None,
             assemblies: None,
             dependencies: None,
@@ -128,14 +128,14 @@ impl XmlRecord for Composition {
         })
     }
 
-    fn finish(
-        alloc: Global,
-        place: usize,
-        _v: SpecVersion,
-        element: &OwnedName,
-        part: CompositionPart,
-    ) -> Result<Composition, XmlReadError> {
-        let aggregate = child_or_error(alloc, place, element, part.aggregate, "aggregate")?;
+    fn finish(closed: &End<'_>, part: CompositionPart) -> Result<Composition, XmlReadError> {
+        let aggregate = child_or_error(
+            closed.alloc,
+            closed.place,
+            closed.element,
+            part.aggregate,
+            "aggregate",
+        )?;
         Ok(Composition {
             bom_ref: part.bom_ref,
             aggregate,

@@ -9,7 +9,9 @@ ghost use Rattle.cdx_leaf.specs.Trees.{collected};
 use crate::composition::BomReference;
 use crate::dependency::{Dependencies, Dependency};
 use cdx_events::{EventReader, List, OwnedAttribute, OwnedName, Text};
-use cdx_leaf::{Children, FromXml, Rule, Taken, XmlRecord, attribute_or_error, read_list_tag};
+use cdx_leaf::{
+    Children, End, FromXml, Rule, Start, Taken, XmlRecord, attribute_or_error, read_list_tag,
+};
 use cdx_models::{SpecVersion, XmlReadError};
 use std::alloc::Global;
 
@@ -81,26 +83,20 @@ impl XmlRecord for Dependency {
 
     ghost same_depth = { λ part. refl };
 
-    fn begin(
-        alloc: Global,
-        place: usize,
-        _v: SpecVersion,
-        element: &OwnedName,
-        attributes: &List<OwnedAttribute>,
-    ) -> Result<Dependency, XmlReadError> {
+    fn begin(opened: &Start<'_>) -> Result<Dependency, XmlReadError> {
         Ok(Dependency {
-            dependency_ref: attribute_or_error(alloc, place, element, attributes, "ref")?,
-            depends_on: List::new(alloc),
+            dependency_ref: attribute_or_error(
+                opened.alloc,
+                opened.place,
+                opened.element,
+                opened.attributes,
+                "ref",
+            )?,
+            depends_on: List::new(opened.alloc),
         })
     }
 
-    fn finish(
-        _alloc: Global,
-        _place: usize,
-        _v: SpecVersion,
-        _element: &OwnedName,
-        part: Dependency,
-    ) -> Result<Dependency, XmlReadError> {
+    fn finish(_closed: &End<'_>, part: Dependency) -> Result<Dependency, XmlReadError> {
         Ok(part)
     }
 }

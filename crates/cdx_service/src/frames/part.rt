@@ -14,8 +14,8 @@ ghost use Rattle.cdx_service.specs.ReadingParts.{naming_part, service_part};
 
 use crate::service::Service;
 use crate::service::parts::{ServiceAccess, ServiceContents, ServiceNaming, assemble};
-use cdx_events::{List, OwnedAttribute, OwnedName, Text};
-use cdx_leaf::{attribute_or_none, child_or_error};
+use cdx_events::{List, OwnedAttribute, Text};
+use cdx_leaf::{End, attribute_or_none, child_or_error};
 use cdx_models::{OrganizationalEntity, XmlReadError};
 use std::alloc::{AllocError, Global};
 
@@ -74,17 +74,19 @@ pub(crate) fn begin_service(
     })
 }
 
-// The rows that were read. `RequiredDataMissing` at `place`, that of the element's end, where there is no name.
-fn finish_naming(
-    alloc: Global,
-    place: usize,
-    element: &OwnedName,
-    part: NamingPart,
-) -> Result<ServiceNaming, XmlReadError>
-    ensures { (v : SpecVersion) → Gives service_naming_trees (place + 1)
-        (ended (group 0 service) (naming_part part) v element.now.local_name place) result }
+// The rows that were read. `RequiredDataMissing` at the element's end, where there is no name.
+fn finish_naming(closed: &End<'_>, part: NamingPart) -> Result<ServiceNaming, XmlReadError>
+    ensures { (v : SpecVersion) → Gives service_naming_trees (closed.now.place + 1)
+        (ended (group 0 service) (naming_part part) v closed.now.element.now.local_name
+        closed.now.place) result }
 {
-    let name = child_or_error(alloc, place, element, part.name, "name")?;
+    let name = child_or_error(
+        closed.alloc,
+        closed.place,
+        closed.element,
+        part.name,
+        "name",
+    )?;
     Ok(ServiceNaming {
         bom_ref: part.bom_ref,
         provider: part.provider,
@@ -95,22 +97,18 @@ fn finish_naming(
     })
 }
 
-/// The service that was read. `RequiredDataMissing` at `place`, that of the element's end, where it has no name.
-pub(crate) fn finish_service(
-    alloc: Global,
-    place: usize,
-    element: &OwnedName,
-    part: ServicePart,
-) -> Result<Service, XmlReadError>
-    ensures { (v : SpecVersion) → Gives service_tree (place + 1)
-        (record_end service element.now.local_name v place (service_part part)) result }
+/// The service that was read. `RequiredDataMissing` at the element's end, where it has no name.
+pub(crate) fn finish_service(closed: &End<'_>, part: ServicePart) -> Result<Service, XmlReadError>
+    ensures { (v : SpecVersion) → Gives service_tree (closed.now.place + 1)
+        (record_end service closed.now.element.now.local_name v closed.now.place
+        (service_part part)) result }
 {
     let ServicePart {
         naming: read,
         access,
         contents,
     } = part;
-    match finish_naming(alloc, place, element, read) {
+    match finish_naming(closed, read) {
         Ok(naming) => Ok(assemble(naming, access, contents)),
         Err(error) => {
             drop(access);

@@ -11,11 +11,11 @@ use Rattle.cdx_component.proofs.reading.finish.finish_component.Goals as goal
 
 pub returns-in-Err : goal.returns-in-Err
 returns-in-Err c =
-    first_fails c.in-Err.error (c.args.place + 1) (ended (rows component) (component_part c.args.part) c.args.v c.args.element.now.local_name c.args.place) (λ us. Ok (fields component us))
-    (component_lacks c.args.part c.args.v c.args.element.now.local_name c.args.place c.in-Err.error (c.args.place + 1) c.in-Err.ensures)
+    first_fails c.in-Err.error (c.args.closed.now.place + 1) (ended (rows component) (component_part c.args.part) c.args.closed.now.version c.args.closed.now.element.now.local_name c.args.closed.now.place) (λ us. Ok (fields component us))
+    (component_lacks c.args.part c.args.closed.now.version c.args.closed.now.element.now.local_name c.args.closed.now.place c.in-Err.error (c.args.closed.now.place + 1) c.in-Err.ensures)
 
 pub returns-in-Ok : goal.returns-in-Ok
 returns-in-Ok c =
     let rest = λ (ns : Trees). origin_trees c.args.part.origin ⧺ (ns ⧺ (marks_trees c.args.part.marks ⧺ contents_trees c.args.part.contents)) in
-    ap (λ r. r >>= λ us. Ok (fields component us)) (component_ends c.args.part c.args.v c.args.element.now.local_name c.args.place ∙ ap (λ r. r >>= λ ns. Ok (rest ns)) c.in-Ok.ensures)
+    ap (λ r. r >>= λ us. Ok (fields component us)) (component_ends c.args.part c.args.closed.now.version c.args.closed.now.element.now.local_name c.args.closed.now.place ∙ ap (λ r. r >>= λ ns. Ok (rest ns)) c.in-Ok.ensures)
     ∙ ap (λ t. Ok t) (sym c.assemble.ensures)

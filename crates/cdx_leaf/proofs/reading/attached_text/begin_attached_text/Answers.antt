@@ -9,5 +9,5 @@ use Rattle.cdx_leaf.proofs.reading.attached_text.begin_attached_text.Goals as go
 pub returns : goal.returns
 unfolding rows
 returns c =
-    row_ok (reverse c.args.attributes.now) c.args.version c.args.element.now.local_name c.args.place _ _ _ _ (maybe_row (reverse c.args.attributes.now) c.args.version c.args.element.now.local_name c.args.place (codes "content-type") (member (codes "contentType")) _ V1_3 _ c.in_ok-content_type.ensures)
-    (row_ok (reverse c.args.attributes.now) c.args.version c.args.element.now.local_name c.args.place _ _ _ _ (maybe_row (reverse c.args.attributes.now) c.args.version c.args.element.now.local_name c.args.place (codes "encoding") (member (codes "encoding")) _ V1_3 _ c.in_ok-encoding.ensures) (row_ok (reverse c.args.attributes.now) c.args.version c.args.element.now.local_name c.args.place _ _ _ _ refl (rows_end (reverse c.args.attributes.now) c.args.version c.args.element.now.local_name c.args.place)))
+    row_ok (reverse c.args.opened.now.attributes.now) c.args.opened.now.version c.args.opened.now.element.now.local_name c.args.opened.now.place _ _ _ _ (maybe_row (reverse c.args.opened.now.attributes.now) c.args.opened.now.version c.args.opened.now.element.now.local_name c.args.opened.now.place (codes "content-type") (member (codes "contentType")) _ V1_3 _ c.in_ok-content_type.ensures)
+    (row_ok (reverse c.args.opened.now.attributes.now) c.args.opened.now.version c.args.opened.now.element.now.local_name c.args.opened.now.place _ _ _ _ (maybe_row (reverse c.args.opened.now.attributes.now) c.args.opened.now.version c.args.opened.now.element.now.local_name c.args.opened.now.place (codes "encoding") (member (codes "encoding")) _ V1_3 _ c.in_ok-encoding.ensures) (row_ok (reverse c.args.opened.now.attributes.now) c.args.opened.now.version c.args.opened.now.element.now.local_name c.args.opened.now.place _ _ _ _ refl (rows_end (reverse c.args.opened.now.attributes.now) c.args.opened.now.version c.args.opened.now.element.now.local_name c.args.opened.now.place)))

@@ -9,5 +9,5 @@ use Rattle.cdx_license.proofs.reading.ExpressionTextRecord.begin.Goals as goal
 pub returns : goal.returns
 unfolding rows
 returns c =
-    row_ok c.args.attributes.now c.args._v c.args._element.now.local_name c.args._place _ _ _ _ (maybe_row c.args.attributes.now c.args._v c.args._element.now.local_name c.args._place (codes "bom-ref") (member (codes "bom-ref")) _ V1_3 _ c.in_ok-attribute_or_none.ensures)
-    (row_ok c.args.attributes.now c.args._v c.args._element.now.local_name c.args._place _ _ _ _ refl (rows_end c.args.attributes.now c.args._v c.args._element.now.local_name c.args._place))
+    row_ok c.args.opened.now.attributes.now c.args.opened.now.version c.args.opened.now.element.now.local_name c.args.opened.now.place _ _ _ _ (maybe_row c.args.opened.now.attributes.now c.args.opened.now.version c.args.opened.now.element.now.local_name c.args.opened.now.place (codes "bom-ref") (member (codes "bom-ref")) _ V1_3 _ c.in_ok-attribute_or_none.ensures)
+    (row_ok c.args.opened.now.attributes.now c.args.opened.now.version c.args.opened.now.element.now.local_name c.args.opened.now.place _ _ _ _ refl (rows_end c.args.opened.now.attributes.now c.args.opened.now.version c.args.opened.now.element.now.local_name c.args.opened.now.place))

@@ -16,9 +16,9 @@ pub returns-in_err-license_identifier : goal.returns-in_err-license_identifier
 unfolding rows ended
 returns-in_err-license_identifier c =
     let q = err_from_is_err_and c.from_residual.result c.from_residual.ensures.1 in
-    rw (q.1, q.2) (fails_along c.in_err-license_identifier.field-0.0 _ (or_fault c.args.part.license_identifier (lacking c.args.place c.args.element.now.local_name (codes "id or name"))) (ended (rows license) (license_part c.args.part) c.args._v c.args.element.now.local_name c.args.place)
-    (λ f is. let e = or_fault_err c.args.part.license_identifier (lacking c.args.place c.args.element.now.local_name (codes "id or name")) f is in rw (e.0) (ap (λ x. Err x) e.1)) c.in_err-license_identifier.ensures)
+    rw (q.1, q.2) (fails_along c.in_err-license_identifier.field-0.0 _ (or_fault c.args.part.license_identifier (lacking c.args.closed.now.place c.args.closed.now.element.now.local_name (codes "id or name"))) (ended (rows license) (license_part c.args.part) c.args.closed.now.version c.args.closed.now.element.now.local_name c.args.closed.now.place)
+    (λ f is. let e = or_fault_err c.args.part.license_identifier (lacking c.args.closed.now.place c.args.closed.now.element.now.local_name (codes "id or name")) f is in rw (e.0) (ap (λ x. Err x) e.1)) c.in_err-license_identifier.ensures)
 
 pub returns : goal.returns
 unfolding rows ended
-returns c = rw (or_fault_ok c.args.part.license_identifier (lacking c.args.place c.args.element.now.local_name (codes "id or name")) c.in_ok-license_identifier.license_identifier c.in_ok-license_identifier.ensures, identifier_there c.in_ok-license_identifier.license_identifier) refl
+returns c = rw (or_fault_ok c.args.part.license_identifier (lacking c.args.closed.now.place c.args.closed.now.element.now.local_name (codes "id or name")) c.in_ok-license_identifier.license_identifier c.in_ok-license_identifier.ensures, identifier_there c.in_ok-license_identifier.license_identifier) refl

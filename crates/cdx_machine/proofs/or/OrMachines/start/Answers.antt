@@ -5,7 +5,7 @@ use Rattle.cdx_machine.proofs.or.OrMachines.start.Goals as goal
 
 pub returns-then-position-eq0-clause-starts : goal.returns-then-position-eq0-clause-starts
 returns-then-position-eq0-clause-starts g c = λ k at.
-    subst (λ k. StartsAs g.M.Machine.holds k c.args.v c.args.place c.args.element.now c.args.attributes.now (Ok c.in_ok-start.field-0)) (first_is g.M.Machine.kind k g.R.Machines.kinds c.args.position c.if-position-eq0.true at) c.in_ok-start.ensures
+    subst (λ k. StartsAs g.M.Machine.holds k c.args.opened.now.version c.args.opened.now.place c.args.opened.now.element.now c.args.opened.now.attributes.now (Ok c.in_ok-start.field-0)) (first_is g.M.Machine.kind k g.R.Machines.kinds c.args.position c.if-position-eq0.true at) c.in_ok-start.ensures
 
 pub returns-clause-starts : goal.returns-clause-starts
 returns-clause-starts g c = λ k at. c.in_ok-start-2.ensures.starts k (other_is g.M.Machine.kind k g.R.Machines.kinds c.args.position c.if-position-eq0.false at)

@@ -25,4 +25,4 @@ returns-in_ok-finish_tools-in-Tools-clause-gives c = rw c.in-Tools.is c.in_ok-fi
 
 pub returns-in-Metadata-clause-gives : goal.returns-in-Metadata-clause-gives
 returns-in-Metadata-clause-gives c =
-    rw c.in-Metadata.is (metadata_ends c.in-Metadata.part (metadata_tree c.finish_metadata.result) c.args.v c.args.element.now.local_name c.args.place c.finish_metadata.ensures)
+    rw c.in-Metadata.is (metadata_ends c.in-Metadata.part (metadata_tree c.finish_metadata.result) c.args.closed.now.version c.args.closed.now.element.now.local_name c.args.closed.now.place c.finish_metadata.ensures)

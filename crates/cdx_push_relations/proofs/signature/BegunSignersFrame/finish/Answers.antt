@@ -3,4 +3,4 @@ use Rattle.cdx_push_relations.proofs.Signing.{signers_end}
 use Rattle.cdx_push_relations.proofs.signature.BegunSignersFrame.finish.Goals as goal
 
 pub returns : goal.returns
-returns c = signers_end signer_tree c.args.self.items c.args._element.now.local_name c.args._v c.args._place
+returns c = signers_end signer_tree c.args.self.items c.args._closed.now.element.now.local_name c.args._closed.now.version c.args._closed.now.place

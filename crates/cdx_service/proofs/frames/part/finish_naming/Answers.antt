@@ -15,11 +15,11 @@ use Rattle.cdx_service.proofs.frames.part.finish_naming.Goals as goal
 pub returns-in_err-name : goal.returns-in_err-name
 unfolding rows ended
 returns-in_err-name c = λ v.
-    let fault = lacking c.args.place c.args.element.now.local_name (codes "name") in
+    let fault = lacking c.args.closed.now.place c.args.closed.now.element.now.local_name (codes "name") in
     let q = err_from_is_err_and c.from_residual.result c.from_residual.ensures.1 in
-    rw (q.1, q.2) (fails_along c.in_err-name.field-0.0 _ (or_fault c.args.part.name fault) (ended (group 0 service) (naming_part c.args.part) v c.args.element.now.local_name c.args.place)
+    rw (q.1, q.2) (fails_along c.in_err-name.field-0.0 _ (or_fault c.args.part.name fault) (ended (group 0 service) (naming_part c.args.part) v c.args.closed.now.element.now.local_name c.args.closed.now.place)
     (λ f is. let e = or_fault_err c.args.part.name fault f is in rw (e.0) (ap (λ x. Err x) e.1)) c.in_err-name.ensures)
 
 pub returns : goal.returns
 unfolding rows ended
-returns c = λ v. rw (or_fault_ok c.args.part.name (lacking c.args.place c.args.element.now.local_name (codes "name")) c.in_ok-name.name c.in_ok-name.ensures) refl
+returns c = λ v. rw (or_fault_ok c.args.part.name (lacking c.args.closed.now.place c.args.closed.now.element.now.local_name (codes "name")) c.in_ok-name.name c.in_ok-name.ensures) refl

@@ -15,10 +15,10 @@ pub returns-in_err-classification : goal.returns-in_err-classification
 unfolding rows ended
 returns-in_err-classification c =
     let q = err_from_is_err_and c.from_residual.result c.from_residual.ensures.1 in
-    let fault = lacking c.args.place c.args.element.now.local_name (codes "classification") in
-    rw (q.1, q.2) (fails_along c.in_err-classification.field-0.0 _ (or_fault c.args.part.classification fault) (ended (rows service_data) (service_data_part c.args.part) c.args._v c.args.element.now.local_name c.args.place)
+    let fault = lacking c.args.closed.now.place c.args.closed.now.element.now.local_name (codes "classification") in
+    rw (q.1, q.2) (fails_along c.in_err-classification.field-0.0 _ (or_fault c.args.part.classification fault) (ended (rows service_data) (service_data_part c.args.part) c.args.closed.now.version c.args.closed.now.element.now.local_name c.args.closed.now.place)
     (λ f is. let e = or_fault_err c.args.part.classification fault f is in rw (e.0) (ap (λ x. Err x) e.1)) c.in_err-classification.ensures)
 
 pub returns : goal.returns
 unfolding rows ended
-returns c = rw (or_fault_ok c.args.part.classification (lacking c.args.place c.args.element.now.local_name (codes "classification")) c.in_ok-classification.classification c.in_ok-classification.ensures) refl
+returns c = rw (or_fault_ok c.args.part.classification (lacking c.args.closed.now.place c.args.closed.now.element.now.local_name (codes "classification")) c.in_ok-classification.classification c.in_ok-classification.ensures) refl

@@ -11,8 +11,8 @@ unfolding rows
 returns-in_err-attribute_or_error c =
     let q = err_from_is_err_and c.from_residual.result c.from_residual.ensures.1 in
     let e = c.in_err-attribute_or_error.field-0.0 in
-    rw (q.1, q.2) (row_fails c.args.attributes.now c.args._version c.args.element.now.local_name c.args.place _ _ e _ (must_row_fails c.args.attributes.now c.args._version c.args.element.now.local_name c.args.place (codes "type") (member (codes "type")) e _ c.in_err-attribute_or_error.ensures))
+    rw (q.1, q.2) (row_fails c.args.opened.now.attributes.now c.args.opened.now.version c.args.opened.now.element.now.local_name c.args.opened.now.place _ _ e _ (must_row_fails c.args.opened.now.attributes.now c.args.opened.now.version c.args.opened.now.element.now.local_name c.args.opened.now.place (codes "type") (member (codes "type")) e _ c.in_err-attribute_or_error.ensures))
 
 pub returns : goal.returns
 unfolding rows
-returns c = (row_ok c.args.attributes.now c.args._version c.args.element.now.local_name c.args.place _ _ _ _ (must_row c.args.attributes.now c.args._version c.args.element.now.local_name c.args.place (codes "type") (member (codes "type")) _ c.in_ok-attribute_or_error.ensures) (row_ok c.args.attributes.now c.args._version c.args.element.now.local_name c.args.place _ _ _ _ refl (row_ok c.args.attributes.now c.args._version c.args.element.now.local_name c.args.place _ _ _ _ refl (row_ok c.args.attributes.now c.args._version c.args.element.now.local_name c.args.place _ _ _ _ refl (rows_end c.args.attributes.now c.args._version c.args.element.now.local_name c.args.place)))))
+returns c = (row_ok c.args.opened.now.attributes.now c.args.opened.now.version c.args.opened.now.element.now.local_name c.args.opened.now.place _ _ _ _ (must_row c.args.opened.now.attributes.now c.args.opened.now.version c.args.opened.now.element.now.local_name c.args.opened.now.place (codes "type") (member (codes "type")) _ c.in_ok-attribute_or_error.ensures) (row_ok c.args.opened.now.attributes.now c.args.opened.now.version c.args.opened.now.element.now.local_name c.args.opened.now.place _ _ _ _ refl (row_ok c.args.opened.now.attributes.now c.args.opened.now.version c.args.opened.now.element.now.local_name c.args.opened.now.place _ _ _ _ refl (row_ok c.args.opened.now.attributes.now c.args.opened.now.version c.args.opened.now.element.now.local_name c.args.opened.now.place _ _ _ _ refl (rows_end c.args.opened.now.attributes.now c.args.opened.now.version c.args.opened.now.element.now.local_name c.args.opened.now.place)))))

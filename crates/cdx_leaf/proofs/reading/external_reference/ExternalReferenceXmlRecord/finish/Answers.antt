@@ -16,9 +16,9 @@ pub returns-in_err-url : goal.returns-in_err-url
 unfolding rows ended
 returns-in_err-url c =
     let q = err_from_is_err_and c.from_residual.result c.from_residual.ensures.1 in
-    rw (q.1, q.2) (fails_along c.in_err-url.field-0.0 _ (or_fault c.args.part.url (lacking c.args.place c.args.element.now.local_name (codes "url"))) (ended (rows reference) (reference_part c.args.part) c.args._version c.args.element.now.local_name c.args.place)
-    (λ f is. let e = or_fault_err c.args.part.url (lacking c.args.place c.args.element.now.local_name (codes "url")) f is in rw (e.0) (ap (λ x. Err x) e.1)) c.in_err-url.ensures)
+    rw (q.1, q.2) (fails_along c.in_err-url.field-0.0 _ (or_fault c.args.part.url (lacking c.args.closed.now.place c.args.closed.now.element.now.local_name (codes "url"))) (ended (rows reference) (reference_part c.args.part) c.args.closed.now.version c.args.closed.now.element.now.local_name c.args.closed.now.place)
+    (λ f is. let e = or_fault_err c.args.part.url (lacking c.args.closed.now.place c.args.closed.now.element.now.local_name (codes "url")) f is in rw (e.0) (ap (λ x. Err x) e.1)) c.in_err-url.ensures)
 
 pub returns : goal.returns
 unfolding rows ended
-returns c = rw (or_fault_ok c.args.part.url (lacking c.args.place c.args.element.now.local_name (codes "url")) c.in_ok-url.url c.in_ok-url.ensures, c.from_text.ensures, text_of_uri c.in_ok-url.url) refl
+returns c = rw (or_fault_ok c.args.part.url (lacking c.args.closed.now.place c.args.closed.now.element.now.local_name (codes "url")) c.in_ok-url.url c.in_ok-url.ensures, c.from_text.ensures, text_of_uri c.in_ok-url.url) refl

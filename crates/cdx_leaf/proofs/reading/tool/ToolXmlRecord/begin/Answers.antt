@@ -5,4 +5,4 @@ use Rattle.cdx_leaf.proofs.reading.tool.ToolXmlRecord.begin.Goals as goal
 
 pub returns : goal.returns
 unfolding rows
-returns c = (row_ok c.args._attributes.now c.args._version c.args._element.now.local_name c.args._place _ _ _ _ refl (row_ok c.args._attributes.now c.args._version c.args._element.now.local_name c.args._place _ _ _ _ refl (row_ok c.args._attributes.now c.args._version c.args._element.now.local_name c.args._place _ _ _ _ refl (row_ok c.args._attributes.now c.args._version c.args._element.now.local_name c.args._place _ _ _ _ refl (row_ok c.args._attributes.now c.args._version c.args._element.now.local_name c.args._place _ _ _ _ refl (rows_end c.args._attributes.now c.args._version c.args._element.now.local_name c.args._place))))))
+returns c = (row_ok c.args._opened.now.attributes.now c.args._opened.now.version c.args._opened.now.element.now.local_name c.args._opened.now.place _ _ _ _ refl (row_ok c.args._opened.now.attributes.now c.args._opened.now.version c.args._opened.now.element.now.local_name c.args._opened.now.place _ _ _ _ refl (row_ok c.args._opened.now.attributes.now c.args._opened.now.version c.args._opened.now.element.now.local_name c.args._opened.now.place _ _ _ _ refl (row_ok c.args._opened.now.attributes.now c.args._opened.now.version c.args._opened.now.element.now.local_name c.args._opened.now.place _ _ _ _ refl (row_ok c.args._opened.now.attributes.now c.args._opened.now.version c.args._opened.now.element.now.local_name c.args._opened.now.place _ _ _ _ refl (rows_end c.args._opened.now.attributes.now c.args._opened.now.version c.args._opened.now.element.now.local_name c.args._opened.now.place))))))

@@ -8,4 +8,4 @@ use Rattle.cdx_relations.proofs.reading.composition.CompositionXmlRecord.begin.G
 
 pub returns : goal.returns
 unfolding rows
-returns c = (row_ok c.args.attributes.now c.args.v c.args._element.now.local_name c.args._place _ _ _ _ (maybe_row c.args.attributes.now c.args.v c.args._element.now.local_name c.args._place (codes "bom-ref") (member (codes "bom-ref")) _ V1_5 _ c.in_ok-attribute_since.ensures) (row_ok c.args.attributes.now c.args.v c.args._element.now.local_name c.args._place _ _ _ _ refl (row_ok c.args.attributes.now c.args.v c.args._element.now.local_name c.args._place _ _ _ _ refl (row_ok c.args.attributes.now c.args.v c.args._element.now.local_name c.args._place _ _ _ _ refl (row_ok c.args.attributes.now c.args.v c.args._element.now.local_name c.args._place _ _ _ _ refl (row_ok c.args.attributes.now c.args.v c.args._element.now.local_name c.args._place _ _ _ _ refl (rows_end c.args.attributes.now c.args.v c.args._element.now.local_name c.args._place)))))))
+returns c = (row_ok c.args.opened.now.attributes.now c.args.opened.now.version c.args.opened.now.element.now.local_name c.args.opened.now.place _ _ _ _ (maybe_row c.args.opened.now.attributes.now c.args.opened.now.version c.args.opened.now.element.now.local_name c.args.opened.now.place (codes "bom-ref") (member (codes "bom-ref")) _ V1_5 _ c.in_ok-attribute_since.ensures) (row_ok c.args.opened.now.attributes.now c.args.opened.now.version c.args.opened.now.element.now.local_name c.args.opened.now.place _ _ _ _ refl (row_ok c.args.opened.now.attributes.now c.args.opened.now.version c.args.opened.now.element.now.local_name c.args.opened.now.place _ _ _ _ refl (row_ok c.args.opened.now.attributes.now c.args.opened.now.version c.args.opened.now.element.now.local_name c.args.opened.now.place _ _ _ _ refl (row_ok c.args.opened.now.attributes.now c.args.opened.now.version c.args.opened.now.element.now.local_name c.args.opened.now.place _ _ _ _ refl (row_ok c.args.opened.now.attributes.now c.args.opened.now.version c.args.opened.now.element.now.local_name c.args.opened.now.place _ _ _ _ refl (rows_end c.args.opened.now.attributes.now c.args.opened.now.version c.args.opened.now.element.now.local_name c.args.opened.now.place)))))))

@@ -15,9 +15,9 @@ pub returns-in_err-aggregate : goal.returns-in_err-aggregate
 unfolding rows ended
 returns-in_err-aggregate c =
     let q = err_from_is_err_and c.from_residual.result c.from_residual.ensures.1 in
-    rw (q.1, q.2) (fails_along c.in_err-aggregate.field-0.0 _ (or_fault c.args.part.aggregate (lacking c.args.place c.args.element.now.local_name (codes "aggregate"))) (ended (rows composition) (composition_part c.args.part) c.args._v c.args.element.now.local_name c.args.place)
-    (λ f is. let e = or_fault_err c.args.part.aggregate (lacking c.args.place c.args.element.now.local_name (codes "aggregate")) f is in rw (e.0) (ap (λ x. Err x) e.1)) c.in_err-aggregate.ensures)
+    rw (q.1, q.2) (fails_along c.in_err-aggregate.field-0.0 _ (or_fault c.args.part.aggregate (lacking c.args.closed.now.place c.args.closed.now.element.now.local_name (codes "aggregate"))) (ended (rows composition) (composition_part c.args.part) c.args.closed.now.version c.args.closed.now.element.now.local_name c.args.closed.now.place)
+    (λ f is. let e = or_fault_err c.args.part.aggregate (lacking c.args.closed.now.place c.args.closed.now.element.now.local_name (codes "aggregate")) f is in rw (e.0) (ap (λ x. Err x) e.1)) c.in_err-aggregate.ensures)
 
 pub returns : goal.returns
 unfolding rows ended
-returns c = rw (or_fault_ok c.args.part.aggregate (lacking c.args.place c.args.element.now.local_name (codes "aggregate")) c.in_ok-aggregate.aggregate c.in_ok-aggregate.ensures) refl
+returns c = rw (or_fault_ok c.args.part.aggregate (lacking c.args.closed.now.place c.args.closed.now.element.now.local_name (codes "aggregate")) c.in_ok-aggregate.aggregate c.in_ok-aggregate.ensures) refl

@@ -13,8 +13,8 @@ unfolding rows
 returns-in_err-attribute_or_error c =
     let q = err_from_is_err_and c.from_residual.result c.from_residual.ensures.1 in
     let e = c.in_err-attribute_or_error.field-0.0 in
-    rw (q.1, q.2) (row_fails c.args.attributes.now c.args._v c.args.element.now.local_name c.args.place _ _ e _ (must_row_fails c.args.attributes.now c.args._v c.args.element.now.local_name c.args.place (codes "ref") (member (codes "ref")) e _ c.in_err-attribute_or_error.ensures))
+    rw (q.1, q.2) (row_fails c.args.opened.now.attributes.now c.args.opened.now.version c.args.opened.now.element.now.local_name c.args.opened.now.place _ _ e _ (must_row_fails c.args.opened.now.attributes.now c.args.opened.now.version c.args.opened.now.element.now.local_name c.args.opened.now.place (codes "ref") (member (codes "ref")) e _ c.in_err-attribute_or_error.ensures))
 
 pub returns : goal.returns
 unfolding rows
-returns c = (row_ok c.args.attributes.now c.args._v c.args.element.now.local_name c.args.place _ _ _ _ (must_row c.args.attributes.now c.args._v c.args.element.now.local_name c.args.place (codes "ref") (member (codes "ref")) _ c.in_ok-attribute_or_error.ensures) (row_ok c.args.attributes.now c.args._v c.args.element.now.local_name c.args.place _ _ _ _ (ap (λ l. Ok (collected text l)) (sym c.new.ensures)) (rows_end c.args.attributes.now c.args._v c.args.element.now.local_name c.args.place)))
+returns c = (row_ok c.args.opened.now.attributes.now c.args.opened.now.version c.args.opened.now.element.now.local_name c.args.opened.now.place _ _ _ _ (must_row c.args.opened.now.attributes.now c.args.opened.now.version c.args.opened.now.element.now.local_name c.args.opened.now.place (codes "ref") (member (codes "ref")) _ c.in_ok-attribute_or_error.ensures) (row_ok c.args.opened.now.attributes.now c.args.opened.now.version c.args.opened.now.element.now.local_name c.args.opened.now.place _ _ _ _ (ap (λ l. Ok (collected text l)) (sym c.new.ensures)) (rows_end c.args.opened.now.attributes.now c.args.opened.now.version c.args.opened.now.element.now.local_name c.args.opened.now.place)))
