@@ -16,6 +16,7 @@ use cdx_events::List;
 use cdx_json::ToJson;
 use cdx_leaf::FromXmlDocument;
 use cdx_models::SpecVersion;
+use cdx_schema::Target;
 use std::alloc::{AllocError, Global};
 
 /// The document is one of the schema: the value that it holds, or the root that its events are the document of.
@@ -51,7 +52,13 @@ fn spell(alloc: Global, bill: &Bom, hop: Hop) -> Result<Doc, AllocError>
 {
     match hop.form {
         Form::Json => Ok(Doc::Json(bill.to_value(alloc, hop.version)?)),
-        Form::Xml => Ok(Doc::Xml(events_of(bill, alloc, hop.version)?)),
+        Form::Xml => Ok(Doc::Xml(events_of(
+            bill,
+            Target {
+                alloc,
+                version: hop.version,
+            },
+        )?)),
     }
 }
 

@@ -4,30 +4,23 @@ ghost use Rattle.std.specs.Prelude.{refl, codes};
 
 use crate::{Commit, Commits, IdentifiableAction};
 use cdx_events::{EventWriter, List, OwnedAttribute};
-use cdx_models::{SpecVersion, XmlWriteError};
-use cdx_write::{Element, HasContent, Item, Tagged, WrittenRecord, put_child, write_list};
-use std::alloc::{AllocError, Global};
+use cdx_schema::Target;
+use cdx_write::{
+    Element, HasContent, Item, Tagged, WriteResult, WrittenRecord, put_child, write_list,
+};
+use std::alloc::AllocError;
 
 impl WrittenRecord for IdentifiableAction {
     #[tactic(auto, unfolding(cdx_write::proofs::OnRows::on_rows))]
-    fn attributes(
-        &self,
-        alloc: Global,
-        _w: SpecVersion,
-    ) -> Result<List<OwnedAttribute>, AllocError> {
-        Ok(List::new(alloc))
+    fn attributes(&self, target: Target) -> Result<List<OwnedAttribute>, AllocError> {
+        Ok(List::new(target.alloc))
     }
 
     #[tactic(auto, unfolding(cdx_write::proofs::OnRows::on_rows), using(cdx_write::proofs::OnRows::in_turn))]
-    fn write_rows(
-        &self,
-        alloc: Global,
-        writer: &mut EventWriter,
-        w: SpecVersion,
-    ) -> Result<(), XmlWriteError> {
-        put_child(alloc, writer, w, "timestamp", &self.timestamp)?;
-        put_child(alloc, writer, w, "name", &self.name)?;
-        put_child(alloc, writer, w, "email", &self.email)
+    fn write_rows(&self, writer: &mut EventWriter, target: Target) -> WriteResult {
+        put_child(writer, "timestamp", &self.timestamp, target)?;
+        put_child(writer, "name", &self.name, target)?;
+        put_child(writer, "email", &self.email, target)
     }
 }
 
@@ -39,26 +32,17 @@ impl HasContent for IdentifiableAction {
 
 impl WrittenRecord for Commit {
     #[tactic(auto, unfolding(cdx_write::proofs::OnRows::on_rows))]
-    fn attributes(
-        &self,
-        alloc: Global,
-        _w: SpecVersion,
-    ) -> Result<List<OwnedAttribute>, AllocError> {
-        Ok(List::new(alloc))
+    fn attributes(&self, target: Target) -> Result<List<OwnedAttribute>, AllocError> {
+        Ok(List::new(target.alloc))
     }
 
     #[tactic(auto, unfolding(cdx_write::proofs::OnRows::on_rows), using(cdx_write::proofs::OnRows::in_turn))]
-    fn write_rows(
-        &self,
-        alloc: Global,
-        writer: &mut EventWriter,
-        w: SpecVersion,
-    ) -> Result<(), XmlWriteError> {
-        put_child(alloc, writer, w, "uid", &self.uid)?;
-        put_child(alloc, writer, w, "url", &self.url)?;
-        put_child(alloc, writer, w, "author", &self.author)?;
-        put_child(alloc, writer, w, "committer", &self.committer)?;
-        put_child(alloc, writer, w, "message", &self.message)
+    fn write_rows(&self, writer: &mut EventWriter, target: Target) -> WriteResult {
+        put_child(writer, "uid", &self.uid, target)?;
+        put_child(writer, "url", &self.url, target)?;
+        put_child(writer, "author", &self.author, target)?;
+        put_child(writer, "committer", &self.committer, target)?;
+        put_child(writer, "message", &self.message, target)
     }
 }
 
@@ -86,14 +70,8 @@ impl Element for Commits {
     ghost keeps = { refl };
 
     #[tactic(auto, unfolding(cdx_schema::specs::Table::list))]
-    fn write_as(
-        &self,
-        alloc: Global,
-        writer: &mut EventWriter,
-        w: SpecVersion,
-        tag: &str,
-    ) -> Result<(), XmlWriteError> {
-        write_list(alloc, writer, w, tag, "commit", &self.0)
+    fn write_as(&self, writer: &mut EventWriter, tag: &str, target: Target) -> WriteResult {
+        write_list(writer, tag, "commit", &self.0, target)
     }
 }
 

@@ -7,22 +7,15 @@ mod rows;
 
 use crate::component::{Component, Components, Pedigree};
 use cdx_events::EventWriter;
-use cdx_models::{SpecVersion, XmlWriteError};
-use cdx_write::{Element, HasContent, Item, Tagged, is_there};
+use cdx_schema::Target;
+use cdx_write::{Element, HasContent, Item, Tagged, WriteResult, is_there};
 use elements::{write_component, write_components, write_pedigree};
-use std::alloc::Global;
 
 impl Element for Component {
     ghost keeps = { refl };
 
-    fn write_as(
-        &self,
-        alloc: Global,
-        writer: &mut EventWriter,
-        w: SpecVersion,
-        tag: &str,
-    ) -> Result<(), XmlWriteError> {
-        write_component(self, alloc, writer, w, tag)
+    fn write_as(&self, writer: &mut EventWriter, tag: &str, target: Target) -> WriteResult {
+        write_component(self, writer, tag, target)
     }
 }
 
@@ -51,14 +44,8 @@ impl Tagged for Component {
 impl Element for Components {
     ghost keeps = { refl };
 
-    fn write_as(
-        &self,
-        alloc: Global,
-        writer: &mut EventWriter,
-        w: SpecVersion,
-        tag: &str,
-    ) -> Result<(), XmlWriteError> {
-        write_components(self, alloc, writer, w, tag)
+    fn write_as(&self, writer: &mut EventWriter, tag: &str, target: Target) -> WriteResult {
+        write_components(self, writer, tag, target)
     }
 }
 
@@ -80,14 +67,8 @@ impl Tagged for Components {
 impl Element for Pedigree {
     ghost keeps = { refl };
 
-    fn write_as(
-        &self,
-        alloc: Global,
-        writer: &mut EventWriter,
-        w: SpecVersion,
-        tag: &str,
-    ) -> Result<(), XmlWriteError> {
-        write_pedigree(self, alloc, writer, w, tag)
+    fn write_as(&self, writer: &mut EventWriter, tag: &str, target: Target) -> WriteResult {
+        write_pedigree(self, writer, tag, target)
     }
 }
 

@@ -6,38 +6,29 @@ ghost use Rattle.cdx_write.specs.Stays.{evidence_keeps_hollow};
 
 use crate::component::{ComponentEvidence, Copyright, CopyrightTexts, Cpe, MimeType, Swid};
 use cdx_events::{EventWriter, List, OwnedAttribute, Text};
-use cdx_models::{SpecVersion, XmlWriteError};
+use cdx_schema::Target;
 use cdx_write::{
-    Element, Filled, HasContent, Item, Lone, Tagged, WrittenRecord, is_there, put_attribute,
-    put_cdata, put_child, put_required_attribute, write_list, write_lone,
+    Element, Filled, HasContent, Item, Lone, Tagged, WriteResult, WrittenRecord, is_there,
+    put_attribute, put_cdata, put_child, put_required_attribute, write_list, write_lone,
 };
 use std::alloc::{AllocError, Global};
 
 impl WrittenRecord for Swid {
     #[tactic(auto, unfolding(cdx_write::proofs::OnRows::on_rows))]
-    fn attributes(
-        &self,
-        alloc: Global,
-        w: SpecVersion,
-    ) -> Result<List<OwnedAttribute>, AllocError> {
-        let mut attributes = List::new(alloc);
-        put_required_attribute(alloc, &mut attributes, w, "tagId", &self.tag_id)?;
-        put_required_attribute(alloc, &mut attributes, w, "name", &self.name)?;
-        put_attribute(alloc, &mut attributes, w, "version", &self.version)?;
-        put_attribute(alloc, &mut attributes, w, "tagVersion", &self.tag_version)?;
-        put_attribute(alloc, &mut attributes, w, "patch", &self.patch)?;
+    fn attributes(&self, target: Target) -> Result<List<OwnedAttribute>, AllocError> {
+        let mut attributes = List::new(target.alloc);
+        put_required_attribute(&mut attributes, "tagId", &self.tag_id, target)?;
+        put_required_attribute(&mut attributes, "name", &self.name, target)?;
+        put_attribute(&mut attributes, "version", &self.version, target)?;
+        put_attribute(&mut attributes, "tagVersion", &self.tag_version, target)?;
+        put_attribute(&mut attributes, "patch", &self.patch, target)?;
         Ok(attributes)
     }
 
     #[tactic(auto, unfolding(cdx_write::proofs::OnRows::on_rows), using(cdx_write::proofs::OnRows::in_turn))]
-    fn write_rows(
-        &self,
-        alloc: Global,
-        writer: &mut EventWriter,
-        w: SpecVersion,
-    ) -> Result<(), XmlWriteError> {
-        put_child(alloc, writer, w, "text", &self.text)?;
-        put_child(alloc, writer, w, "url", &self.url)
+    fn write_rows(&self, writer: &mut EventWriter, target: Target) -> WriteResult {
+        put_child(writer, "text", &self.text, target)?;
+        put_child(writer, "url", &self.url, target)
     }
 }
 
@@ -66,14 +57,8 @@ impl Lone for Cpe {
 impl Element for Cpe {
     ghost keeps = { refl };
 
-    fn write_as(
-        &self,
-        alloc: Global,
-        writer: &mut EventWriter,
-        w: SpecVersion,
-        tag: &str,
-    ) -> Result<(), XmlWriteError> {
-        write_lone(alloc, writer, w, tag, self)
+    fn write_as(&self, writer: &mut EventWriter, tag: &str, target: Target) -> WriteResult {
+        write_lone(writer, tag, self, target)
     }
 }
 
@@ -101,23 +86,14 @@ impl Lone for MimeType {
 
 impl WrittenRecord for ComponentEvidence {
     #[tactic(auto, unfolding(cdx_write::proofs::OnRows::on_rows))]
-    fn attributes(
-        &self,
-        alloc: Global,
-        w: SpecVersion,
-    ) -> Result<List<OwnedAttribute>, AllocError> {
-        Ok(List::new(alloc))
+    fn attributes(&self, target: Target) -> Result<List<OwnedAttribute>, AllocError> {
+        Ok(List::new(target.alloc))
     }
 
     #[tactic(auto, unfolding(cdx_write::proofs::OnRows::on_rows), using(cdx_write::proofs::OnRows::in_turn))]
-    fn write_rows(
-        &self,
-        alloc: Global,
-        writer: &mut EventWriter,
-        w: SpecVersion,
-    ) -> Result<(), XmlWriteError> {
-        put_child(alloc, writer, w, "licenses", &self.licenses)?;
-        put_child(alloc, writer, w, "copyright", &self.copyright)
+    fn write_rows(&self, writer: &mut EventWriter, target: Target) -> WriteResult {
+        put_child(writer, "licenses", &self.licenses, target)?;
+        put_child(writer, "copyright", &self.copyright, target)
     }
 }
 
@@ -146,22 +122,13 @@ impl Tagged for ComponentEvidence {
 
 impl WrittenRecord for Copyright {
     #[tactic(auto, unfolding(cdx_write::proofs::OnRows::on_rows))]
-    fn attributes(
-        &self,
-        alloc: Global,
-        w: SpecVersion,
-    ) -> Result<List<OwnedAttribute>, AllocError> {
-        Ok(List::new(alloc))
+    fn attributes(&self, target: Target) -> Result<List<OwnedAttribute>, AllocError> {
+        Ok(List::new(target.alloc))
     }
 
     #[tactic(auto, unfolding(cdx_write::proofs::OnRows::on_rows), using(cdx_write::proofs::OnRows::in_turn))]
-    fn write_rows(
-        &self,
-        alloc: Global,
-        writer: &mut EventWriter,
-        w: SpecVersion,
-    ) -> Result<(), XmlWriteError> {
-        put_cdata(alloc, writer, &self.text)
+    fn write_rows(&self, writer: &mut EventWriter, target: Target) -> WriteResult {
+        put_cdata(target.alloc, writer, &self.text)
     }
 }
 
@@ -189,14 +156,8 @@ impl Element for CopyrightTexts {
     ghost keeps = { refl };
 
     #[tactic(auto, unfolding(cdx_schema::specs::Table::list))]
-    fn write_as(
-        &self,
-        alloc: Global,
-        writer: &mut EventWriter,
-        w: SpecVersion,
-        tag: &str,
-    ) -> Result<(), XmlWriteError> {
-        write_list(alloc, writer, w, tag, "text", &self.0)
+    fn write_as(&self, writer: &mut EventWriter, tag: &str, target: Target) -> WriteResult {
+        write_list(writer, tag, "text", &self.0, target)
     }
 }
 

@@ -6,27 +6,32 @@ ghost use Rattle.cdx_schema.specs.Kinds.{licenses};
 
 use crate::license::{Expression, License, LicenseChoice, LicenseIdentifier, Licenses};
 use cdx_events::{EventWriter, List, OwnedAttribute};
-use cdx_models::{SpecVersion, XmlWriteError};
+use cdx_models::SpecVersion;
+use cdx_schema::Target;
 use cdx_write::{
-    Element, HasContent, Item, Tagged, WrittenRecord, put_attribute, put_attribute_since,
-    put_child, put_child_since, put_content, put_required_child, write_list, write_record,
-    write_simple_tag,
+    Element, HasContent, Item, Tagged, WriteResult, WrittenRecord, put_attribute,
+    put_attribute_since, put_child, put_child_since, put_content, put_required_child, write_list,
+    write_record, write_simple_tag,
 };
-use std::alloc::{AllocError, Global};
+use std::alloc::AllocError;
 
 impl Element for LicenseIdentifier {
     ghost keeps = { refl };
 
-    fn write_as(
-        &self,
-        alloc: Global,
-        writer: &mut EventWriter,
-        w: SpecVersion,
-        tag: &str,
-    ) -> Result<(), XmlWriteError> {
+    fn write_as(&self, writer: &mut EventWriter, tag: &str, target: Target) -> WriteResult {
         match self {
-            LicenseIdentifier::SpdxId(held) => write_simple_tag(alloc, writer, "id", held.as_str()),
-            LicenseIdentifier::Name(held) => write_simple_tag(alloc, writer, "name", held.as_str()),
+            LicenseIdentifier::SpdxId(held) => write_simple_tag(
+                target.alloc,
+                writer,
+                "id",
+                held.as_str(),
+            ),
+            LicenseIdentifier::Name(held) => write_simple_tag(
+                target.alloc,
+                writer,
+                "name",
+                held.as_str(),
+            ),
         }
     }
 }
@@ -47,39 +52,28 @@ impl Tagged for LicenseIdentifier {
 
 impl WrittenRecord for License {
     #[tactic(auto, unfolding(cdx_write::proofs::OnRows::on_rows))]
-    fn attributes(
-        &self,
-        alloc: Global,
-        w: SpecVersion,
-    ) -> Result<List<OwnedAttribute>, AllocError> {
-        let mut attributes = List::new(alloc);
+    fn attributes(&self, target: Target) -> Result<List<OwnedAttribute>, AllocError> {
+        let mut attributes = List::new(target.alloc);
         put_attribute_since(
-            alloc,
             &mut attributes,
-            w,
             SpecVersion::V1_5,
             "bom-ref",
             &self.bom_ref,
+            target,
         )?;
         Ok(attributes)
     }
 
-    fn write_rows(
-        &self,
-        alloc: Global,
-        writer: &mut EventWriter,
-        w: SpecVersion,
-    ) -> Result<(), XmlWriteError> {
-        put_required_child(alloc, writer, w, "id", &self.license_identifier)?;
-        put_child(alloc, writer, w, "text", &self.text)?;
-        put_child(alloc, writer, w, "url", &self.url)?;
+    fn write_rows(&self, writer: &mut EventWriter, target: Target) -> WriteResult {
+        put_required_child(writer, "id", &self.license_identifier, target)?;
+        put_child(writer, "text", &self.text, target)?;
+        put_child(writer, "url", &self.url, target)?;
         put_child_since(
-            alloc,
             writer,
-            w,
             SpecVersion::V1_5,
             "properties",
             &self.properties,
+            target,
         )
     }
 }
@@ -100,23 +94,14 @@ impl Tagged for License {
 
 impl WrittenRecord for Expression {
     #[tactic(auto, unfolding(cdx_write::proofs::OnRows::on_rows))]
-    fn attributes(
-        &self,
-        alloc: Global,
-        w: SpecVersion,
-    ) -> Result<List<OwnedAttribute>, AllocError> {
-        let mut attributes = List::new(alloc);
-        put_attribute(alloc, &mut attributes, w, "bom-ref", &self.bom_ref)?;
+    fn attributes(&self, target: Target) -> Result<List<OwnedAttribute>, AllocError> {
+        let mut attributes = List::new(target.alloc);
+        put_attribute(&mut attributes, "bom-ref", &self.bom_ref, target)?;
         Ok(attributes)
     }
 
-    fn write_rows(
-        &self,
-        alloc: Global,
-        writer: &mut EventWriter,
-        w: SpecVersion,
-    ) -> Result<(), XmlWriteError> {
-        put_content(alloc, writer, &self.expression)
+    fn write_rows(&self, writer: &mut EventWriter, target: Target) -> WriteResult {
+        put_content(target.alloc, writer, &self.expression)
     }
 }
 
@@ -137,16 +122,10 @@ impl Tagged for Expression {
 impl Element for LicenseChoice {
     ghost keeps = { refl };
 
-    fn write_as(
-        &self,
-        alloc: Global,
-        writer: &mut EventWriter,
-        w: SpecVersion,
-        tag: &str,
-    ) -> Result<(), XmlWriteError> {
+    fn write_as(&self, writer: &mut EventWriter, tag: &str, target: Target) -> WriteResult {
         match self {
-            LicenseChoice::License(held) => write_record(alloc, writer, w, "license", held),
-            LicenseChoice::Expression(held) => write_record(alloc, writer, w, "expression", held),
+            LicenseChoice::License(held) => write_record(writer, "license", held, target),
+            LicenseChoice::Expression(held) => write_record(writer, "expression", held, target),
         }
     }
 }
@@ -175,14 +154,8 @@ impl Element for Licenses {
     ghost keeps = { refl };
 
     #[tactic(auto, unfolding(cdx_schema::specs::Table::list))]
-    fn write_as(
-        &self,
-        alloc: Global,
-        writer: &mut EventWriter,
-        w: SpecVersion,
-        tag: &str,
-    ) -> Result<(), XmlWriteError> {
-        write_list(alloc, writer, w, tag, "license", &self.0)
+    fn write_as(&self, writer: &mut EventWriter, tag: &str, target: Target) -> WriteResult {
+        write_list(writer, tag, "license", &self.0, target)
     }
 }
 

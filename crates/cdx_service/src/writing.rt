@@ -7,22 +7,15 @@ mod rows;
 
 use crate::service::{Service, Services};
 use cdx_events::EventWriter;
-use cdx_models::{SpecVersion, XmlWriteError};
-use cdx_write::{Element, HasContent, Item, Tagged};
+use cdx_schema::Target;
+use cdx_write::{Element, HasContent, Item, Tagged, WriteResult};
 use elements::{write_service, write_services};
-use std::alloc::Global;
 
 impl Element for Service {
     ghost keeps = { refl };
 
-    fn write_as(
-        &self,
-        alloc: Global,
-        writer: &mut EventWriter,
-        w: SpecVersion,
-        tag: &str,
-    ) -> Result<(), XmlWriteError> {
-        write_service(self, alloc, writer, w, tag)
+    fn write_as(&self, writer: &mut EventWriter, tag: &str, target: Target) -> WriteResult {
+        write_service(self, writer, tag, target)
     }
 }
 
@@ -51,14 +44,8 @@ impl Tagged for Service {
 impl Element for Services {
     ghost keeps = { refl };
 
-    fn write_as(
-        &self,
-        alloc: Global,
-        writer: &mut EventWriter,
-        w: SpecVersion,
-        tag: &str,
-    ) -> Result<(), XmlWriteError> {
-        write_services(self, alloc, writer, w, tag)
+    fn write_as(&self, writer: &mut EventWriter, tag: &str, target: Target) -> WriteResult {
+        write_services(self, writer, tag, target)
     }
 }
 

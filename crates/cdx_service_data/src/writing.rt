@@ -12,32 +12,25 @@ ghost use Rattle.cdx_service_data.specs.Records.{data_tree};
 use crate::service::{Data, DataClassification, ServiceData, classifications};
 use cdx_events::{EventWriter, List, OwnedAttribute};
 use cdx_models::{SpecVersion, XmlWriteError};
+use cdx_schema::Target;
 use cdx_write::{
-    Element, HasContent, Item, Tagged, ToXml, WrittenRecord, put_attribute, put_content,
-    put_required_attribute, put_required_child, write_close_tag, write_items, write_start_tag,
+    Element, HasContent, Item, Tagged, ToXml, WriteResult, WrittenRecord, put_attribute,
+    put_content, put_required_attribute, put_required_child, write_close_tag, write_items,
+    write_start_tag,
 };
 use std::alloc::{AllocError, Global};
 
 impl WrittenRecord for DataClassification {
     #[tactic(auto, unfolding(cdx_write::proofs::OnRows::on_rows))]
-    fn attributes(
-        &self,
-        alloc: Global,
-        w: SpecVersion,
-    ) -> Result<List<OwnedAttribute>, AllocError> {
-        let mut attributes = List::new(alloc);
-        put_required_attribute(alloc, &mut attributes, w, "flow", &self.flow)?;
+    fn attributes(&self, target: Target) -> Result<List<OwnedAttribute>, AllocError> {
+        let mut attributes = List::new(target.alloc);
+        put_required_attribute(&mut attributes, "flow", &self.flow, target)?;
         Ok(attributes)
     }
 
     #[tactic(auto, unfolding(cdx_write::proofs::OnRows::on_rows), using(cdx_write::proofs::OnRows::in_turn))]
-    fn write_rows(
-        &self,
-        alloc: Global,
-        writer: &mut EventWriter,
-        w: SpecVersion,
-    ) -> Result<(), XmlWriteError> {
-        put_content(alloc, writer, &self.classification)
+    fn write_rows(&self, writer: &mut EventWriter, target: Target) -> WriteResult {
+        put_content(target.alloc, writer, &self.classification)
     }
 }
 
@@ -63,25 +56,16 @@ impl Tagged for DataClassification {
 
 impl WrittenRecord for ServiceData {
     #[tactic(auto, unfolding(cdx_write::proofs::OnRows::on_rows))]
-    fn attributes(
-        &self,
-        alloc: Global,
-        w: SpecVersion,
-    ) -> Result<List<OwnedAttribute>, AllocError> {
-        let mut attributes = List::new(alloc);
-        put_attribute(alloc, &mut attributes, w, "name", &self.name)?;
-        put_attribute(alloc, &mut attributes, w, "description", &self.description)?;
+    fn attributes(&self, target: Target) -> Result<List<OwnedAttribute>, AllocError> {
+        let mut attributes = List::new(target.alloc);
+        put_attribute(&mut attributes, "name", &self.name, target)?;
+        put_attribute(&mut attributes, "description", &self.description, target)?;
         Ok(attributes)
     }
 
     #[tactic(auto, unfolding(cdx_write::proofs::OnRows::on_rows), using(cdx_write::proofs::OnRows::in_turn))]
-    fn write_rows(
-        &self,
-        alloc: Global,
-        writer: &mut EventWriter,
-        w: SpecVersion,
-    ) -> Result<(), XmlWriteError> {
-        put_required_child(alloc, writer, w, "classification", &self.classification)
+    fn write_rows(&self, writer: &mut EventWriter, target: Target) -> WriteResult {
+        put_required_child(writer, "classification", &self.classification, target)
     }
 }
 
@@ -121,22 +105,18 @@ fn has_flow(held: &List<ServiceData>, w: SpecVersion) -> bool
 }
 
 /// Appends the entries of what the version keeps. Only want of memory is refused; the writer then has a prefix of that.
-fn write_entries(
-    alloc: Global,
-    writer: &mut EventWriter,
-    w: SpecVersion,
-    held: &Data,
-) -> Result<(), XmlWriteError>
-    ensures { Appends writer.old writer.new (inner (data_tree held.now) w a_data) result }
+fn write_entries(writer: &mut EventWriter, held: &Data, target: Target) -> WriteResult
+    ensures { Appends writer.old writer.new (inner (data_tree held.now) target.version a_data)
+        result }
 {
     match held {
-        Data::Classification(held) => write_items(alloc, writer, w, "classification", held),
+        Data::Classification(held) => write_items(writer, "classification", held, target),
         Data::ServiceData(held) => {
-            if has_flow(held, w) {
-                return write_items(alloc, writer, w, "dataflow", held);
+            if has_flow(held, target.version) {
+                return write_items(writer, "dataflow", held, target);
             }
-            let held = classifications(alloc, held)?;
-            write_items(alloc, writer, w, "classification", &held)
+            let held = classifications(target.alloc, held)?;
+            write_items(writer, "classification", &held, target)
         }
     }
 }
@@ -144,16 +124,10 @@ fn write_entries(
 impl Element for Data {
     ghost keeps = { refl };
 
-    fn write_as(
-        &self,
-        alloc: Global,
-        writer: &mut EventWriter,
-        w: SpecVersion,
-        tag: &str,
-    ) -> Result<(), XmlWriteError> {
-        write_start_tag(alloc, writer, tag)?;
-        write_entries(alloc, writer, w, self)?;
-        write_close_tag(alloc, writer, tag)
+    fn write_as(&self, writer: &mut EventWriter, tag: &str, target: Target) -> WriteResult {
+        write_start_tag(target.alloc, writer, tag)?;
+        write_entries(writer, self, target)?;
+        write_close_tag(target.alloc, writer, tag)
     }
 }
 
@@ -174,7 +148,7 @@ impl ToXml for Data {
         writer: &mut EventWriter,
         w: SpecVersion,
     ) -> Result<(), XmlWriteError> {
-        write_entries(alloc, writer, w, self)
+        write_entries(writer, self, Target { alloc, version: w })
     }
 
     fn will_write(&self) -> bool {

@@ -13,8 +13,9 @@ ghost use Rattle.cdx_write.specs.Writing.{Appends, start_tag, end_tag};
 use crate::signature::{Algorithm, Signature, Signer};
 use cdx_events::{EventWriter, List, OwnedAttribute, Text};
 use cdx_models::{SpecVersion, XmlWriteError};
+use cdx_schema::Target;
 use cdx_write::{
-    Element, HasContent, Item, Lone, Tagged, ToXml, WrittenRecord, put_required_child,
+    Element, HasContent, Item, Lone, Tagged, ToXml, WriteResult, WrittenRecord, put_required_child,
     write_close_tag, write_list, write_lone, write_record, write_start_tag,
 };
 use std::alloc::{AllocError, Global};
@@ -30,35 +31,20 @@ impl Lone for Algorithm {
 impl Element for Algorithm {
     ghost keeps = { refl };
 
-    fn write_as(
-        &self,
-        alloc: Global,
-        writer: &mut EventWriter,
-        w: SpecVersion,
-        tag: &str,
-    ) -> Result<(), XmlWriteError> {
-        write_lone(alloc, writer, w, tag, self)
+    fn write_as(&self, writer: &mut EventWriter, tag: &str, target: Target) -> WriteResult {
+        write_lone(writer, tag, self, target)
     }
 }
 
 impl WrittenRecord for Signer {
     #[tactic(auto, unfolding(cdx_write::proofs::OnRows::on_rows))]
-    fn attributes(
-        &self,
-        alloc: Global,
-        w: SpecVersion,
-    ) -> Result<List<OwnedAttribute>, AllocError> {
-        Ok(List::new(alloc))
+    fn attributes(&self, target: Target) -> Result<List<OwnedAttribute>, AllocError> {
+        Ok(List::new(target.alloc))
     }
 
-    fn write_rows(
-        &self,
-        alloc: Global,
-        writer: &mut EventWriter,
-        w: SpecVersion,
-    ) -> Result<(), XmlWriteError> {
-        put_required_child(alloc, writer, w, "algorithm", &self.algorithm)?;
-        put_required_child(alloc, writer, w, "value", &self.value)
+    fn write_rows(&self, writer: &mut EventWriter, target: Target) -> WriteResult {
+        put_required_child(writer, "algorithm", &self.algorithm, target)?;
+        put_required_child(writer, "value", &self.value, target)
     }
 }
 
@@ -84,7 +70,7 @@ impl ToXml for Signer {
         writer: &mut EventWriter,
         w: SpecVersion,
     ) -> Result<(), XmlWriteError> {
-        self.write_rows(alloc, writer, w)
+        self.write_rows(writer, Target { alloc, version: w })
     }
 
     fn will_write(&self) -> bool {
@@ -94,41 +80,35 @@ impl ToXml for Signer {
 
 /// Signers as the element `name` with each under the name `item_tag`, between the tags of the signature.
 fn write_signers(
-    alloc: Global,
     writer: &mut EventWriter,
-    w: SpecVersion,
     tag: &str,
     name: &str,
     item_tag: &str,
     held: &List<Signer>,
-) -> Result<(), XmlWriteError>
+    target: Target,
+) -> WriteResult
     ensures { (l : Lists) → IsListOf (a_record signer) item_tag.now l
         → Appends writer.old writer.new (start_tag tag.now
-        ∷ written (list_tree signer_tree held.now) w name.now (a_list l) ++ end_tag tag.now
+        ∷ written (list_tree signer_tree held.now) target.version name.now (a_list l)
+        ++ end_tag tag.now
         ∷ [])
         result }
 {
-    write_start_tag(alloc, writer, tag)?;
-    write_list(alloc, writer, w, name, item_tag, held)?;
-    write_close_tag(alloc, writer, tag)
+    write_start_tag(target.alloc, writer, tag)?;
+    write_list(writer, name, item_tag, held, target)?;
+    write_close_tag(target.alloc, writer, tag)
 }
 
 impl Element for Signature {
     ghost keeps = { refl };
 
-    fn write_as(
-        &self,
-        alloc: Global,
-        writer: &mut EventWriter,
-        w: SpecVersion,
-        tag: &str,
-    ) -> Result<(), XmlWriteError> {
+    fn write_as(&self, writer: &mut EventWriter, tag: &str, target: Target) -> WriteResult {
         match self {
             Signature::Signers(held) => {
-                write_signers(alloc, writer, w, tag, "signers", "signer", held)
+                write_signers(writer, tag, "signers", "signer", held, target)
             }
-            Signature::Chain(held) => write_signers(alloc, writer, w, tag, "chain", "chain", held),
-            Signature::Single(held) => write_record(alloc, writer, w, tag, held),
+            Signature::Chain(held) => write_signers(writer, tag, "chain", "chain", held, target),
+            Signature::Single(held) => write_record(writer, tag, held, target),
         }
     }
 }

@@ -6,6 +6,7 @@ use cdx_events::{EventWriter, Events, XmlEvent};
 use cdx_json::{FromJson, Kept, ToJson};
 use cdx_leaf::{FromXml, read_root};
 use cdx_models::SpecVersion;
+use cdx_schema::Target;
 use cdx_write::{Element, ToInnerXml, ToXml, write_close_tag, write_start_tag};
 use serde_json::Value;
 use std::alloc::{AllocError, Global};
@@ -148,7 +149,7 @@ pub fn placed<T: Element>(
     tag: &str,
 ) -> Result<String, Fail> {
     let mut writer = opened(alloc)?;
-    held.write_as(alloc, &mut writer, v, tag)?;
+    held.write_as(&mut writer, tag, Target { alloc, version: v })?;
     closed(alloc, writer)
 }
 

@@ -1,39 +1,26 @@
 //! Attached texts.
 
+use crate::WriteResult;
 use crate::attribute::put_attribute;
 use crate::element::HasContent;
 use crate::record::WrittenRecord;
 use crate::row::put_content;
 use cdx_events::{EventWriter, List, OwnedAttribute};
-use cdx_models::{AttachedText, SpecVersion, XmlWriteError};
-use std::alloc::{AllocError, Global};
+use cdx_models::AttachedText;
+use cdx_schema::Target;
+use std::alloc::AllocError;
 
 impl WrittenRecord for AttachedText {
     #[tactic(auto, unfolding(crate::proofs::OnRows::on_rows))]
-    fn attributes(
-        &self,
-        alloc: Global,
-        w: SpecVersion,
-    ) -> Result<List<OwnedAttribute>, AllocError> {
-        let mut attributes = List::new(alloc);
-        put_attribute(
-            alloc,
-            &mut attributes,
-            w,
-            "content-type",
-            &self.content_type,
-        )?;
-        put_attribute(alloc, &mut attributes, w, "encoding", &self.encoding)?;
+    fn attributes(&self, target: Target) -> Result<List<OwnedAttribute>, AllocError> {
+        let mut attributes = List::new(target.alloc);
+        put_attribute(&mut attributes, "content-type", &self.content_type, target)?;
+        put_attribute(&mut attributes, "encoding", &self.encoding, target)?;
         Ok(attributes)
     }
 
-    fn write_rows(
-        &self,
-        alloc: Global,
-        writer: &mut EventWriter,
-        w: SpecVersion,
-    ) -> Result<(), XmlWriteError> {
-        put_content(alloc, writer, &self.content)
+    fn write_rows(&self, writer: &mut EventWriter, target: Target) -> WriteResult {
+        put_content(target.alloc, writer, &self.content)
     }
 }
 

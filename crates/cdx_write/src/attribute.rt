@@ -7,55 +7,55 @@ ghost use Rattle.cdx_write.specs.WrittenRows.{attribute_put, late_put};
 use crate::element::Lone;
 use cdx_events::{List, OwnedAttribute, OwnedName};
 use cdx_models::SpecVersion;
-use std::alloc::{AllocError, Global};
+use cdx_schema::Target;
+use std::alloc::AllocError;
 
 /// Adds an attribute that is always there.
 pub fn put_required_attribute<T: Lone>(
-    alloc: Global,
     attributes: &mut List<OwnedAttribute>,
-    w: SpecVersion,
     name: &str,
     held: &T,
+    target: Target,
 ) -> Result<(), AllocError>
     ensures { OnOk result (attributes.new
-        ≡ attributes.old ++ attribute_put name.now T.kind (T.tree held.now) w) }
+        ≡ attributes.old ++ attribute_put name.now T.kind (T.tree held.now) target.version) }
 {
-    let name = OwnedName::local(alloc, name)?;
-    let value = held.xml_text(alloc)?;
+    let name = OwnedName::local(target.alloc, name)?;
+    let value = held.xml_text(target.alloc)?;
     attributes.push(OwnedAttribute { name, value })
 }
 
 /// Adds an attribute, where it is there.
 pub fn put_attribute<T: Lone>(
-    alloc: Global,
     attributes: &mut List<OwnedAttribute>,
-    w: SpecVersion,
     name: &str,
     held: &Option<T>,
+    target: Target,
 ) -> Result<(), AllocError>
     ensures { OnOk result (attributes.new
-        ≡ attributes.old ++ attribute_put name.now T.kind (present T.tree held.now) w) }
+        ≡ attributes.old ++ attribute_put name.now T.kind
+        (present T.tree held.now) target.version) }
 {
     match held {
         None => Ok(()),
-        Some(held) => put_required_attribute(alloc, attributes, w, name, held),
+        Some(held) => put_required_attribute(attributes, name, held, target),
     }
 }
 
 /// Adds an attribute, where it is there and the version is not before `since`.
 pub fn put_attribute_since<T: Lone>(
-    alloc: Global,
     attributes: &mut List<OwnedAttribute>,
-    w: SpecVersion,
     since: SpecVersion,
     name: &str,
     held: &Option<T>,
+    target: Target,
 ) -> Result<(), AllocError>
     ensures { OnOk result (attributes.new ≡ attributes.old
-        ++ late_put since w (attribute_put name.now T.kind (present T.tree held.now) w)) }
+        ++ late_put since target.version
+        (attribute_put name.now T.kind (present T.tree held.now) target.version)) }
 {
-    if since.is_known_to(w) {
-        put_attribute(alloc, attributes, w, name, held)
+    if since.is_known_to(target.version) {
+        put_attribute(attributes, name, held, target)
     } else {
         Ok(())
     }

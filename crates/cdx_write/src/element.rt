@@ -9,10 +9,10 @@ ghost use Rattle.cdx_write.specs.Stays.{keeps_presence, KeepsHollow};
 ghost use Rattle.cdx_write.specs.WillWrite.{will_write};
 ghost use Rattle.cdx_write.specs.Writing.{Appends};
 
+use crate::WriteResult;
 use crate::tags::write_simple_tag;
 use cdx_events::{EventWriter, Text};
-use cdx_models::{SpecVersion, XmlWriteError};
-use cdx_schema::Kinded;
+use cdx_schema::{Kinded, Target};
 use std::alloc::{AllocError, Global};
 
 /// A value that is written as one text: an attribute's value, or an element's content.
@@ -28,15 +28,9 @@ pub trait Lone: Kinded {
 pub trait Element: Kinded {
     /// Appends the element of what the version keeps, under the name, unless the kind has a name of its own. Only want
     /// of memory is refused; the writer then has a prefix of that.
-    fn write_as(
-        &self,
-        alloc: Global,
-        writer: &mut EventWriter,
-        w: SpecVersion,
-        tag: &str,
-    ) -> Result<(), XmlWriteError>
+    fn write_as(&self, writer: &mut EventWriter, tag: &str, target: Target) -> WriteResult
         ensures { Appends writer.old writer.new
-            (written (Self.tree self.now) w tag.now Self.kind) result };
+            (written (Self.tree self.now) target.version tag.now Self.kind) result };
 
     ghost keeps: { keeps_presence Self.kind ≡ true };
 }
@@ -77,14 +71,14 @@ pub trait Filled: Element {
 
 /// An element that holds a text alone.
 pub fn write_lone<T: Lone>(
-    alloc: Global,
     writer: &mut EventWriter,
-    w: SpecVersion,
     tag: &str,
     held: &T,
-) -> Result<(), XmlWriteError>
-    ensures { Appends writer.old writer.new (written (T.tree held.now) w tag.now T.kind) result }
+    target: Target,
+) -> WriteResult
+    ensures { Appends writer.old writer.new
+        (written (T.tree held.now) target.version tag.now T.kind) result }
 {
-    let text = held.xml_text(alloc)?;
-    write_simple_tag(alloc, writer, tag, text.as_str())
+    let text = held.xml_text(target.alloc)?;
+    write_simple_tag(target.alloc, writer, tag, text.as_str())
 }

@@ -3,13 +3,15 @@
 ghost use Rattle.std.specs.Prelude.{refl, codes};
 ghost use Rattle.cdx_write.specs.Lone.{text_is_lone};
 
+use crate::WriteResult;
 use crate::attribute::put_required_attribute;
 use crate::element::{Element, HasContent, Item, Lone, Tagged, write_lone};
 use crate::list::write_list;
 use crate::record::WrittenRecord;
 use crate::row::{put_child, put_required_child};
 use cdx_events::{EventWriter, List, OwnedAttribute, Text};
-use cdx_models::{ExternalReference, ExternalReferences, SpecVersion, Uri, XmlWriteError};
+use cdx_models::{ExternalReference, ExternalReferences, Uri};
+use cdx_schema::Target;
 use std::alloc::{AllocError, Global};
 
 impl Lone for Uri {
@@ -23,45 +25,29 @@ impl Lone for Uri {
 impl Element for Uri {
     ghost keeps = { refl };
 
-    fn write_as(
-        &self,
-        alloc: Global,
-        writer: &mut EventWriter,
-        w: SpecVersion,
-        tag: &str,
-    ) -> Result<(), XmlWriteError> {
-        write_lone(alloc, writer, w, tag, self)
+    fn write_as(&self, writer: &mut EventWriter, tag: &str, target: Target) -> WriteResult {
+        write_lone(writer, tag, self, target)
     }
 }
 
 impl WrittenRecord for ExternalReference {
     #[tactic(auto, unfolding(crate::proofs::OnRows::on_rows))]
-    fn attributes(
-        &self,
-        alloc: Global,
-        w: SpecVersion,
-    ) -> Result<List<OwnedAttribute>, AllocError> {
-        let mut attributes = List::new(alloc);
+    fn attributes(&self, target: Target) -> Result<List<OwnedAttribute>, AllocError> {
+        let mut attributes = List::new(target.alloc);
         put_required_attribute(
-            alloc,
             &mut attributes,
-            w,
             "type",
             &self.external_reference_type,
+            target,
         )?;
         Ok(attributes)
     }
 
     #[tactic(auto, unfolding(crate::proofs::OnRows::on_rows), using(crate::proofs::OnRows::in_turn))]
-    fn write_rows(
-        &self,
-        alloc: Global,
-        writer: &mut EventWriter,
-        w: SpecVersion,
-    ) -> Result<(), XmlWriteError> {
-        put_required_child(alloc, writer, w, "url", &self.url)?;
-        put_child(alloc, writer, w, "comment", &self.comment)?;
-        put_child(alloc, writer, w, "hashes", &self.hashes)
+    fn write_rows(&self, writer: &mut EventWriter, target: Target) -> WriteResult {
+        put_required_child(writer, "url", &self.url, target)?;
+        put_child(writer, "comment", &self.comment, target)?;
+        put_child(writer, "hashes", &self.hashes, target)
     }
 }
 
@@ -89,14 +75,8 @@ impl Element for ExternalReferences {
     ghost keeps = { refl };
 
     #[tactic(auto, unfolding(crate::proofs::OnRows::on_rows))]
-    fn write_as(
-        &self,
-        alloc: Global,
-        writer: &mut EventWriter,
-        w: SpecVersion,
-        tag: &str,
-    ) -> Result<(), XmlWriteError> {
-        write_list(alloc, writer, w, tag, "reference", &self.0)
+    fn write_as(&self, writer: &mut EventWriter, tag: &str, target: Target) -> WriteResult {
+        write_list(writer, tag, "reference", &self.0, target)
     }
 }
 

@@ -2,34 +2,27 @@
 
 ghost use Rattle.std.specs.Prelude.{refl, codes};
 
+use crate::WriteResult;
 use crate::attribute::put_required_attribute;
 use crate::element::{Element, HasContent, Item, Tagged};
 use crate::list::write_list;
 use crate::record::WrittenRecord;
 use crate::row::put_content;
 use cdx_events::{EventWriter, List, OwnedAttribute};
-use cdx_models::{Hash, Hashes, SpecVersion, XmlWriteError};
-use std::alloc::{AllocError, Global};
+use cdx_models::{Hash, Hashes};
+use cdx_schema::Target;
+use std::alloc::AllocError;
 
 impl WrittenRecord for Hash {
     #[tactic(auto, unfolding(crate::proofs::OnRows::on_rows))]
-    fn attributes(
-        &self,
-        alloc: Global,
-        w: SpecVersion,
-    ) -> Result<List<OwnedAttribute>, AllocError> {
-        let mut attributes = List::new(alloc);
-        put_required_attribute(alloc, &mut attributes, w, "alg", &self.alg)?;
+    fn attributes(&self, target: Target) -> Result<List<OwnedAttribute>, AllocError> {
+        let mut attributes = List::new(target.alloc);
+        put_required_attribute(&mut attributes, "alg", &self.alg, target)?;
         Ok(attributes)
     }
 
-    fn write_rows(
-        &self,
-        alloc: Global,
-        writer: &mut EventWriter,
-        w: SpecVersion,
-    ) -> Result<(), XmlWriteError> {
-        put_content(alloc, writer, &self.content.0)
+    fn write_rows(&self, writer: &mut EventWriter, target: Target) -> WriteResult {
+        put_content(target.alloc, writer, &self.content.0)
     }
 }
 
@@ -57,14 +50,8 @@ impl Element for Hashes {
     ghost keeps = { refl };
 
     #[tactic(auto, unfolding(crate::proofs::OnRows::on_rows))]
-    fn write_as(
-        &self,
-        alloc: Global,
-        writer: &mut EventWriter,
-        w: SpecVersion,
-        tag: &str,
-    ) -> Result<(), XmlWriteError> {
-        write_list(alloc, writer, w, tag, "hash", &self.0)
+    fn write_as(&self, writer: &mut EventWriter, tag: &str, target: Target) -> WriteResult {
+        write_list(writer, tag, "hash", &self.0, target)
     }
 }
 

@@ -18,6 +18,7 @@ pub mod tool;
 pub mod values;
 
 pub use attribute::{put_attribute, put_attribute_since, put_required_attribute};
+use cdx_models::XmlWriteError;
 pub use element::{Element, Filled, HasContent, Item, Lone, Tagged, write_lone};
 pub use list::{put_each, put_list, put_list_since, write_items, write_list};
 pub use record::{WrittenRecord, write_record};
@@ -30,3 +31,6 @@ pub use tags::{
     write_simple_tag, write_start_tag,
 };
 pub use to_xml::{Shown, ToInnerXml, ToXml};
+
+/// What writing answers: only want of memory is refused.
+pub type WriteResult = Result<(), XmlWriteError>;

@@ -2,37 +2,30 @@
 
 ghost use Rattle.cdx_write.specs.Stays.{entity_keeps_hollow};
 
+use crate::WriteResult;
 use crate::attribute::put_attribute;
 use crate::element::{Filled, HasContent, Item};
 use crate::list::put_each;
 use crate::record::WrittenRecord;
 use crate::row::{is_there, put_child};
 use cdx_events::{EventWriter, List, OwnedAttribute};
-use cdx_models::{OrganizationalContact, OrganizationalEntity, SpecVersion, XmlWriteError};
-use std::alloc::{AllocError, Global};
+use cdx_models::{OrganizationalContact, OrganizationalEntity};
+use cdx_schema::Target;
+use std::alloc::AllocError;
 
 impl WrittenRecord for OrganizationalContact {
     #[tactic(auto, unfolding(crate::proofs::OnRows::on_rows))]
-    fn attributes(
-        &self,
-        alloc: Global,
-        w: SpecVersion,
-    ) -> Result<List<OwnedAttribute>, AllocError> {
-        let mut attributes = List::new(alloc);
-        put_attribute(alloc, &mut attributes, w, "bom-ref", &self.bom_ref)?;
+    fn attributes(&self, target: Target) -> Result<List<OwnedAttribute>, AllocError> {
+        let mut attributes = List::new(target.alloc);
+        put_attribute(&mut attributes, "bom-ref", &self.bom_ref, target)?;
         Ok(attributes)
     }
 
     #[tactic(auto, unfolding(crate::proofs::OnRows::on_rows), using(crate::proofs::OnRows::in_turn))]
-    fn write_rows(
-        &self,
-        alloc: Global,
-        writer: &mut EventWriter,
-        w: SpecVersion,
-    ) -> Result<(), XmlWriteError> {
-        put_child(alloc, writer, w, "name", &self.name)?;
-        put_child(alloc, writer, w, "email", &self.email)?;
-        put_child(alloc, writer, w, "phone", &self.phone)
+    fn write_rows(&self, writer: &mut EventWriter, target: Target) -> WriteResult {
+        put_child(writer, "name", &self.name, target)?;
+        put_child(writer, "email", &self.email, target)?;
+        put_child(writer, "phone", &self.phone, target)
     }
 }
 
@@ -51,25 +44,16 @@ impl HasContent for OrganizationalContact {
 
 impl WrittenRecord for OrganizationalEntity {
     #[tactic(auto, unfolding(crate::proofs::OnRows::on_rows))]
-    fn attributes(
-        &self,
-        alloc: Global,
-        w: SpecVersion,
-    ) -> Result<List<OwnedAttribute>, AllocError> {
-        let mut attributes = List::new(alloc);
-        put_attribute(alloc, &mut attributes, w, "bom-ref", &self.bom_ref)?;
+    fn attributes(&self, target: Target) -> Result<List<OwnedAttribute>, AllocError> {
+        let mut attributes = List::new(target.alloc);
+        put_attribute(&mut attributes, "bom-ref", &self.bom_ref, target)?;
         Ok(attributes)
     }
 
-    fn write_rows(
-        &self,
-        alloc: Global,
-        writer: &mut EventWriter,
-        w: SpecVersion,
-    ) -> Result<(), XmlWriteError> {
-        put_child(alloc, writer, w, "name", &self.name)?;
-        put_each(alloc, writer, w, "url", &self.url)?;
-        put_each(alloc, writer, w, "contact", &self.contact)
+    fn write_rows(&self, writer: &mut EventWriter, target: Target) -> WriteResult {
+        put_child(writer, "name", &self.name, target)?;
+        put_each(writer, "url", &self.url, target)?;
+        put_each(writer, "contact", &self.contact, target)
     }
 }
 

@@ -8,61 +8,51 @@ ghost use Rattle.cdx_write.specs.Spelling.{written};
 ghost use Rattle.cdx_write.specs.WrittenRows.{attributes_put, rows_written};
 ghost use Rattle.cdx_write.specs.Writing.{Appends};
 
+use crate::WriteResult;
 use crate::element::Element;
 use crate::tags::{write_close_tag, write_opening};
 use cdx_events::{EventWriter, List, OwnedAttribute};
-use cdx_models::{SpecVersion, XmlWriteError};
-use cdx_schema::Record;
-use std::alloc::{AllocError, Global};
+use cdx_schema::{Record, Target};
+use std::alloc::AllocError;
 
 /// A record that is written row by row. `write_record` makes of it the spelling of the schema.
 pub trait WrittenRecord: Record {
     /// The attributes of what a version keeps. Only want of memory is refused.
-    fn attributes(&self, alloc: Global, w: SpecVersion) -> Result<List<OwnedAttribute>, AllocError>
+    fn attributes(&self, target: Target) -> Result<List<OwnedAttribute>, AllocError>
         ensures { IfOk result (λ r.
-            r ≡ attributes_put (fields_of (Self.tree self.now)) w (rows Self.name)) };
+            r ≡ attributes_put (fields_of (Self.tree self.now)) target.version
+            (rows Self.name)) };
 
     /// Appends the content of what a version keeps. Only want of memory is refused; the writer then has a prefix of
     /// that.
-    fn write_rows(
-        &self,
-        alloc: Global,
-        writer: &mut EventWriter,
-        w: SpecVersion,
-    ) -> Result<(), XmlWriteError>
+    fn write_rows(&self, writer: &mut EventWriter, target: Target) -> WriteResult
         ensures { Appends writer.old writer.new
-            (rows_written (fields_of (Self.tree self.now)) w (rows Self.name)) result };
+            (rows_written (fields_of (Self.tree self.now)) target.version (rows Self.name))
+            result };
 }
 
 /// Appends the element of what a version keeps of a record, under the name. Only want of memory is refused; the writer
 /// then has a prefix of that.
 pub fn write_record<T: WrittenRecord>(
-    alloc: Global,
     writer: &mut EventWriter,
-    w: SpecVersion,
     tag: &str,
     held: &T,
-) -> Result<(), XmlWriteError>
+    target: Target,
+) -> WriteResult
     ensures { Appends writer.old writer.new
-        (written (T.tree held.now) w tag.now (a_record T.name)) result }
+        (written (T.tree held.now) target.version tag.now (a_record T.name)) result }
 {
-    let attributes = held.attributes(alloc, w)?;
-    write_opening(alloc, writer, tag, attributes)?;
-    held.write_rows(alloc, writer, w)?;
-    write_close_tag(alloc, writer, tag)
+    let attributes = held.attributes(target)?;
+    write_opening(target.alloc, writer, tag, attributes)?;
+    held.write_rows(writer, target)?;
+    write_close_tag(target.alloc, writer, tag)
 }
 
 /// A record is written row by row.
 impl<T: WrittenRecord> Element for T {
     ghost keeps = { refl };
 
-    fn write_as(
-        &self,
-        alloc: Global,
-        writer: &mut EventWriter,
-        w: SpecVersion,
-        tag: &str,
-    ) -> Result<(), XmlWriteError> {
-        write_record(alloc, writer, w, tag, self)
+    fn write_as(&self, writer: &mut EventWriter, tag: &str, target: Target) -> WriteResult {
+        write_record(writer, tag, self, target)
     }
 }

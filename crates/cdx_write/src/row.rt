@@ -8,10 +8,12 @@ ghost use Rattle.cdx_write.specs.Spelling.{inner};
 ghost use Rattle.cdx_write.specs.WrittenRows.{child_put, filled_put, cdata_put, late_put};
 ghost use Rattle.cdx_write.specs.Writing.{Appends};
 
+use crate::WriteResult;
 use crate::element::{Element, Filled};
 use crate::tags::write_characters;
 use cdx_events::{EventWriter, Text, XmlEvent};
-use cdx_models::{HasTree, SpecVersion, XmlWriteError};
+use cdx_models::{HasTree, SpecVersion};
+use cdx_schema::Target;
 use std::alloc::Global;
 
 /// Whether a field that may be absent is there. It takes no memory.
@@ -23,48 +25,47 @@ pub fn is_there<T: HasTree>(held: &Option<T>) -> bool
 
 /// A child that is always there.
 pub fn put_required_child<T: Element>(
-    alloc: Global,
     writer: &mut EventWriter,
-    w: SpecVersion,
     name: &str,
     held: &T,
-) -> Result<(), XmlWriteError>
-    ensures { Appends writer.old writer.new (child_put name.now T.kind (T.tree held.now) w) result }
+    target: Target,
+) -> WriteResult
+    ensures { Appends writer.old writer.new
+        (child_put name.now T.kind (T.tree held.now) target.version) result }
 {
-    held.write_as(alloc, writer, w, name)
+    held.write_as(writer, name, target)
 }
 
 /// A child, where it is there.
 pub fn put_child<T: Element>(
-    alloc: Global,
     writer: &mut EventWriter,
-    w: SpecVersion,
     name: &str,
     held: &Option<T>,
-) -> Result<(), XmlWriteError>
+    target: Target,
+) -> WriteResult
     ensures { Appends writer.old writer.new
-        (child_put name.now T.kind (present T.tree held.now) w) result }
+        (child_put name.now T.kind (present T.tree held.now) target.version) result }
 {
     match held {
         None => Ok(()),
-        Some(held) => put_required_child(alloc, writer, w, name, held),
+        Some(held) => put_required_child(writer, name, held, target),
     }
 }
 
 /// A child, where it is there and the version is not before `since`.
 pub fn put_child_since<T: Element>(
-    alloc: Global,
     writer: &mut EventWriter,
-    w: SpecVersion,
     since: SpecVersion,
     name: &str,
     held: &Option<T>,
-) -> Result<(), XmlWriteError>
+    target: Target,
+) -> WriteResult
     ensures { Appends writer.old writer.new
-        (late_put since w (child_put name.now T.kind (present T.tree held.now) w)) result }
+        (late_put since target.version
+        (child_put name.now T.kind (present T.tree held.now) target.version)) result }
 {
-    if since.is_known_to(w) {
-        put_child(alloc, writer, w, name, held)
+    if since.is_known_to(target.version) {
+        put_child(writer, name, held, target)
     } else {
         Ok(())
     }
@@ -72,14 +73,13 @@ pub fn put_child_since<T: Element>(
 
 /// A child, where it is there and has a child itself.
 pub fn put_filled_child<T: Filled>(
-    alloc: Global,
     writer: &mut EventWriter,
-    w: SpecVersion,
     name: &str,
     held: &Option<T>,
-) -> Result<(), XmlWriteError>
+    target: Target,
+) -> WriteResult
     ensures { Appends writer.old writer.new
-        (filled_put name.now T.kind (present T.tree held.now) w) result }
+        (filled_put name.now T.kind (present T.tree held.now) target.version) result }
 {
     match held {
         None => Ok(()),
@@ -87,18 +87,14 @@ pub fn put_filled_child<T: Filled>(
             if held.is_hollow() {
                 Ok(())
             } else {
-                put_required_child(alloc, writer, w, name, held)
+                put_required_child(writer, name, held, target)
             }
         }
     }
 }
 
 /// The text that is an element's content.
-pub fn put_content(
-    alloc: Global,
-    writer: &mut EventWriter,
-    held: &Text,
-) -> Result<(), XmlWriteError>
+pub fn put_content(alloc: Global, writer: &mut EventWriter, held: &Text) -> WriteResult
     ensures { (w : SpecVersion)
         → Appends writer.old writer.new (inner (text held.now) w a_text) result }
 {
@@ -106,7 +102,7 @@ pub fn put_content(
 }
 
 /// The same as CDATA.
-pub fn put_cdata(alloc: Global, writer: &mut EventWriter, held: &Text) -> Result<(), XmlWriteError>
+pub fn put_cdata(alloc: Global, writer: &mut EventWriter, held: &Text) -> WriteResult
     ensures { (w : SpecVersion)
         → Appends writer.old writer.new (cdata_put a_text (text held.now) w) result }
 {

@@ -4,6 +4,7 @@ ghost use Rattle.std.specs.Prelude.{[], ◌∷◌, option_copied};
 ghost use Rattle.cdx_write.specs.Spelling.{spelling};
 ghost use Rattle.cdx_write.specs.Writing.{Appends, opening, start_tag, end_tag, simple_tag, simple_option_tag, list_tag};
 
+use crate::WriteResult;
 use crate::to_xml::ToXml;
 use cdx_events::{EventWriter, List, Namespace, OwnedAttribute, OwnedName, Text, XmlEvent};
 use cdx_models::{SpecVersion, XmlWriteError};
@@ -56,7 +57,7 @@ pub(crate) fn write_characters(
     alloc: Global,
     writer: &mut EventWriter,
     content: &str,
-) -> Result<(), XmlWriteError>
+) -> WriteResult
     ensures { Appends writer.old writer.new (XmlEvent.Characters content.now ∷ []) result }
 {
     writer.write(XmlEvent::Characters(Text::new(alloc, content)?))?;

@@ -10,6 +10,7 @@ ghost use Rattle.cdx_write.specs.Writing.{Appends};
 use crate::element::{Element, HasContent, Tagged};
 use cdx_events::EventWriter;
 use cdx_models::{SpecVersion, XmlWriteError};
+use cdx_schema::Target;
 use std::alloc::Global;
 
 /// What contracts see of a value that is written: its tree, and of one that may be absent the tree of what is there.
@@ -93,7 +94,7 @@ impl<T: Tagged> ToXml for T {
         writer: &mut EventWriter,
         w: SpecVersion,
     ) -> Result<(), XmlWriteError> {
-        self.write_as(alloc, writer, w, T::own_name())
+        self.write_as(writer, T::own_name(), Target { alloc, version: w })
     }
 
     fn will_write(&self) -> bool {
@@ -110,7 +111,7 @@ impl<T: Element + HasContent> ToInnerXml for T {
         w: SpecVersion,
         tag: &str,
     ) -> Result<(), XmlWriteError> {
-        self.write_as(alloc, writer, w, tag)
+        self.write_as(writer, tag, Target { alloc, version: w })
     }
 
     fn will_write(&self) -> bool {

@@ -2,41 +2,33 @@
 
 ghost use Rattle.std.specs.Prelude.{codes};
 
+use crate::WriteResult;
 use crate::element::{HasContent, Item, Tagged};
 use crate::record::WrittenRecord;
 use crate::row::{is_there, put_child, put_child_since};
 use cdx_events::{EventWriter, List, OwnedAttribute};
-use cdx_models::{SpecVersion, Tool, XmlWriteError};
-use std::alloc::{AllocError, Global};
+use cdx_models::{SpecVersion, Tool};
+use cdx_schema::Target;
+use std::alloc::AllocError;
 
 impl WrittenRecord for Tool {
     #[tactic(auto, unfolding(crate::proofs::OnRows::on_rows))]
-    fn attributes(
-        &self,
-        alloc: Global,
-        w: SpecVersion,
-    ) -> Result<List<OwnedAttribute>, AllocError> {
-        Ok(List::new(alloc))
+    fn attributes(&self, target: Target) -> Result<List<OwnedAttribute>, AllocError> {
+        Ok(List::new(target.alloc))
     }
 
     #[tactic(auto, unfolding(crate::proofs::OnRows::on_rows), using(crate::proofs::OnRows::in_turn))]
-    fn write_rows(
-        &self,
-        alloc: Global,
-        writer: &mut EventWriter,
-        w: SpecVersion,
-    ) -> Result<(), XmlWriteError> {
-        put_child(alloc, writer, w, "vendor", &self.vendor)?;
-        put_child(alloc, writer, w, "name", &self.name)?;
-        put_child(alloc, writer, w, "version", &self.version)?;
-        put_child(alloc, writer, w, "hashes", &self.hashes)?;
+    fn write_rows(&self, writer: &mut EventWriter, target: Target) -> WriteResult {
+        put_child(writer, "vendor", &self.vendor, target)?;
+        put_child(writer, "name", &self.name, target)?;
+        put_child(writer, "version", &self.version, target)?;
+        put_child(writer, "hashes", &self.hashes, target)?;
         put_child_since(
-            alloc,
             writer,
-            w,
             SpecVersion::V1_4,
             "externalReferences",
             &self.external_references,
+            target,
         )
     }
 }

@@ -1,8 +1,10 @@
 //! Texts, booleans and numbers.
 
+use crate::WriteResult;
 use crate::element::{Element, Item, Lone, write_lone};
 use cdx_events::{EventWriter, Text};
-use cdx_models::{SpecVersion, UrnUuid, XmlWriteError};
+use cdx_models::UrnUuid;
+use cdx_schema::Target;
 use std::alloc::{AllocError, Global};
 
 impl Lone for Text {
@@ -20,14 +22,8 @@ impl Element for Text {
 
     ghost keeps = { refl };
 
-    fn write_as(
-        &self,
-        alloc: Global,
-        writer: &mut EventWriter,
-        w: SpecVersion,
-        tag: &str,
-    ) -> Result<(), XmlWriteError> {
-        write_lone(alloc, writer, w, tag, self)
+    fn write_as(&self, writer: &mut EventWriter, tag: &str, target: Target) -> WriteResult {
+        write_lone(writer, tag, self, target)
     }
 }
 
@@ -66,14 +62,8 @@ impl Element for bool {
 
     ghost keeps = { refl };
 
-    fn write_as(
-        &self,
-        alloc: Global,
-        writer: &mut EventWriter,
-        w: SpecVersion,
-        tag: &str,
-    ) -> Result<(), XmlWriteError> {
-        write_lone(alloc, writer, w, tag, self)
+    fn write_as(&self, writer: &mut EventWriter, tag: &str, target: Target) -> WriteResult {
+        write_lone(writer, tag, self, target)
     }
 }
 

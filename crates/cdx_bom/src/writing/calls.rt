@@ -9,6 +9,7 @@ use crate::refused::lacks_version;
 use crate::writing::events_of;
 use cdx_events::{EventSink, Events, SendError, send};
 use cdx_models::{SpecVersion, XmlWriteError};
+use cdx_schema::Target;
 use std::alloc::Global;
 
 impl Bom {
@@ -21,7 +22,7 @@ impl Bom {
         if !self.fits(version) {
             return Err(XmlWriteError::BomError(lacks_version()));
         }
-        Ok(events_of(self, alloc, version)?)
+        Ok(events_of(self, Target { alloc, version })?)
     }
 
     /// The events of the bill in CycloneDX 1.3, with the refusals of `output_xml`.

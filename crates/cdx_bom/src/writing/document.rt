@@ -18,17 +18,18 @@ use crate::writing::rows::{root_attributes, write_inventory_rows, write_relation
 use cdx_events::{EventWriter, Events, EventsError, Namespace, OwnedName, Text, XmlEvent};
 use cdx_leaf::namespace_of;
 use cdx_models::{SpecVersion, XmlWriteError};
-use cdx_write::{HasContent, ToXml, write_close_tag};
+use cdx_schema::Target;
+use cdx_write::{HasContent, ToXml, WriteResult, write_close_tag};
 use std::alloc::{AllocError, Global};
 
-fn write_start(writer: &mut EventWriter) -> Result<(), XmlWriteError>
+fn write_start(writer: &mut EventWriter) -> WriteResult
     ensures { Appends writer.old writer.new (XmlEvent.StartDocument ∷ []) result }
 {
     writer.write(XmlEvent::StartDocument)?;
     Ok(())
 }
 
-fn write_end(writer: &mut EventWriter) -> Result<(), XmlWriteError>
+fn write_end(writer: &mut EventWriter) -> WriteResult
     ensures { Appends writer.old writer.new (XmlEvent.EndDocument ∷ []) result }
 {
     writer.write(XmlEvent::EndDocument)?;
@@ -36,17 +37,13 @@ fn write_end(writer: &mut EventWriter) -> Result<(), XmlWriteError>
 }
 
 // The version's namespace is the root's default.
-fn write_root_start(
-    held: &Bom,
-    alloc: Global,
-    writer: &mut EventWriter,
-    w: SpecVersion,
-) -> Result<(), XmlWriteError>
-    ensures { Appends writer.old writer.new (root_start (bom_tree held.now) w ∷ []) result }
+fn write_root_start(held: &Bom, writer: &mut EventWriter, target: Target) -> WriteResult
+    ensures { Appends writer.old writer.new (root_start (bom_tree held.now) target.version ∷ [])
+        result }
 {
-    let attributes = root_attributes(held, alloc, w)?;
-    let name = OwnedName::local(alloc, "bom")?;
-    let default = Text::new(alloc, namespace_of(w))?;
+    let attributes = root_attributes(held, target)?;
+    let name = OwnedName::local(target.alloc, "bom")?;
+    let default = Text::new(target.alloc, namespace_of(target.version))?;
     writer.write(XmlEvent::StartElement {
         name,
         attributes,
@@ -58,33 +55,24 @@ fn write_root_start(
 }
 
 // What stands between the root's tags.
-fn write_rows(
-    held: &Bom,
-    alloc: Global,
-    writer: &mut EventWriter,
-    w: SpecVersion,
-) -> Result<(), XmlWriteError>
+fn write_rows(held: &Bom, writer: &mut EventWriter, target: Target) -> WriteResult
     ensures { Appends writer.old writer.new
-        (rows_written (fields_of (bom_tree held.now)) w (rows bill)) result }
+        (rows_written (fields_of (bom_tree held.now)) target.version (rows bill)) result }
 {
-    write_inventory_rows(held, alloc, writer, w)?;
-    write_relations_rows(held, alloc, writer, w)
+    write_inventory_rows(held, writer, target)?;
+    write_relations_rows(held, writer, target)
 }
 
 // The document of what the version keeps. Only want of memory is refused; the writer then has a prefix of that.
-fn write_document(
-    held: &Bom,
-    alloc: Global,
-    writer: &mut EventWriter,
-    w: SpecVersion,
-) -> Result<(), XmlWriteError>
-    ensures { Appends writer.old writer.new (xml_document (keep w (bom_tree held.now) a_bill) w)
+fn write_document(held: &Bom, writer: &mut EventWriter, target: Target) -> WriteResult
+    ensures { Appends writer.old writer.new
+        (xml_document (keep target.version (bom_tree held.now) a_bill) target.version)
         result }
 {
     write_start(writer)?;
-    write_root_start(held, alloc, writer, w)?;
-    write_rows(held, alloc, writer, w)?;
-    write_close_tag(alloc, writer, "bom")?;
+    write_root_start(held, writer, target)?;
+    write_rows(held, writer, target)?;
+    write_close_tag(target.alloc, writer, "bom")?;
     write_end(writer)
 }
 
@@ -104,7 +92,7 @@ impl ToXml for Bom {
         writer: &mut EventWriter,
         w: SpecVersion,
     ) -> Result<(), XmlWriteError> {
-        write_document(self, alloc, writer, w)
+        write_document(self, writer, Target { alloc, version: w })
     }
 
     fn will_write(&self) -> bool {
@@ -113,11 +101,13 @@ impl ToXml for Bom {
 }
 
 /// The events of the document of what the version keeps. Only want of memory is refused.
-pub(crate) fn events_of(held: &Bom, alloc: Global, w: SpecVersion) -> Result<Events, AllocError>
-    ensures { IfOk result (λ e. e.list ≡ xml_document (keep w (bom_tree held.now) a_bill) w) }
+pub(crate) fn events_of(held: &Bom, target: Target) -> Result<Events, AllocError>
+    ensures { IfOk result
+        (λ e. e.list ≡ xml_document
+        (keep target.version (bom_tree held.now) a_bill) target.version) }
 {
-    let mut writer = EventWriter::new(alloc);
-    match write_document(held, alloc, &mut writer, w) {
+    let mut writer = EventWriter::new(target.alloc);
+    match write_document(held, &mut writer, target) {
         Ok(()) => {}
         Err(XmlWriteError::Memory(error)) => return Err(error),
         Err(XmlWriteError::BomError(_)) => unreachable!(),

@@ -12,76 +12,69 @@ ghost use Rattle.cdx_bom.specs.Trees.{bom_tree, inventory, relations};
 
 use crate::bom::Bom;
 use cdx_events::{EventWriter, List, OwnedAttribute};
-use cdx_models::{SpecVersion, XmlWriteError};
-use cdx_write::{put_attribute, put_child, put_child_since, put_required_attribute};
-use std::alloc::{AllocError, Global};
+use cdx_models::SpecVersion;
+use cdx_schema::Target;
+use cdx_write::{WriteResult, put_attribute, put_child, put_child_since, put_required_attribute};
+use std::alloc::AllocError;
 
 // The serial number stands before the version.
 pub(crate) fn root_attributes(
     held: &Bom,
-    alloc: Global,
-    w: SpecVersion,
+    target: Target,
 ) -> Result<List<OwnedAttribute>, AllocError>
-    ensures { IfOk result (λ r. r ≡ attributes_of (keep w (bom_tree held.now) a_bill) w a_bill) }
+    ensures { IfOk result
+        (λ r. r ≡ attributes_of
+        (keep target.version (bom_tree held.now) a_bill) target.version a_bill) }
 {
-    let mut attributes = List::new(alloc);
-    put_attribute(
-        alloc,
-        &mut attributes,
-        w,
-        "serialNumber",
-        &held.serial_number,
-    )?;
-    put_required_attribute(alloc, &mut attributes, w, "version", &held.version)?;
+    let mut attributes = List::new(target.alloc);
+    put_attribute(&mut attributes, "serialNumber", &held.serial_number, target)?;
+    put_required_attribute(&mut attributes, "version", &held.version, target)?;
     Ok(attributes)
 }
 
 pub(crate) fn write_inventory_rows(
     held: &Bom,
-    alloc: Global,
     writer: &mut EventWriter,
-    w: SpecVersion,
-) -> Result<(), XmlWriteError>
-    ensures { Appends writer.old writer.new (rows_written (inventory held.now) w (group 0 bill))
+    target: Target,
+) -> WriteResult
+    ensures { Appends writer.old writer.new
+        (rows_written (inventory held.now) target.version (group 0 bill))
         result }
 {
-    put_child(alloc, writer, w, "metadata", &held.metadata)?;
-    put_child(alloc, writer, w, "components", &held.components)?;
-    put_child(alloc, writer, w, "services", &held.services)
+    put_child(writer, "metadata", &held.metadata, target)?;
+    put_child(writer, "components", &held.components, target)?;
+    put_child(writer, "services", &held.services, target)
 }
 
 pub(crate) fn write_relations_rows(
     held: &Bom,
-    alloc: Global,
     writer: &mut EventWriter,
-    w: SpecVersion,
-) -> Result<(), XmlWriteError>
-    ensures { Appends writer.old writer.new (rows_written (relations held.now) w (group 1 bill))
+    target: Target,
+) -> WriteResult
+    ensures { Appends writer.old writer.new
+        (rows_written (relations held.now) target.version (group 1 bill))
         result }
 {
     put_child(
-        alloc,
         writer,
-        w,
         "externalReferences",
         &held.external_references,
+        target,
     )?;
-    put_child(alloc, writer, w, "dependencies", &held.dependencies)?;
-    put_child(alloc, writer, w, "compositions", &held.compositions)?;
+    put_child(writer, "dependencies", &held.dependencies, target)?;
+    put_child(writer, "compositions", &held.compositions, target)?;
     put_child_since(
-        alloc,
         writer,
-        w,
         SpecVersion::V1_5,
         "properties",
         &held.properties,
+        target,
     )?;
     put_child_since(
-        alloc,
         writer,
-        w,
         SpecVersion::V1_4,
         "signature",
         &held.signature,
+        target,
     )
 }

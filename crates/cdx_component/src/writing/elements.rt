@@ -17,182 +17,161 @@ use crate::writing::rows::{
     component_attributes, write_marks_rows, write_naming_rows, write_origin_rows,
 };
 use cdx_events::EventWriter;
-use cdx_models::{SpecVersion, XmlWriteError};
+use cdx_models::SpecVersion;
+use cdx_schema::Target;
 use cdx_write::{
-    put_child, put_child_since, put_filled_child, write_close_tag, write_opening, write_start_tag,
+    WriteResult, put_child, put_child_since, put_filled_child, write_close_tag, write_opening,
+    write_start_tag,
 };
-use std::alloc::Global;
 
 /// A component as the element `tag`.
 #[cycle(component_elements)]
 pub(crate) fn write_component(
     held: &Component,
-    alloc: Global,
     writer: &mut EventWriter,
-    w: SpecVersion,
     tag: &str,
-) -> Result<(), XmlWriteError>
+    target: Target,
+) -> WriteResult
     ensures { Appends writer.old writer.new
-        (written (component_tree held.now) w tag.now (a_record component)) result }
+        (written (component_tree held.now) target.version tag.now (a_record component)) result }
 {
-    let attributes = component_attributes(held, alloc, w)?;
-    write_opening(alloc, writer, tag, attributes)?;
-    write_rows(held, alloc, writer, w)?;
-    write_close_tag(alloc, writer, tag)
+    let attributes = component_attributes(held, target)?;
+    write_opening(target.alloc, writer, tag, attributes)?;
+    write_rows(held, writer, target)?;
+    write_close_tag(target.alloc, writer, tag)
 }
 
 /// A list of components as the element `tag`.
 #[cycle(component_elements)]
 pub(crate) fn write_components(
     held: &Components,
-    alloc: Global,
     writer: &mut EventWriter,
-    w: SpecVersion,
     tag: &str,
-) -> Result<(), XmlWriteError>
+    target: Target,
+) -> WriteResult
     ensures { Appends writer.old writer.new
-        (written (components_tree held.now) w tag.now (a_list components)) result }
+        (written (components_tree held.now) target.version tag.now (a_list components)) result }
 {
-    write_start_tag(alloc, writer, tag)?;
-    write_items(held, alloc, writer, w)?;
-    write_close_tag(alloc, writer, tag)
+    write_start_tag(target.alloc, writer, tag)?;
+    write_items(held, writer, target)?;
+    write_close_tag(target.alloc, writer, tag)
 }
 
 /// A pedigree as the element `tag`.
 #[cycle(component_elements)]
 pub(crate) fn write_pedigree(
     held: &Pedigree,
-    alloc: Global,
     writer: &mut EventWriter,
-    w: SpecVersion,
     tag: &str,
-) -> Result<(), XmlWriteError>
+    target: Target,
+) -> WriteResult
     ensures { Appends writer.old writer.new
-        (written (pedigree_tree held.now) w tag.now (a_record pedigree)) result }
+        (written (pedigree_tree held.now) target.version tag.now (a_record pedigree)) result }
 {
-    write_start_tag(alloc, writer, tag)?;
-    write_pedigree_rows(held, alloc, writer, w)?;
-    write_close_tag(alloc, writer, tag)
+    write_start_tag(target.alloc, writer, tag)?;
+    write_pedigree_rows(held, writer, target)?;
+    write_close_tag(target.alloc, writer, tag)
 }
 
 /// What stands between the tags of a list of components.
 #[cycle(component_elements)]
-fn write_items(
-    held: &Components,
-    alloc: Global,
-    writer: &mut EventWriter,
-    w: SpecVersion,
-) -> Result<(), XmlWriteError>
-    ensures { Appends writer.old writer.new (inner (components_tree held.now) w (a_list components))
+fn write_items(held: &Components, writer: &mut EventWriter, target: Target) -> WriteResult
+    ensures { Appends writer.old writer.new
+        (inner (components_tree held.now) target.version (a_list components))
         result }
 {
     for item in &held.items {
-        write_component(item, alloc, writer, w, "component")?;
+        write_component(item, writer, "component", target)?;
     }
     Ok(())
 }
 
 /// What stands between the tags of a component.
 #[cycle(component_elements)]
-fn write_rows(
-    held: &Component,
-    alloc: Global,
-    writer: &mut EventWriter,
-    w: SpecVersion,
-) -> Result<(), XmlWriteError>
+fn write_rows(held: &Component, writer: &mut EventWriter, target: Target) -> WriteResult
     ensures { Appends writer.old writer.new (rows_written
-        (component_fields components_tree pedigree_tree (out-Component held.now)) w
+        (component_fields components_tree pedigree_tree (out-Component held.now)) target.version
         (rows component))
         result }
 {
-    write_origin_rows(held, alloc, writer, w)?;
-    write_naming_rows(held, alloc, writer, w)?;
-    write_marks_rows(held, alloc, writer, w)?;
-    write_contents_rows(held, alloc, writer, w)
+    write_origin_rows(held, writer, target)?;
+    write_naming_rows(held, writer, target)?;
+    write_marks_rows(held, writer, target)?;
+    write_contents_rows(held, writer, target)
 }
 
 #[cycle(component_elements)]
-fn write_contents_rows(
-    held: &Component,
-    alloc: Global,
-    writer: &mut EventWriter,
-    w: SpecVersion,
-) -> Result<(), XmlWriteError>
+fn write_contents_rows(held: &Component, writer: &mut EventWriter, target: Target) -> WriteResult
     ensures { Appends writer.old writer.new (rows_written
-        (contents components_tree pedigree_tree (out-Component held.now)) w (group 3 component))
+        (contents components_tree pedigree_tree (out-Component held.now)) target.version
+        (group 3 component))
         result }
 {
-    put_pedigree(&held.pedigree, alloc, writer, w, "pedigree")?;
+    put_pedigree(&held.pedigree, writer, "pedigree", target)?;
     put_child(
-        alloc,
         writer,
-        w,
         "externalReferences",
         &held.external_references,
+        target,
     )?;
-    put_child(alloc, writer, w, "properties", &held.properties)?;
-    put_components(&held.components, alloc, writer, w, "components")?;
-    put_filled_child(alloc, writer, w, "evidence", &held.evidence)?;
+    put_child(writer, "properties", &held.properties, target)?;
+    put_components(&held.components, writer, "components", target)?;
+    put_filled_child(writer, "evidence", &held.evidence, target)?;
     put_child_since(
-        alloc,
         writer,
-        w,
         SpecVersion::V1_4,
         "signature",
         &held.signature,
+        target,
     )
 }
 
 /// What stands between the tags of a pedigree.
 #[cycle(component_elements)]
-fn write_pedigree_rows(
-    held: &Pedigree,
-    alloc: Global,
-    writer: &mut EventWriter,
-    w: SpecVersion,
-) -> Result<(), XmlWriteError>
+fn write_pedigree_rows(held: &Pedigree, writer: &mut EventWriter, target: Target) -> WriteResult
     ensures { Appends writer.old writer.new
-        (rows_written (pedigree_fields components_tree (out-Pedigree held.now)) w (rows pedigree))
+        (rows_written (pedigree_fields components_tree (out-Pedigree held.now)) target.version
+        (rows pedigree))
         result }
 {
-    put_components(&held.ancestors, alloc, writer, w, "ancestors")?;
-    put_components(&held.descendants, alloc, writer, w, "descendants")?;
-    put_components(&held.variants, alloc, writer, w, "variants")?;
-    put_child(alloc, writer, w, "commits", &held.commits)?;
-    put_child(alloc, writer, w, "patches", &held.patches)?;
-    put_child(alloc, writer, w, "notes", &held.notes)
+    put_components(&held.ancestors, writer, "ancestors", target)?;
+    put_components(&held.descendants, writer, "descendants", target)?;
+    put_components(&held.variants, writer, "variants", target)?;
+    put_child(writer, "commits", &held.commits, target)?;
+    put_child(writer, "patches", &held.patches, target)?;
+    put_child(writer, "notes", &held.notes, target)
 }
 
 #[cycle(component_elements)]
 fn put_pedigree(
     held: &Option<Pedigree>,
-    alloc: Global,
     writer: &mut EventWriter,
-    w: SpecVersion,
     name: &str,
-) -> Result<(), XmlWriteError>
+    target: Target,
+) -> WriteResult
     ensures { Appends writer.old writer.new
-        (child_put name.now (a_record pedigree) (present pedigree_tree held.now) w) result }
+        (child_put name.now (a_record pedigree) (present pedigree_tree held.now) target.version)
+        result }
 {
     match held {
         None => Ok(()),
-        Some(held) => write_pedigree(held, alloc, writer, w, name),
+        Some(held) => write_pedigree(held, writer, name, target),
     }
 }
 
 #[cycle(component_elements)]
 fn put_components(
     held: &Option<Components>,
-    alloc: Global,
     writer: &mut EventWriter,
-    w: SpecVersion,
     name: &str,
-) -> Result<(), XmlWriteError>
+    target: Target,
+) -> WriteResult
     ensures { Appends writer.old writer.new
-        (child_put name.now (a_list components) (present components_tree held.now) w) result }
+        (child_put name.now (a_list components) (present components_tree held.now) target.version)
+        result }
 {
     match held {
         None => Ok(()),
-        Some(held) => write_components(held, alloc, writer, w, name),
+        Some(held) => write_components(held, writer, name, target),
     }
 }

@@ -11,73 +11,71 @@ ghost use Rattle.cdx_component.specs.Trees.{origin, naming, marks};
 
 use crate::component::Component;
 use cdx_events::{EventWriter, List, OwnedAttribute};
-use cdx_models::{SpecVersion, XmlWriteError};
+use cdx_schema::Target;
 use cdx_write::{
-    put_attribute, put_child, put_filled_child, put_required_attribute, put_required_child,
+    WriteResult, put_attribute, put_child, put_filled_child, put_required_attribute,
+    put_required_child,
 };
-use std::alloc::{AllocError, Global};
+use std::alloc::AllocError;
 
 /// The attributes, all of which stand among the first rows.
 #[tactic(auto, unfolding(cdx_write::proofs::OnRows::on_rows))]
 pub(crate) fn component_attributes(
     held: &Component,
-    alloc: Global,
-    w: SpecVersion,
+    target: Target,
 ) -> Result<List<OwnedAttribute>, AllocError>
     ensures { IfOk result
-        (λ r. r ≡ attributes_put (origin (out-Component held.now)) w (group 0 component)) }
+        (λ r. r ≡ attributes_put (origin (out-Component held.now)) target.version
+        (group 0 component)) }
 {
-    let mut attributes = List::new(alloc);
-    put_required_attribute(alloc, &mut attributes, w, "type", &held.component_type)?;
-    put_attribute(alloc, &mut attributes, w, "mime-type", &held.mime_type)?;
-    put_attribute(alloc, &mut attributes, w, "bom-ref", &held.bom_ref)?;
+    let mut attributes = List::new(target.alloc);
+    put_required_attribute(&mut attributes, "type", &held.component_type, target)?;
+    put_attribute(&mut attributes, "mime-type", &held.mime_type, target)?;
+    put_attribute(&mut attributes, "bom-ref", &held.bom_ref, target)?;
     Ok(attributes)
 }
 
 pub(crate) fn write_origin_rows(
     held: &Component,
-    alloc: Global,
     writer: &mut EventWriter,
-    w: SpecVersion,
-) -> Result<(), XmlWriteError>
+    target: Target,
+) -> WriteResult
     ensures { Appends writer.old writer.new
-        (rows_written (origin (out-Component held.now)) w (group 0 component)) result }
+        (rows_written (origin (out-Component held.now)) target.version (group 0 component)) result }
 {
-    put_filled_child(alloc, writer, w, "supplier", &held.supplier)?;
-    put_child(alloc, writer, w, "author", &held.author)?;
-    put_child(alloc, writer, w, "publisher", &held.publisher)
+    put_filled_child(writer, "supplier", &held.supplier, target)?;
+    put_child(writer, "author", &held.author, target)?;
+    put_child(writer, "publisher", &held.publisher, target)
 }
 
 pub(crate) fn write_naming_rows(
     held: &Component,
-    alloc: Global,
     writer: &mut EventWriter,
-    w: SpecVersion,
-) -> Result<(), XmlWriteError>
+    target: Target,
+) -> WriteResult
     ensures { Appends writer.old writer.new
-        (rows_written (naming (out-Component held.now)) w (group 1 component)) result }
+        (rows_written (naming (out-Component held.now)) target.version (group 1 component)) result }
 {
-    put_child(alloc, writer, w, "group", &held.group)?;
-    put_required_child(alloc, writer, w, "name", &held.name)?;
-    put_child(alloc, writer, w, "version", &held.version)?;
-    put_child(alloc, writer, w, "description", &held.description)?;
-    put_child(alloc, writer, w, "scope", &held.scope)?;
-    put_child(alloc, writer, w, "hashes", &held.hashes)
+    put_child(writer, "group", &held.group, target)?;
+    put_required_child(writer, "name", &held.name, target)?;
+    put_child(writer, "version", &held.version, target)?;
+    put_child(writer, "description", &held.description, target)?;
+    put_child(writer, "scope", &held.scope, target)?;
+    put_child(writer, "hashes", &held.hashes, target)
 }
 
 pub(crate) fn write_marks_rows(
     held: &Component,
-    alloc: Global,
     writer: &mut EventWriter,
-    w: SpecVersion,
-) -> Result<(), XmlWriteError>
+    target: Target,
+) -> WriteResult
     ensures { Appends writer.old writer.new
-        (rows_written (marks (out-Component held.now)) w (group 2 component)) result }
+        (rows_written (marks (out-Component held.now)) target.version (group 2 component)) result }
 {
-    put_child(alloc, writer, w, "licenses", &held.licenses)?;
-    put_child(alloc, writer, w, "copyright", &held.copyright)?;
-    put_child(alloc, writer, w, "cpe", &held.cpe)?;
-    put_child(alloc, writer, w, "purl", &held.purl)?;
-    put_child(alloc, writer, w, "swid", &held.swid)?;
-    put_child(alloc, writer, w, "modified", &held.modified)
+    put_child(writer, "licenses", &held.licenses, target)?;
+    put_child(writer, "copyright", &held.copyright, target)?;
+    put_child(writer, "cpe", &held.cpe, target)?;
+    put_child(writer, "purl", &held.purl, target)?;
+    put_child(writer, "swid", &held.swid, target)?;
+    put_child(writer, "modified", &held.modified, target)
 }

@@ -4,34 +4,25 @@ ghost use Rattle.std.specs.Prelude.{codes};
 
 use crate::metadata::Metadata;
 use cdx_events::{EventWriter, List, OwnedAttribute};
-use cdx_models::{SpecVersion, XmlWriteError};
-use cdx_write::{HasContent, Tagged, WrittenRecord, is_there, put_child, put_list};
-use std::alloc::{AllocError, Global};
+use cdx_schema::Target;
+use cdx_write::{HasContent, Tagged, WriteResult, WrittenRecord, is_there, put_child, put_list};
+use std::alloc::AllocError;
 
 impl WrittenRecord for Metadata {
     #[tactic(auto, unfolding(cdx_write::proofs::OnRows::on_rows))]
-    fn attributes(
-        &self,
-        alloc: Global,
-        w: SpecVersion,
-    ) -> Result<List<OwnedAttribute>, AllocError> {
-        Ok(List::new(alloc))
+    fn attributes(&self, target: Target) -> Result<List<OwnedAttribute>, AllocError> {
+        Ok(List::new(target.alloc))
     }
 
-    fn write_rows(
-        &self,
-        alloc: Global,
-        writer: &mut EventWriter,
-        w: SpecVersion,
-    ) -> Result<(), XmlWriteError> {
-        put_child(alloc, writer, w, "timestamp", &self.timestamp)?;
-        put_child(alloc, writer, w, "tools", &self.tools)?;
-        put_list(alloc, writer, w, "authors", "author", &self.authors)?;
-        put_child(alloc, writer, w, "component", &self.component)?;
-        put_child(alloc, writer, w, "manufacture", &self.manufacture)?;
-        put_child(alloc, writer, w, "supplier", &self.supplier)?;
-        put_child(alloc, writer, w, "licenses", &self.licenses)?;
-        put_child(alloc, writer, w, "properties", &self.properties)
+    fn write_rows(&self, writer: &mut EventWriter, target: Target) -> WriteResult {
+        put_child(writer, "timestamp", &self.timestamp, target)?;
+        put_child(writer, "tools", &self.tools, target)?;
+        put_list(writer, "authors", "author", &self.authors, target)?;
+        put_child(writer, "component", &self.component, target)?;
+        put_child(writer, "manufacture", &self.manufacture, target)?;
+        put_child(writer, "supplier", &self.supplier, target)?;
+        put_child(writer, "licenses", &self.licenses, target)?;
+        put_child(writer, "properties", &self.properties, target)
     }
 }
 

@@ -9,62 +9,52 @@ ghost use Rattle.cdx_nest.specs.Trees.{tools_tree, object_tree};
 use crate::tools::Tools;
 use cdx_component::Components;
 use cdx_events::EventWriter;
-use cdx_models::{SpecVersion, XmlWriteError};
+use cdx_models::SpecVersion;
+use cdx_schema::Target;
 use cdx_service::Services;
 use cdx_write::{
-    Element, HasContent, Tagged, put_child, write_close_tag, write_items, write_start_tag,
+    Element, HasContent, Tagged, WriteResult, put_child, write_close_tag, write_items,
+    write_start_tag,
 };
-use std::alloc::Global;
 
 /// Appends the services and then the components, and before 1.5 nothing.
 fn write_parts(
-    alloc: Global,
     writer: &mut EventWriter,
-    w: SpecVersion,
     services: &Option<Services>,
     components: &Option<Components>,
-) -> Result<(), XmlWriteError>
+    target: Target,
+) -> WriteResult
     ensures { Appends writer.old writer.new
-        (inner (object_tree services.now components.now) w a_tools) result }
+        (inner (object_tree services.now components.now) target.version a_tools) result }
 {
-    if !SpecVersion::V1_5.is_known_to(w) {
+    if !SpecVersion::V1_5.is_known_to(target.version) {
         return Ok(());
     }
-    put_child(alloc, writer, w, "services", services)?;
-    put_child(alloc, writer, w, "components", components)
+    put_child(writer, "services", services, target)?;
+    put_child(writer, "components", components, target)
 }
 
 /// Appends what stands between the tags.
-fn write_content(
-    alloc: Global,
-    writer: &mut EventWriter,
-    w: SpecVersion,
-    held: &Tools,
-) -> Result<(), XmlWriteError>
-    ensures { Appends writer.old writer.new (inner (tools_tree held.now) w a_tools) result }
+fn write_content(writer: &mut EventWriter, held: &Tools, target: Target) -> WriteResult
+    ensures { Appends writer.old writer.new (inner (tools_tree held.now) target.version a_tools)
+        result }
 {
     match held {
-        Tools::List(held) => write_items(alloc, writer, w, "tool", held),
+        Tools::List(held) => write_items(writer, "tool", held, target),
         Tools::Object {
             services,
             components,
-        } => write_parts(alloc, writer, w, services, components),
+        } => write_parts(writer, services, components, target),
     }
 }
 
 impl Element for Tools {
     ghost keeps = { refl };
 
-    fn write_as(
-        &self,
-        alloc: Global,
-        writer: &mut EventWriter,
-        w: SpecVersion,
-        tag: &str,
-    ) -> Result<(), XmlWriteError> {
-        write_start_tag(alloc, writer, tag)?;
-        write_content(alloc, writer, w, self)?;
-        write_close_tag(alloc, writer, tag)
+    fn write_as(&self, writer: &mut EventWriter, tag: &str, target: Target) -> WriteResult {
+        write_start_tag(target.alloc, writer, tag)?;
+        write_content(writer, self, target)?;
+        write_close_tag(target.alloc, writer, tag)
     }
 }
 

@@ -5,32 +5,23 @@ ghost use Rattle.cdx_write.specs.Stays.{source_keeps_hollow};
 
 use crate::{Issue, Source};
 use cdx_events::{EventWriter, List, OwnedAttribute};
-use cdx_models::{SpecVersion, XmlWriteError};
+use cdx_schema::Target;
 use cdx_write::{
-    Filled, HasContent, Item, Tagged, WrittenRecord, is_there, put_child, put_filled_child,
-    put_list, put_required_attribute,
+    Filled, HasContent, Item, Tagged, WriteResult, WrittenRecord, is_there, put_child,
+    put_filled_child, put_list, put_required_attribute,
 };
-use std::alloc::{AllocError, Global};
+use std::alloc::AllocError;
 
 impl WrittenRecord for Source {
     #[tactic(auto, unfolding(cdx_write::proofs::OnRows::on_rows))]
-    fn attributes(
-        &self,
-        alloc: Global,
-        _w: SpecVersion,
-    ) -> Result<List<OwnedAttribute>, AllocError> {
-        Ok(List::new(alloc))
+    fn attributes(&self, target: Target) -> Result<List<OwnedAttribute>, AllocError> {
+        Ok(List::new(target.alloc))
     }
 
     #[tactic(auto, unfolding(cdx_write::proofs::OnRows::on_rows), using(cdx_write::proofs::OnRows::in_turn))]
-    fn write_rows(
-        &self,
-        alloc: Global,
-        writer: &mut EventWriter,
-        w: SpecVersion,
-    ) -> Result<(), XmlWriteError> {
-        put_child(alloc, writer, w, "name", &self.name)?;
-        put_child(alloc, writer, w, "url", &self.url)
+    fn write_rows(&self, writer: &mut EventWriter, target: Target) -> WriteResult {
+        put_child(writer, "name", &self.name, target)?;
+        put_child(writer, "url", &self.url, target)
     }
 }
 
@@ -59,28 +50,19 @@ impl Tagged for Source {
 
 impl WrittenRecord for Issue {
     #[tactic(auto, unfolding(cdx_write::proofs::OnRows::on_rows))]
-    fn attributes(
-        &self,
-        alloc: Global,
-        w: SpecVersion,
-    ) -> Result<List<OwnedAttribute>, AllocError> {
-        let mut attributes = List::new(alloc);
-        put_required_attribute(alloc, &mut attributes, w, "type", &self.issue_type)?;
+    fn attributes(&self, target: Target) -> Result<List<OwnedAttribute>, AllocError> {
+        let mut attributes = List::new(target.alloc);
+        put_required_attribute(&mut attributes, "type", &self.issue_type, target)?;
         Ok(attributes)
     }
 
     #[tactic(auto, unfolding(cdx_write::proofs::OnRows::on_rows), using(cdx_write::proofs::OnRows::in_turn))]
-    fn write_rows(
-        &self,
-        alloc: Global,
-        writer: &mut EventWriter,
-        w: SpecVersion,
-    ) -> Result<(), XmlWriteError> {
-        put_child(alloc, writer, w, "id", &self.id)?;
-        put_child(alloc, writer, w, "name", &self.name)?;
-        put_child(alloc, writer, w, "description", &self.description)?;
-        put_filled_child(alloc, writer, w, "source", &self.source)?;
-        put_list(alloc, writer, w, "references", "url", &self.references)
+    fn write_rows(&self, writer: &mut EventWriter, target: Target) -> WriteResult {
+        put_child(writer, "id", &self.id, target)?;
+        put_child(writer, "name", &self.name, target)?;
+        put_child(writer, "description", &self.description, target)?;
+        put_filled_child(writer, "source", &self.source, target)?;
+        put_list(writer, "references", "url", &self.references, target)
     }
 }
 

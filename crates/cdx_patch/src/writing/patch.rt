@@ -5,32 +5,23 @@ ghost use Rattle.cdx_write.specs.Stays.{diff_keeps_hollow};
 
 use crate::{Diff, Patch, Patches};
 use cdx_events::{EventWriter, List, OwnedAttribute};
-use cdx_models::{SpecVersion, XmlWriteError};
+use cdx_schema::Target;
 use cdx_write::{
-    Element, Filled, HasContent, Item, Tagged, WrittenRecord, is_there, put_child,
+    Element, Filled, HasContent, Item, Tagged, WriteResult, WrittenRecord, is_there, put_child,
     put_filled_child, put_list, put_required_attribute, write_list,
 };
-use std::alloc::{AllocError, Global};
+use std::alloc::AllocError;
 
 impl WrittenRecord for Diff {
     #[tactic(auto, unfolding(cdx_write::proofs::OnRows::on_rows))]
-    fn attributes(
-        &self,
-        alloc: Global,
-        _w: SpecVersion,
-    ) -> Result<List<OwnedAttribute>, AllocError> {
-        Ok(List::new(alloc))
+    fn attributes(&self, target: Target) -> Result<List<OwnedAttribute>, AllocError> {
+        Ok(List::new(target.alloc))
     }
 
     #[tactic(auto, unfolding(cdx_write::proofs::OnRows::on_rows), using(cdx_write::proofs::OnRows::in_turn))]
-    fn write_rows(
-        &self,
-        alloc: Global,
-        writer: &mut EventWriter,
-        w: SpecVersion,
-    ) -> Result<(), XmlWriteError> {
-        put_child(alloc, writer, w, "text", &self.text)?;
-        put_child(alloc, writer, w, "url", &self.url)
+    fn write_rows(&self, writer: &mut EventWriter, target: Target) -> WriteResult {
+        put_child(writer, "text", &self.text, target)?;
+        put_child(writer, "url", &self.url, target)
     }
 }
 
@@ -59,25 +50,16 @@ impl Tagged for Diff {
 
 impl WrittenRecord for Patch {
     #[tactic(auto, unfolding(cdx_write::proofs::OnRows::on_rows))]
-    fn attributes(
-        &self,
-        alloc: Global,
-        w: SpecVersion,
-    ) -> Result<List<OwnedAttribute>, AllocError> {
-        let mut attributes = List::new(alloc);
-        put_required_attribute(alloc, &mut attributes, w, "type", &self.patch_type)?;
+    fn attributes(&self, target: Target) -> Result<List<OwnedAttribute>, AllocError> {
+        let mut attributes = List::new(target.alloc);
+        put_required_attribute(&mut attributes, "type", &self.patch_type, target)?;
         Ok(attributes)
     }
 
     #[tactic(auto, unfolding(cdx_write::proofs::OnRows::on_rows), using(cdx_write::proofs::OnRows::in_turn))]
-    fn write_rows(
-        &self,
-        alloc: Global,
-        writer: &mut EventWriter,
-        w: SpecVersion,
-    ) -> Result<(), XmlWriteError> {
-        put_filled_child(alloc, writer, w, "diff", &self.diff)?;
-        put_list(alloc, writer, w, "resolves", "issue", &self.resolves)
+    fn write_rows(&self, writer: &mut EventWriter, target: Target) -> WriteResult {
+        put_filled_child(writer, "diff", &self.diff, target)?;
+        put_list(writer, "resolves", "issue", &self.resolves, target)
     }
 }
 
@@ -105,14 +87,8 @@ impl Element for Patches {
     ghost keeps = { refl };
 
     #[tactic(auto, unfolding(cdx_schema::specs::Table::list))]
-    fn write_as(
-        &self,
-        alloc: Global,
-        writer: &mut EventWriter,
-        w: SpecVersion,
-        tag: &str,
-    ) -> Result<(), XmlWriteError> {
-        write_list(alloc, writer, w, tag, "patch", &self.0)
+    fn write_as(&self, writer: &mut EventWriter, tag: &str, target: Target) -> WriteResult {
+        write_list(writer, tag, "patch", &self.0, target)
     }
 }
 

@@ -6,64 +6,52 @@ ghost use Rattle.cdx_schema.specs.Kinds.{compositions};
 
 use crate::composition::{Composition, Compositions};
 use cdx_events::{EventWriter, List, OwnedAttribute};
-use cdx_models::{SpecVersion, XmlWriteError};
+use cdx_models::SpecVersion;
+use cdx_schema::Target;
 use cdx_write::{
-    Element, HasContent, Item, Tagged, WrittenRecord, put_attribute_since, put_child_since,
-    put_list, put_list_since, put_required_child, write_list,
+    Element, HasContent, Item, Tagged, WriteResult, WrittenRecord, put_attribute_since,
+    put_child_since, put_list, put_list_since, put_required_child, write_list,
 };
-use std::alloc::{AllocError, Global};
+use std::alloc::AllocError;
 
 impl WrittenRecord for Composition {
     #[tactic(auto, unfolding(cdx_write::proofs::OnRows::on_rows))]
-    fn attributes(
-        &self,
-        alloc: Global,
-        w: SpecVersion,
-    ) -> Result<List<OwnedAttribute>, AllocError> {
-        let mut attributes = List::new(alloc);
+    fn attributes(&self, target: Target) -> Result<List<OwnedAttribute>, AllocError> {
+        let mut attributes = List::new(target.alloc);
         put_attribute_since(
-            alloc,
             &mut attributes,
-            w,
             SpecVersion::V1_5,
             "bom-ref",
             &self.bom_ref,
+            target,
         )?;
         Ok(attributes)
     }
 
-    fn write_rows(
-        &self,
-        alloc: Global,
-        writer: &mut EventWriter,
-        w: SpecVersion,
-    ) -> Result<(), XmlWriteError> {
-        put_required_child(alloc, writer, w, "aggregate", &self.aggregate)?;
-        put_list(alloc, writer, w, "assemblies", "assembly", &self.assemblies)?;
+    fn write_rows(&self, writer: &mut EventWriter, target: Target) -> WriteResult {
+        put_required_child(writer, "aggregate", &self.aggregate, target)?;
+        put_list(writer, "assemblies", "assembly", &self.assemblies, target)?;
         put_list(
-            alloc,
             writer,
-            w,
             "dependencies",
             "dependency",
             &self.dependencies,
+            target,
         )?;
         put_list_since(
-            alloc,
             writer,
-            w,
             SpecVersion::V1_5,
             "vulnerabilities",
             "vulnerability",
             &self.vulnerabilities,
+            target,
         )?;
         put_child_since(
-            alloc,
             writer,
-            w,
             SpecVersion::V1_4,
             "signature",
             &self.signature,
+            target,
         )
     }
 }
@@ -92,14 +80,8 @@ impl Element for Compositions {
     ghost keeps = { refl };
 
     #[tactic(auto, unfolding(cdx_schema::specs::Table::list))]
-    fn write_as(
-        &self,
-        alloc: Global,
-        writer: &mut EventWriter,
-        w: SpecVersion,
-        tag: &str,
-    ) -> Result<(), XmlWriteError> {
-        write_list(alloc, writer, w, tag, "composition", &self.0)
+    fn write_as(&self, writer: &mut EventWriter, tag: &str, target: Target) -> WriteResult {
+        write_list(writer, tag, "composition", &self.0, target)
     }
 }
 

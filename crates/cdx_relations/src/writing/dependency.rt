@@ -7,31 +7,23 @@ ghost use Rattle.cdx_schema.specs.Kinds.{dependencies};
 use super::reference::write_references;
 use crate::dependency::{Dependencies, Dependency};
 use cdx_events::{EventWriter, List, OwnedAttribute};
-use cdx_models::{SpecVersion, XmlWriteError};
+use cdx_schema::Target;
 use cdx_write::{
-    Element, HasContent, Item, Tagged, WrittenRecord, put_required_attribute, write_list,
+    Element, HasContent, Item, Tagged, WriteResult, WrittenRecord, put_required_attribute,
+    write_list,
 };
-use std::alloc::{AllocError, Global};
+use std::alloc::AllocError;
 
 impl WrittenRecord for Dependency {
     #[tactic(auto, unfolding(cdx_write::proofs::OnRows::on_rows))]
-    fn attributes(
-        &self,
-        alloc: Global,
-        w: SpecVersion,
-    ) -> Result<List<OwnedAttribute>, AllocError> {
-        let mut attributes = List::new(alloc);
-        put_required_attribute(alloc, &mut attributes, w, "ref", &self.dependency_ref)?;
+    fn attributes(&self, target: Target) -> Result<List<OwnedAttribute>, AllocError> {
+        let mut attributes = List::new(target.alloc);
+        put_required_attribute(&mut attributes, "ref", &self.dependency_ref, target)?;
         Ok(attributes)
     }
 
-    fn write_rows(
-        &self,
-        alloc: Global,
-        writer: &mut EventWriter,
-        w: SpecVersion,
-    ) -> Result<(), XmlWriteError> {
-        write_references(alloc, writer, "dependency", &self.depends_on)
+    fn write_rows(&self, writer: &mut EventWriter, target: Target) -> WriteResult {
+        write_references(target.alloc, writer, "dependency", &self.depends_on)
     }
 }
 
@@ -59,14 +51,8 @@ impl Element for Dependencies {
     ghost keeps = { refl };
 
     #[tactic(auto, unfolding(cdx_schema::specs::Table::list))]
-    fn write_as(
-        &self,
-        alloc: Global,
-        writer: &mut EventWriter,
-        w: SpecVersion,
-        tag: &str,
-    ) -> Result<(), XmlWriteError> {
-        write_list(alloc, writer, w, tag, "dependency", &self.0)
+    fn write_as(&self, writer: &mut EventWriter, tag: &str, target: Target) -> WriteResult {
+        write_list(writer, tag, "dependency", &self.0, target)
     }
 }
 

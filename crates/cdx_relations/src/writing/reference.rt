@@ -9,8 +9,9 @@ ghost use Rattle.cdx_write.specs.Writing.{Appends};
 
 use crate::composition::BomReference;
 use cdx_events::{EventWriter, List, OwnedAttribute, OwnedName, Text};
-use cdx_models::{SpecVersion, XmlWriteError};
-use cdx_write::{Element, HasContent, Item, write_close_tag, write_opening};
+use cdx_models::SpecVersion;
+use cdx_schema::Target;
+use cdx_write::{Element, HasContent, Item, WriteResult, write_close_tag, write_opening};
 use std::alloc::Global;
 
 /// An empty element whose attribute `ref` is the reference.
@@ -19,7 +20,7 @@ pub(crate) fn write_reference(
     writer: &mut EventWriter,
     tag: &str,
     target: &Text,
-) -> Result<(), XmlWriteError>
+) -> WriteResult
     ensures { (w : SpecVersion)
         → Appends writer.old writer.new (written (text target.now) w tag.now a_reference) result }
 {
@@ -37,7 +38,7 @@ pub(crate) fn write_references(
     writer: &mut EventWriter,
     tag: &str,
     held: &List<Text>,
-) -> Result<(), XmlWriteError>
+) -> WriteResult
     ensures { (w : SpecVersion) (l : Lists) → IsListOf a_reference tag.now l
         → Appends writer.old writer.new (inner (list_tree text held.now) w (a_list l)) result }
 {
@@ -50,14 +51,8 @@ pub(crate) fn write_references(
 impl Element for BomReference {
     ghost keeps = { refl };
 
-    fn write_as(
-        &self,
-        alloc: Global,
-        writer: &mut EventWriter,
-        w: SpecVersion,
-        tag: &str,
-    ) -> Result<(), XmlWriteError> {
-        write_reference(alloc, writer, tag, &self.0)
+    fn write_as(&self, writer: &mut EventWriter, tag: &str, target: Target) -> WriteResult {
+        write_reference(target.alloc, writer, tag, &self.0)
     }
 }
 

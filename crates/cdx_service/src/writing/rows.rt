@@ -11,60 +11,59 @@ ghost use Rattle.cdx_service.specs.Trees.{service_naming, service_access};
 
 use crate::service::Service;
 use cdx_events::{EventWriter, List, OwnedAttribute};
-use cdx_models::{SpecVersion, XmlWriteError};
-use cdx_write::{put_attribute, put_child, put_list, put_required_child};
-use std::alloc::{AllocError, Global};
+use cdx_schema::Target;
+use cdx_write::{WriteResult, put_attribute, put_child, put_list, put_required_child};
+use std::alloc::AllocError;
 
 /// The attributes, all of which stand among the first rows.
 #[tactic(auto, unfolding(cdx_write::proofs::OnRows::on_rows))]
 pub(crate) fn service_attributes(
     held: &Service,
-    alloc: Global,
-    w: SpecVersion,
+    target: Target,
 ) -> Result<List<OwnedAttribute>, AllocError>
     ensures { IfOk result
-        (λ r. r ≡ attributes_put (service_naming (out-Service held.now)) w (group 0 service)) }
+        (λ r. r ≡ attributes_put (service_naming (out-Service held.now)) target.version
+        (group 0 service)) }
 {
-    let mut attributes = List::new(alloc);
-    put_attribute(alloc, &mut attributes, w, "bom-ref", &held.bom_ref)?;
+    let mut attributes = List::new(target.alloc);
+    put_attribute(&mut attributes, "bom-ref", &held.bom_ref, target)?;
     Ok(attributes)
 }
 
 pub(crate) fn write_naming_rows(
     held: &Service,
-    alloc: Global,
     writer: &mut EventWriter,
-    w: SpecVersion,
-) -> Result<(), XmlWriteError>
+    target: Target,
+) -> WriteResult
     ensures { Appends writer.old writer.new
-        (rows_written (service_naming (out-Service held.now)) w (group 0 service)) result }
+        (rows_written (service_naming (out-Service held.now)) target.version (group 0 service))
+        result }
 {
-    put_child(alloc, writer, w, "provider", &held.provider)?;
-    put_child(alloc, writer, w, "group", &held.group)?;
-    put_required_child(alloc, writer, w, "name", &held.name)?;
-    put_child(alloc, writer, w, "version", &held.version)?;
-    put_child(alloc, writer, w, "description", &held.description)
+    put_child(writer, "provider", &held.provider, target)?;
+    put_child(writer, "group", &held.group, target)?;
+    put_required_child(writer, "name", &held.name, target)?;
+    put_child(writer, "version", &held.version, target)?;
+    put_child(writer, "description", &held.description, target)
 }
 
 pub(crate) fn write_access_rows(
     held: &Service,
-    alloc: Global,
     writer: &mut EventWriter,
-    w: SpecVersion,
-) -> Result<(), XmlWriteError>
+    target: Target,
+) -> WriteResult
     ensures { Appends writer.old writer.new
-        (rows_written (service_access (out-Service held.now)) w (group 1 service)) result }
+        (rows_written (service_access (out-Service held.now)) target.version (group 1 service))
+        result }
 {
-    put_list(alloc, writer, w, "endpoints", "endpoint", &held.endpoints)?;
-    put_child(alloc, writer, w, "authenticated", &held.authenticated)?;
-    put_child(alloc, writer, w, "x-trust-boundary", &held.x_trust_boundary)?;
-    put_child(alloc, writer, w, "data", &held.data_items)?;
-    put_child(alloc, writer, w, "licenses", &held.licenses)?;
+    put_list(writer, "endpoints", "endpoint", &held.endpoints, target)?;
+    put_child(writer, "authenticated", &held.authenticated, target)?;
+    put_child(writer, "x-trust-boundary", &held.x_trust_boundary, target)?;
+    put_child(writer, "data", &held.data_items, target)?;
+    put_child(writer, "licenses", &held.licenses, target)?;
     put_child(
-        alloc,
         writer,
-        w,
         "externalReferences",
         &held.external_references,
+        target,
     )
 }

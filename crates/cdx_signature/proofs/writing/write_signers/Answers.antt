@@ -12,7 +12,7 @@ pub returns-in_err-write_start_tag : goal.returns-in_err-write_start_tag
 returns-in_err-write_start_tag c = λ l is.
     let p = err_from_is_err_and c.from_residual.result c.from_residual.ensures.1 in
     let tag = c.args.tag.now in
-    let content = written (list_tree signer_tree c.args.held.now) c.args.w c.args.name.now (a_list l) in
+    let content = written (list_tree signer_tree c.args.held.now) c.args.target.version c.args.name.now (a_list l) in
     rw (p.1, p.2) (first_fails c.args.writer.now c.write_start_tag.new.writer (start_tag tag ∷ []) (content ++ end_tag tag ∷ []) _ c.in_err-write_start_tag.ensures)
 
 pub returns-in_err-write_list : goal.returns-in_err-write_list
@@ -20,7 +20,7 @@ returns-in_err-write_list c = λ l is.
     let p = err_from_is_err_and c.from_residual-in_err-write_list.result c.from_residual-in_err-write_list.ensures.1 in
     let tag = c.args.tag.now in
     let new = c.write_list.new.writer in
-    let content = written (list_tree signer_tree c.args.held.now) c.args.w c.args.name.now (a_list l) in
+    let content = written (list_tree signer_tree c.args.held.now) c.args.target.version c.args.name.now (a_list l) in
     rw (p.1, p.2) (then_all c.args.writer.now c.write_start_tag.new.writer new (start_tag tag ∷ []) (content ++ end_tag tag ∷ []) (Err _) c.in_ok-write_start_tag.ensures
     (first_fails c.write_start_tag.new.writer new content (end_tag tag ∷ []) _ (c.in_err-write_list.ensures l is)))
 
@@ -28,6 +28,6 @@ pub returns : goal.returns
 returns c = λ l is.
     let tag = c.args.tag.now in
     let new = c.write_close_tag.new.writer in
-    let content = written (list_tree signer_tree c.args.held.now) c.args.w c.args.name.now (a_list l) in
+    let content = written (list_tree signer_tree c.args.held.now) c.args.target.version c.args.name.now (a_list l) in
     then_all c.args.writer.now c.write_start_tag.new.writer new (start_tag tag ∷ []) (content ++ end_tag tag ∷ []) c.write_close_tag.result c.in_ok-write_start_tag.ensures
     (then_all c.write_start_tag.new.writer c.write_list.new.writer new content (end_tag tag ∷ []) c.write_close_tag.result (c.in_ok-write_list.ensures l is) c.write_close_tag.ensures)

@@ -14,8 +14,8 @@ returns-in_err-write_start_tag g c = λ l is.
     let p = err_from_is_err_and c.from_residual.result c.from_residual.ensures.1 in
     let tag = c.args.tag.now in
     let t = list_tree g.T.HasTree.tree c.args.held.now in
-    let content = inner t c.args.w (a_list l) in
-    rw (p.1, p.2) (appends_same c.args.writer.now c.write_start_tag.new.writer (start_tag tag ∷ content ++ end_tag tag ∷ []) (written t c.args.w tag (a_list l)) (Err _) (list_is g.T.HasTree.tree tag l c.args.w c.args.held.now)
+    let content = inner t c.args.target.version (a_list l) in
+    rw (p.1, p.2) (appends_same c.args.writer.now c.write_start_tag.new.writer (start_tag tag ∷ content ++ end_tag tag ∷ []) (written t c.args.target.version tag (a_list l)) (Err _) (list_is g.T.HasTree.tree tag l c.args.target.version c.args.held.now)
     (first_fails c.args.writer.now c.write_start_tag.new.writer (start_tag tag ∷ []) (content ++ end_tag tag ∷ []) _ c.in_err-write_start_tag.ensures))
 
 pub returns-in_err-write_items : goal.returns-in_err-write_items
@@ -24,8 +24,8 @@ returns-in_err-write_items g c = λ l is.
     let tag = c.args.tag.now in
     let t = list_tree g.T.HasTree.tree c.args.held.now in
     let new = c.write_items.new.writer in
-    let content = inner t c.args.w (a_list l) in
-    rw (p.1, p.2) (appends_same c.args.writer.now new (start_tag tag ∷ content ++ end_tag tag ∷ []) (written t c.args.w tag (a_list l)) (Err _) (list_is g.T.HasTree.tree tag l c.args.w c.args.held.now)
+    let content = inner t c.args.target.version (a_list l) in
+    rw (p.1, p.2) (appends_same c.args.writer.now new (start_tag tag ∷ content ++ end_tag tag ∷ []) (written t c.args.target.version tag (a_list l)) (Err _) (list_is g.T.HasTree.tree tag l c.args.target.version c.args.held.now)
     (then_all c.args.writer.now c.write_start_tag.new.writer new (start_tag tag ∷ []) (content ++ end_tag tag ∷ []) (Err _) c.in_ok-write_start_tag.ensures
     (first_fails c.write_start_tag.new.writer new content (end_tag tag ∷ []) _ (c.in_err-write_items.ensures l is))))
 
@@ -34,7 +34,7 @@ returns g c = λ l is.
     let tag = c.args.tag.now in
     let t = list_tree g.T.HasTree.tree c.args.held.now in
     let new = c.write_close_tag.new.writer in
-    let content = inner t c.args.w (a_list l) in
-    appends_same c.args.writer.now new (start_tag tag ∷ content ++ end_tag tag ∷ []) (written t c.args.w tag (a_list l)) c.write_close_tag.result (list_is g.T.HasTree.tree tag l c.args.w c.args.held.now)
+    let content = inner t c.args.target.version (a_list l) in
+    appends_same c.args.writer.now new (start_tag tag ∷ content ++ end_tag tag ∷ []) (written t c.args.target.version tag (a_list l)) c.write_close_tag.result (list_is g.T.HasTree.tree tag l c.args.target.version c.args.held.now)
     (then_all c.args.writer.now c.write_start_tag.new.writer new (start_tag tag ∷ []) (content ++ end_tag tag ∷ []) c.write_close_tag.result c.in_ok-write_start_tag.ensures
     (then_all c.write_start_tag.new.writer c.write_items.new.writer new content (end_tag tag ∷ []) c.write_close_tag.result (c.in_ok-write_items.ensures l is) c.write_close_tag.ensures))

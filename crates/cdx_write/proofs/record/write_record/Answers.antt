@@ -17,9 +17,9 @@ returns-in_err-write_opening g c =
     let tag = c.args.tag.now in
     let t = g.T.HasTree.tree c.args.held.now in
     let start = opening tag c.in_ok-attributes.attributes in
-    let content = rows_written (fields_of t) c.args.w (rows g.T.Record.name) in
-    let same = record_made g.T.Record.name t c.args.w tag c.in_ok-attributes.attributes (g.met.T.Record.is_record c.args.held.now) g.T.Record.plain c.in_ok-attributes.ensures in
-    rw (p.1, p.2) (appends_same c.args.writer.now c.write_opening.new.writer (start ∷ content ++ end_tag tag ∷ []) (written t c.args.w tag (a_record g.T.Record.name)) (Err _) same
+    let content = rows_written (fields_of t) c.args.target.version (rows g.T.Record.name) in
+    let same = record_made g.T.Record.name t c.args.target.version tag c.in_ok-attributes.attributes (g.met.T.Record.is_record c.args.held.now) g.T.Record.plain c.in_ok-attributes.ensures in
+    rw (p.1, p.2) (appends_same c.args.writer.now c.write_opening.new.writer (start ∷ content ++ end_tag tag ∷ []) (written t c.args.target.version tag (a_record g.T.Record.name)) (Err _) same
     (first_fails c.args.writer.now c.write_opening.new.writer (start ∷ []) (content ++ end_tag tag ∷ []) _ c.in_err-write_opening.ensures))
 
 pub returns-in_err-write_rows : goal.returns-in_err-write_rows
@@ -28,9 +28,9 @@ returns-in_err-write_rows g c =
     let tag = c.args.tag.now in
     let t = g.T.HasTree.tree c.args.held.now in
     let start = opening tag c.in_ok-attributes.attributes in
-    let content = rows_written (fields_of t) c.args.w (rows g.T.Record.name) in
-    let same = record_made g.T.Record.name t c.args.w tag c.in_ok-attributes.attributes (g.met.T.Record.is_record c.args.held.now) g.T.Record.plain c.in_ok-attributes.ensures in
-    rw (p.1, p.2) (appends_same c.args.writer.now c.write_rows.new.writer (start ∷ content ++ end_tag tag ∷ []) (written t c.args.w tag (a_record g.T.Record.name)) (Err _) same
+    let content = rows_written (fields_of t) c.args.target.version (rows g.T.Record.name) in
+    let same = record_made g.T.Record.name t c.args.target.version tag c.in_ok-attributes.attributes (g.met.T.Record.is_record c.args.held.now) g.T.Record.plain c.in_ok-attributes.ensures in
+    rw (p.1, p.2) (appends_same c.args.writer.now c.write_rows.new.writer (start ∷ content ++ end_tag tag ∷ []) (written t c.args.target.version tag (a_record g.T.Record.name)) (Err _) same
     (then_all c.args.writer.now c.write_opening.new.writer c.write_rows.new.writer (start ∷ []) (content ++ end_tag tag ∷ []) (Err _) c.in_ok-write_opening.ensures
     (first_fails c.write_opening.new.writer c.write_rows.new.writer content (end_tag tag ∷ []) _ c.in_err-write_rows.ensures)))
 
@@ -40,8 +40,8 @@ returns g c =
     let t = g.T.HasTree.tree c.args.held.now in
     let new = c.write_close_tag.new.writer in
     let start = opening tag c.in_ok-attributes.attributes in
-    let content = rows_written (fields_of t) c.args.w (rows g.T.Record.name) in
-    let same = record_made g.T.Record.name t c.args.w tag c.in_ok-attributes.attributes (g.met.T.Record.is_record c.args.held.now) g.T.Record.plain c.in_ok-attributes.ensures in
-    appends_same c.args.writer.now new (start ∷ content ++ end_tag tag ∷ []) (written t c.args.w tag (a_record g.T.Record.name)) c.write_close_tag.result same
+    let content = rows_written (fields_of t) c.args.target.version (rows g.T.Record.name) in
+    let same = record_made g.T.Record.name t c.args.target.version tag c.in_ok-attributes.attributes (g.met.T.Record.is_record c.args.held.now) g.T.Record.plain c.in_ok-attributes.ensures in
+    appends_same c.args.writer.now new (start ∷ content ++ end_tag tag ∷ []) (written t c.args.target.version tag (a_record g.T.Record.name)) c.write_close_tag.result same
     (then_all c.args.writer.now c.write_opening.new.writer new (start ∷ []) (content ++ end_tag tag ∷ []) c.write_close_tag.result c.in_ok-write_opening.ensures
     (then_all c.write_opening.new.writer c.write_rows.new.writer new content (end_tag tag ∷ []) c.write_close_tag.result c.in_ok-write_rows.ensures c.write_close_tag.ensures))

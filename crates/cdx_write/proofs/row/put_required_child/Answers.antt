@@ -7,5 +7,5 @@ pub returns : goal.returns
 returns g c =
     let t = g.T.HasTree.tree c.args.held.now in
     let k = g.T.Kinded.kind in
-    appends_same c.args.writer.now c.write_as.new.writer (written t c.args.w c.args.name.now k) (child_put c.args.name.now k t c.args.w) c.write_as.result
-    (child_there c.args.name.now k t c.args.w g.met.T.Element.keeps (g.met.T.HasTree.there c.args.held.now)) c.write_as.ensures
+    appends_same c.args.writer.now c.write_as.new.writer (written t c.args.target.version c.args.name.now k) (child_put c.args.name.now k t c.args.target.version) c.write_as.result
+    (child_there c.args.name.now k t c.args.target.version g.met.T.Element.keeps (g.met.T.HasTree.there c.args.held.now)) c.write_as.ensures

@@ -18,7 +18,7 @@ pub returns-in_err-write_start : goal.returns-in_err-write_start
 returns-in_err-write_start c =
     let p = err_from_is_err_and c.from_residual.result c.from_residual.ensures.1 in
     let b = c.args.held.now in
-    let w = c.args.w in
+    let w = c.args.target.version in
     let rows' = rows_written (fields_of (bom_tree b)) w (rows bill) in
     rw (p.1, p.2) (appends_same c.args.writer.now c.write_start.new.writer ((StartDocument ∷ []) ++ ((root_start (bom_tree b) w ∷ []) ++ (rows' ++ ((end_tag (codes "bom") ∷ []) ++ (EndDocument ∷ []))))) (document_in w (bom_tree b)) (Err _) (document_is b w)
     (first_fails c.args.writer.now c.write_start.new.writer (StartDocument ∷ []) ((root_start (bom_tree b) w ∷ []) ++ (rows' ++ ((end_tag (codes "bom") ∷ []) ++ (EndDocument ∷ [])))) _ c.in_err-write_start.ensures))
@@ -27,7 +27,7 @@ pub returns-in_err-write_root_start : goal.returns-in_err-write_root_start
 returns-in_err-write_root_start c =
     let p = err_from_is_err_and c.from_residual-in_err-write_root_start.result c.from_residual-in_err-write_root_start.ensures.1 in
     let b = c.args.held.now in
-    let w = c.args.w in
+    let w = c.args.target.version in
     let rows' = rows_written (fields_of (bom_tree b)) w (rows bill) in
     rw (p.1, p.2) (appends_same c.args.writer.now c.write_root_start.new.writer ((StartDocument ∷ []) ++ ((root_start (bom_tree b) w ∷ []) ++ (rows' ++ ((end_tag (codes "bom") ∷ []) ++ (EndDocument ∷ []))))) (document_in w (bom_tree b)) (Err _) (document_is b w)
     (then_all c.args.writer.now c.write_start.new.writer c.write_root_start.new.writer (StartDocument ∷ []) ((root_start (bom_tree b) w ∷ []) ++ (rows' ++ ((end_tag (codes "bom") ∷ []) ++ (EndDocument ∷ [])))) (Err _) c.in_ok-write_start.ensures
@@ -37,7 +37,7 @@ pub returns-in_err-write_rows : goal.returns-in_err-write_rows
 returns-in_err-write_rows c =
     let p = err_from_is_err_and c.from_residual-in_err-write_rows.result c.from_residual-in_err-write_rows.ensures.1 in
     let b = c.args.held.now in
-    let w = c.args.w in
+    let w = c.args.target.version in
     let rows' = rows_written (fields_of (bom_tree b)) w (rows bill) in
     rw (p.1, p.2) (appends_same c.args.writer.now c.write_rows.new.writer ((StartDocument ∷ []) ++ ((root_start (bom_tree b) w ∷ []) ++ (rows' ++ ((end_tag (codes "bom") ∷ []) ++ (EndDocument ∷ []))))) (document_in w (bom_tree b)) (Err _) (document_is b w)
     (then_all c.args.writer.now c.write_start.new.writer c.write_rows.new.writer (StartDocument ∷ []) ((root_start (bom_tree b) w ∷ []) ++ (rows' ++ ((end_tag (codes "bom") ∷ []) ++ (EndDocument ∷ [])))) (Err _) c.in_ok-write_start.ensures
@@ -48,7 +48,7 @@ pub returns-in_err-write_close_tag : goal.returns-in_err-write_close_tag
 returns-in_err-write_close_tag c =
     let p = err_from_is_err_and c.from_residual-in_err-write_close_tag.result c.from_residual-in_err-write_close_tag.ensures.1 in
     let b = c.args.held.now in
-    let w = c.args.w in
+    let w = c.args.target.version in
     let rows' = rows_written (fields_of (bom_tree b)) w (rows bill) in
     rw (p.1, p.2) (appends_same c.args.writer.now c.write_close_tag.new.writer ((StartDocument ∷ []) ++ ((root_start (bom_tree b) w ∷ []) ++ (rows' ++ ((end_tag (codes "bom") ∷ []) ++ (EndDocument ∷ []))))) (document_in w (bom_tree b)) (Err _) (document_is b w)
     (then_all c.args.writer.now c.write_start.new.writer c.write_close_tag.new.writer (StartDocument ∷ []) ((root_start (bom_tree b) w ∷ []) ++ (rows' ++ ((end_tag (codes "bom") ∷ []) ++ (EndDocument ∷ [])))) (Err _) c.in_ok-write_start.ensures
@@ -59,7 +59,7 @@ returns-in_err-write_close_tag c =
 pub returns : goal.returns
 returns c =
     let b = c.args.held.now in
-    let w = c.args.w in
+    let w = c.args.target.version in
     let rows' = rows_written (fields_of (bom_tree b)) w (rows bill) in
     appends_same c.args.writer.now c.write_end.new.writer ((StartDocument ∷ []) ++ ((root_start (bom_tree b) w ∷ []) ++ (rows' ++ ((end_tag (codes "bom") ∷ []) ++ (EndDocument ∷ []))))) (document_in w (bom_tree b)) c.write_end.result (document_is b w)
     (then_all c.args.writer.now c.write_start.new.writer c.write_end.new.writer (StartDocument ∷ []) ((root_start (bom_tree b) w ∷ []) ++ (rows' ++ ((end_tag (codes "bom") ∷ []) ++ (EndDocument ∷ [])))) c.write_end.result c.in_ok-write_start.ensures

@@ -15,7 +15,7 @@ pub returns-in_err-write_inventory_rows : goal.returns-in_err-write_inventory_ro
 returns-in_err-write_inventory_rows c =
     let p = err_from_is_err_and c.from_residual.result c.from_residual.ensures.1 in
     let b = c.args.held.now in
-    let w = c.args.w in
+    let w = c.args.target.version in
     let front = rows_written (inventory b) w (group 0 bill) in
     let back = rows_written (relations b) w (group 1 bill) in
     rw (p.1, p.2) (appends_same c.args.writer.now c.write_inventory_rows.new.writer (front ++ back) (rows_written (fields_of (bom_tree b)) w (rows bill)) (Err _) (both_groups b w)
@@ -24,7 +24,7 @@ returns-in_err-write_inventory_rows c =
 pub returns : goal.returns
 returns c =
     let b = c.args.held.now in
-    let w = c.args.w in
+    let w = c.args.target.version in
     let front = rows_written (inventory b) w (group 0 bill) in
     let back = rows_written (relations b) w (group 1 bill) in
     appends_same c.args.writer.now c.write_relations_rows.new.writer (front ++ back) (rows_written (fields_of (bom_tree b)) w (rows bill)) c.write_relations_rows.result (both_groups b w)

@@ -24,9 +24,9 @@ write_component-returns-in_err-write_opening t c =
     let tag = c.args.tag.now in
     let x = c.args.held.now in
     let start = opening tag c.in_ok-attributes.attributes in
-    let content = rows_written (component_fields components_tree pedigree_tree (out-Component x)) c.args.w (rows component) in
-    let same = component_made x c.args.w tag c.in_ok-attributes.attributes c.in_ok-attributes.ensures in
-    rw (p.1, p.2) (appends_same c.args.writer.now c.write_opening.new.writer (start ∷ content ++ end_tag tag ∷ []) (written (component_tree x) c.args.w tag (a_record component)) (Err _) same
+    let content = rows_written (component_fields components_tree pedigree_tree (out-Component x)) c.args.target.version (rows component) in
+    let same = component_made x c.args.target.version tag c.in_ok-attributes.attributes c.in_ok-attributes.ensures in
+    rw (p.1, p.2) (appends_same c.args.writer.now c.write_opening.new.writer (start ∷ content ++ end_tag tag ∷ []) (written (component_tree x) c.args.target.version tag (a_record component)) (Err _) same
     (first_fails c.args.writer.now c.write_opening.new.writer (start ∷ []) (content ++ end_tag tag ∷ []) _ c.in_err-write_opening.ensures))
 
 pub write_component-returns-in_err-write_rows : goal.write_component-returns-in_err-write_rows
@@ -35,9 +35,9 @@ write_component-returns-in_err-write_rows t c =
     let tag = c.args.tag.now in
     let x = c.args.held.now in
     let start = opening tag c.in_ok-attributes.attributes in
-    let content = rows_written (component_fields components_tree pedigree_tree (out-Component x)) c.args.w (rows component) in
-    let same = component_made x c.args.w tag c.in_ok-attributes.attributes c.in_ok-attributes.ensures in
-    rw (p.1, p.2) (appends_same c.args.writer.now c.write_rows.new.writer (start ∷ content ++ end_tag tag ∷ []) (written (component_tree x) c.args.w tag (a_record component)) (Err _) same
+    let content = rows_written (component_fields components_tree pedigree_tree (out-Component x)) c.args.target.version (rows component) in
+    let same = component_made x c.args.target.version tag c.in_ok-attributes.attributes c.in_ok-attributes.ensures in
+    rw (p.1, p.2) (appends_same c.args.writer.now c.write_rows.new.writer (start ∷ content ++ end_tag tag ∷ []) (written (component_tree x) c.args.target.version tag (a_record component)) (Err _) same
     (then_all c.args.writer.now c.write_opening.new.writer c.write_rows.new.writer (start ∷ []) (content ++ end_tag tag ∷ []) (Err _) c.in_ok-write_opening.ensures
     (first_fails c.write_opening.new.writer c.write_rows.new.writer content (end_tag tag ∷ []) _ c.in_err-write_rows.ensures)))
 
@@ -46,9 +46,9 @@ write_component-returns t c =
     let tag = c.args.tag.now in
     let x = c.args.held.now in
     let start = opening tag c.in_ok-attributes.attributes in
-    let content = rows_written (component_fields components_tree pedigree_tree (out-Component x)) c.args.w (rows component) in
-    let same = component_made x c.args.w tag c.in_ok-attributes.attributes c.in_ok-attributes.ensures in
-    appends_same c.args.writer.now c.write_close_tag.new.writer (start ∷ content ++ end_tag tag ∷ []) (written (component_tree x) c.args.w tag (a_record component)) c.write_close_tag.result same
+    let content = rows_written (component_fields components_tree pedigree_tree (out-Component x)) c.args.target.version (rows component) in
+    let same = component_made x c.args.target.version tag c.in_ok-attributes.attributes c.in_ok-attributes.ensures in
+    appends_same c.args.writer.now c.write_close_tag.new.writer (start ∷ content ++ end_tag tag ∷ []) (written (component_tree x) c.args.target.version tag (a_record component)) c.write_close_tag.result same
     (then_all c.args.writer.now c.write_opening.new.writer c.write_close_tag.new.writer (start ∷ []) (content ++ end_tag tag ∷ []) c.write_close_tag.result c.in_ok-write_opening.ensures
     (then_all c.write_opening.new.writer c.write_rows.new.writer c.write_close_tag.new.writer content (end_tag tag ∷ []) c.write_close_tag.result c.in_ok-write_rows.ensures c.write_close_tag.ensures))
 
@@ -58,9 +58,9 @@ write_components-returns-in_err-write_start_tag t c =
     let tag = c.args.tag.now in
     let x = c.args.held.now in
     let start = start_tag tag in
-    let content = inner (components_tree x) c.args.w (a_list components) in
-    let same = components_made tag c.args.w x in
-    rw (p.1, p.2) (appends_same c.args.writer.now c.write_start_tag.new.writer (start ∷ content ++ end_tag tag ∷ []) (written (components_tree x) c.args.w tag (a_list components)) (Err _) same
+    let content = inner (components_tree x) c.args.target.version (a_list components) in
+    let same = components_made tag c.args.target.version x in
+    rw (p.1, p.2) (appends_same c.args.writer.now c.write_start_tag.new.writer (start ∷ content ++ end_tag tag ∷ []) (written (components_tree x) c.args.target.version tag (a_list components)) (Err _) same
     (first_fails c.args.writer.now c.write_start_tag.new.writer (start ∷ []) (content ++ end_tag tag ∷ []) _ c.in_err-write_start_tag.ensures))
 
 pub write_components-returns-in_err-write_items : goal.write_components-returns-in_err-write_items
@@ -69,9 +69,9 @@ write_components-returns-in_err-write_items t c =
     let tag = c.args.tag.now in
     let x = c.args.held.now in
     let start = start_tag tag in
-    let content = inner (components_tree x) c.args.w (a_list components) in
-    let same = components_made tag c.args.w x in
-    rw (p.1, p.2) (appends_same c.args.writer.now c.write_items.new.writer (start ∷ content ++ end_tag tag ∷ []) (written (components_tree x) c.args.w tag (a_list components)) (Err _) same
+    let content = inner (components_tree x) c.args.target.version (a_list components) in
+    let same = components_made tag c.args.target.version x in
+    rw (p.1, p.2) (appends_same c.args.writer.now c.write_items.new.writer (start ∷ content ++ end_tag tag ∷ []) (written (components_tree x) c.args.target.version tag (a_list components)) (Err _) same
     (then_all c.args.writer.now c.write_start_tag.new.writer c.write_items.new.writer (start ∷ []) (content ++ end_tag tag ∷ []) (Err _) c.in_ok-write_start_tag.ensures
     (first_fails c.write_start_tag.new.writer c.write_items.new.writer content (end_tag tag ∷ []) _ c.in_err-write_items.ensures)))
 
@@ -80,9 +80,9 @@ write_components-returns t c =
     let tag = c.args.tag.now in
     let x = c.args.held.now in
     let start = start_tag tag in
-    let content = inner (components_tree x) c.args.w (a_list components) in
-    let same = components_made tag c.args.w x in
-    appends_same c.args.writer.now c.write_close_tag.new.writer (start ∷ content ++ end_tag tag ∷ []) (written (components_tree x) c.args.w tag (a_list components)) c.write_close_tag.result same
+    let content = inner (components_tree x) c.args.target.version (a_list components) in
+    let same = components_made tag c.args.target.version x in
+    appends_same c.args.writer.now c.write_close_tag.new.writer (start ∷ content ++ end_tag tag ∷ []) (written (components_tree x) c.args.target.version tag (a_list components)) c.write_close_tag.result same
     (then_all c.args.writer.now c.write_start_tag.new.writer c.write_close_tag.new.writer (start ∷ []) (content ++ end_tag tag ∷ []) c.write_close_tag.result c.in_ok-write_start_tag.ensures
     (then_all c.write_start_tag.new.writer c.write_items.new.writer c.write_close_tag.new.writer content (end_tag tag ∷ []) c.write_close_tag.result c.in_ok-write_items.ensures c.write_close_tag.ensures))
 
@@ -92,9 +92,9 @@ write_pedigree-returns-in_err-write_start_tag t c =
     let tag = c.args.tag.now in
     let x = c.args.held.now in
     let start = start_tag tag in
-    let content = rows_written (pedigree_fields components_tree (out-Pedigree x)) c.args.w (rows pedigree) in
-    let same = pedigree_made x c.args.w tag in
-    rw (p.1, p.2) (appends_same c.args.writer.now c.write_start_tag.new.writer (start ∷ content ++ end_tag tag ∷ []) (written (pedigree_tree x) c.args.w tag (a_record pedigree)) (Err _) same
+    let content = rows_written (pedigree_fields components_tree (out-Pedigree x)) c.args.target.version (rows pedigree) in
+    let same = pedigree_made x c.args.target.version tag in
+    rw (p.1, p.2) (appends_same c.args.writer.now c.write_start_tag.new.writer (start ∷ content ++ end_tag tag ∷ []) (written (pedigree_tree x) c.args.target.version tag (a_record pedigree)) (Err _) same
     (first_fails c.args.writer.now c.write_start_tag.new.writer (start ∷ []) (content ++ end_tag tag ∷ []) _ c.in_err-write_start_tag.ensures))
 
 pub write_pedigree-returns-in_err-write_pedigree_rows : goal.write_pedigree-returns-in_err-write_pedigree_rows
@@ -103,9 +103,9 @@ write_pedigree-returns-in_err-write_pedigree_rows t c =
     let tag = c.args.tag.now in
     let x = c.args.held.now in
     let start = start_tag tag in
-    let content = rows_written (pedigree_fields components_tree (out-Pedigree x)) c.args.w (rows pedigree) in
-    let same = pedigree_made x c.args.w tag in
-    rw (p.1, p.2) (appends_same c.args.writer.now c.write_pedigree_rows.new.writer (start ∷ content ++ end_tag tag ∷ []) (written (pedigree_tree x) c.args.w tag (a_record pedigree)) (Err _) same
+    let content = rows_written (pedigree_fields components_tree (out-Pedigree x)) c.args.target.version (rows pedigree) in
+    let same = pedigree_made x c.args.target.version tag in
+    rw (p.1, p.2) (appends_same c.args.writer.now c.write_pedigree_rows.new.writer (start ∷ content ++ end_tag tag ∷ []) (written (pedigree_tree x) c.args.target.version tag (a_record pedigree)) (Err _) same
     (then_all c.args.writer.now c.write_start_tag.new.writer c.write_pedigree_rows.new.writer (start ∷ []) (content ++ end_tag tag ∷ []) (Err _) c.in_ok-write_start_tag.ensures
     (first_fails c.write_start_tag.new.writer c.write_pedigree_rows.new.writer content (end_tag tag ∷ []) _ c.in_err-write_pedigree_rows.ensures)))
 
@@ -114,9 +114,9 @@ write_pedigree-returns t c =
     let tag = c.args.tag.now in
     let x = c.args.held.now in
     let start = start_tag tag in
-    let content = rows_written (pedigree_fields components_tree (out-Pedigree x)) c.args.w (rows pedigree) in
-    let same = pedigree_made x c.args.w tag in
-    appends_same c.args.writer.now c.write_close_tag.new.writer (start ∷ content ++ end_tag tag ∷ []) (written (pedigree_tree x) c.args.w tag (a_record pedigree)) c.write_close_tag.result same
+    let content = rows_written (pedigree_fields components_tree (out-Pedigree x)) c.args.target.version (rows pedigree) in
+    let same = pedigree_made x c.args.target.version tag in
+    appends_same c.args.writer.now c.write_close_tag.new.writer (start ∷ content ++ end_tag tag ∷ []) (written (pedigree_tree x) c.args.target.version tag (a_record pedigree)) c.write_close_tag.result same
     (then_all c.args.writer.now c.write_start_tag.new.writer c.write_close_tag.new.writer (start ∷ []) (content ++ end_tag tag ∷ []) c.write_close_tag.result c.in_ok-write_start_tag.ensures
     (then_all c.write_start_tag.new.writer c.write_pedigree_rows.new.writer c.write_close_tag.new.writer content (end_tag tag ∷ []) c.write_close_tag.result c.in_ok-write_pedigree_rows.ensures c.write_close_tag.ensures))
 
@@ -127,65 +127,65 @@ write_items-loop-item-init t c =
 pub write_items-loop-item-preserved : goal.write_items-loop-item-preserved
 write_items-loop-item-preserved t c =
     let x = c.item-item.result in
-    item_written (items_put component_tree (codes "component") (a_record component) c.args.w) c.args.writer.now c.loop-item.writer c.write_component.new.writer c.deref-item-items.result.now c.loop-item.item-index x c.loop-item-test.true c.item-item.is c.loop-item.invariant
-    (c.in_ok-write_component.ensures ∙ ap (λ s. c.loop-item.writer ++ s) (component_item (codes "component") c.args.w x))
+    item_written (items_put component_tree (codes "component") (a_record component) c.args.target.version) c.args.writer.now c.loop-item.writer c.write_component.new.writer c.deref-item-items.result.now c.loop-item.item-index x c.loop-item-test.true c.item-item.is c.loop-item.invariant
+    (c.in_ok-write_component.ensures ∙ ap (λ s. c.loop-item.writer ++ s) (component_item (codes "component") c.args.target.version x))
 
 pub write_items-returns-in_err-write_component : goal.write_items-returns-in_err-write_component
 write_items-returns-in_err-write_component t c =
     let p = err_from_is_err_and c.from_residual.result c.from_residual.ensures.1 in
     let x = c.item-item.result in
-    let f = items_put component_tree (codes "component") (a_record component) c.args.w in
+    let f = items_put component_tree (codes "component") (a_record component) c.args.target.version in
     let new = c.write_component.new.writer in
     let all = flat_map f (listed c.args.held.now) in
-    rw (p.1, p.2) (appends_same c.args.writer.now new (all ++ []) (inner (components_tree c.args.held.now) c.args.w (a_list components)) (Err _) (append-nil all ∙ components_inner c.args.w c.args.held.now)
+    rw (p.1, p.2) (appends_same c.args.writer.now new (all ++ []) (inner (components_tree c.args.held.now) c.args.target.version (a_list components)) (Err _) (append-nil all ∙ components_inner c.args.target.version c.args.held.now)
     (item_fails f c.args.writer.now c.loop-item.writer new [] c.deref-item-items.result.now (listed c.args.held.now) c.loop-item.item-index x _ c.deref-item-items.ensures.value c.loop-item-test.true c.item-item.is c.loop-item.invariant
-    (appends_same c.loop-item.writer new (written (component_tree x) c.args.w (codes "component") (a_record component)) (item_put (codes "component") (a_record component) (component_tree x) c.args.w) (Err _) (component_item (codes "component") c.args.w x) c.in_err-write_component.ensures)))
+    (appends_same c.loop-item.writer new (written (component_tree x) c.args.target.version (codes "component") (a_record component)) (item_put (codes "component") (a_record component) (component_tree x) c.args.target.version) (Err _) (component_item (codes "component") c.args.target.version x) c.in_err-write_component.ensures)))
 
 pub write_items-returns : goal.write_items-returns
 write_items-returns t c =
-    items_end (items_put component_tree (codes "component") (a_record component) c.args.w) c.args.writer.now c.loop-item.writer c.deref-item-items.result.now (listed c.args.held.now) c.loop-item.item-index c.deref-item-items.ensures.value c.loop-item-test.false c.loop-item.invariant
-    ∙ ap (λ s. c.args.writer.now ++ s) (components_inner c.args.w c.args.held.now)
+    items_end (items_put component_tree (codes "component") (a_record component) c.args.target.version) c.args.writer.now c.loop-item.writer c.deref-item-items.result.now (listed c.args.held.now) c.loop-item.item-index c.deref-item-items.ensures.value c.loop-item-test.false c.loop-item.invariant
+    ∙ ap (λ s. c.args.writer.now ++ s) (components_inner c.args.target.version c.args.held.now)
 
 pub write_rows-returns-in_err-write_origin_rows : goal.write_rows-returns-in_err-write_origin_rows
 write_rows-returns-in_err-write_origin_rows t c =
     let p = err_from_is_err_and c.from_residual.result c.from_residual.ensures.1 in
-    let g0 = rows_written (origin (out-Component c.args.held.now)) c.args.w (group 0 component) in
-    let g1 = rows_written (naming (out-Component c.args.held.now)) c.args.w (group 1 component) in
-    let g2 = rows_written (marks (out-Component c.args.held.now)) c.args.w (group 2 component) in
-    let g3 = rows_written (contents components_tree pedigree_tree (out-Component c.args.held.now)) c.args.w (group 3 component) in
-    rw (p.1, p.2) (appends_same c.args.writer.now c.write_origin_rows.new.writer (g0 ++ (g1 ++ (g2 ++ g3))) (rows_written (component_fields components_tree pedigree_tree (out-Component c.args.held.now)) c.args.w (rows component)) (Err _) (component_in_groups (out-Component c.args.held.now) c.args.w)
+    let g0 = rows_written (origin (out-Component c.args.held.now)) c.args.target.version (group 0 component) in
+    let g1 = rows_written (naming (out-Component c.args.held.now)) c.args.target.version (group 1 component) in
+    let g2 = rows_written (marks (out-Component c.args.held.now)) c.args.target.version (group 2 component) in
+    let g3 = rows_written (contents components_tree pedigree_tree (out-Component c.args.held.now)) c.args.target.version (group 3 component) in
+    rw (p.1, p.2) (appends_same c.args.writer.now c.write_origin_rows.new.writer (g0 ++ (g1 ++ (g2 ++ g3))) (rows_written (component_fields components_tree pedigree_tree (out-Component c.args.held.now)) c.args.target.version (rows component)) (Err _) (component_in_groups (out-Component c.args.held.now) c.args.target.version)
     (first_fails c.args.writer.now c.write_origin_rows.new.writer g0 (g1 ++ (g2 ++ g3)) _ c.in_err-write_origin_rows.ensures))
 
 pub write_rows-returns-in_err-write_naming_rows : goal.write_rows-returns-in_err-write_naming_rows
 write_rows-returns-in_err-write_naming_rows t c =
     let p = err_from_is_err_and c.from_residual-in_err-write_naming_rows.result c.from_residual-in_err-write_naming_rows.ensures.1 in
-    let g0 = rows_written (origin (out-Component c.args.held.now)) c.args.w (group 0 component) in
-    let g1 = rows_written (naming (out-Component c.args.held.now)) c.args.w (group 1 component) in
-    let g2 = rows_written (marks (out-Component c.args.held.now)) c.args.w (group 2 component) in
-    let g3 = rows_written (contents components_tree pedigree_tree (out-Component c.args.held.now)) c.args.w (group 3 component) in
-    rw (p.1, p.2) (appends_same c.args.writer.now c.write_naming_rows.new.writer (g0 ++ (g1 ++ (g2 ++ g3))) (rows_written (component_fields components_tree pedigree_tree (out-Component c.args.held.now)) c.args.w (rows component)) (Err _) (component_in_groups (out-Component c.args.held.now) c.args.w)
+    let g0 = rows_written (origin (out-Component c.args.held.now)) c.args.target.version (group 0 component) in
+    let g1 = rows_written (naming (out-Component c.args.held.now)) c.args.target.version (group 1 component) in
+    let g2 = rows_written (marks (out-Component c.args.held.now)) c.args.target.version (group 2 component) in
+    let g3 = rows_written (contents components_tree pedigree_tree (out-Component c.args.held.now)) c.args.target.version (group 3 component) in
+    rw (p.1, p.2) (appends_same c.args.writer.now c.write_naming_rows.new.writer (g0 ++ (g1 ++ (g2 ++ g3))) (rows_written (component_fields components_tree pedigree_tree (out-Component c.args.held.now)) c.args.target.version (rows component)) (Err _) (component_in_groups (out-Component c.args.held.now) c.args.target.version)
     (then_all c.args.writer.now c.write_origin_rows.new.writer c.write_naming_rows.new.writer g0 (g1 ++ (g2 ++ g3)) (Err _) c.in_ok-write_origin_rows.ensures
     (first_fails c.write_origin_rows.new.writer c.write_naming_rows.new.writer g1 (g2 ++ g3) _ c.in_err-write_naming_rows.ensures)))
 
 pub write_rows-returns-in_err-write_marks_rows : goal.write_rows-returns-in_err-write_marks_rows
 write_rows-returns-in_err-write_marks_rows t c =
     let p = err_from_is_err_and c.from_residual-in_err-write_marks_rows.result c.from_residual-in_err-write_marks_rows.ensures.1 in
-    let g0 = rows_written (origin (out-Component c.args.held.now)) c.args.w (group 0 component) in
-    let g1 = rows_written (naming (out-Component c.args.held.now)) c.args.w (group 1 component) in
-    let g2 = rows_written (marks (out-Component c.args.held.now)) c.args.w (group 2 component) in
-    let g3 = rows_written (contents components_tree pedigree_tree (out-Component c.args.held.now)) c.args.w (group 3 component) in
-    rw (p.1, p.2) (appends_same c.args.writer.now c.write_marks_rows.new.writer (g0 ++ (g1 ++ (g2 ++ g3))) (rows_written (component_fields components_tree pedigree_tree (out-Component c.args.held.now)) c.args.w (rows component)) (Err _) (component_in_groups (out-Component c.args.held.now) c.args.w)
+    let g0 = rows_written (origin (out-Component c.args.held.now)) c.args.target.version (group 0 component) in
+    let g1 = rows_written (naming (out-Component c.args.held.now)) c.args.target.version (group 1 component) in
+    let g2 = rows_written (marks (out-Component c.args.held.now)) c.args.target.version (group 2 component) in
+    let g3 = rows_written (contents components_tree pedigree_tree (out-Component c.args.held.now)) c.args.target.version (group 3 component) in
+    rw (p.1, p.2) (appends_same c.args.writer.now c.write_marks_rows.new.writer (g0 ++ (g1 ++ (g2 ++ g3))) (rows_written (component_fields components_tree pedigree_tree (out-Component c.args.held.now)) c.args.target.version (rows component)) (Err _) (component_in_groups (out-Component c.args.held.now) c.args.target.version)
     (then_all c.args.writer.now c.write_origin_rows.new.writer c.write_marks_rows.new.writer g0 (g1 ++ (g2 ++ g3)) (Err _) c.in_ok-write_origin_rows.ensures
     (then_all c.write_origin_rows.new.writer c.write_naming_rows.new.writer c.write_marks_rows.new.writer g1 (g2 ++ g3) (Err _) c.in_ok-write_naming_rows.ensures
     (first_fails c.write_naming_rows.new.writer c.write_marks_rows.new.writer g2 g3 _ c.in_err-write_marks_rows.ensures))))
 
 pub write_rows-returns : goal.write_rows-returns
 write_rows-returns t c =
-    let g0 = rows_written (origin (out-Component c.args.held.now)) c.args.w (group 0 component) in
-    let g1 = rows_written (naming (out-Component c.args.held.now)) c.args.w (group 1 component) in
-    let g2 = rows_written (marks (out-Component c.args.held.now)) c.args.w (group 2 component) in
-    let g3 = rows_written (contents components_tree pedigree_tree (out-Component c.args.held.now)) c.args.w (group 3 component) in
-    appends_same c.args.writer.now c.write_contents_rows.new.writer (g0 ++ (g1 ++ (g2 ++ g3))) (rows_written (component_fields components_tree pedigree_tree (out-Component c.args.held.now)) c.args.w (rows component)) c.write_contents_rows.result (component_in_groups (out-Component c.args.held.now) c.args.w)
+    let g0 = rows_written (origin (out-Component c.args.held.now)) c.args.target.version (group 0 component) in
+    let g1 = rows_written (naming (out-Component c.args.held.now)) c.args.target.version (group 1 component) in
+    let g2 = rows_written (marks (out-Component c.args.held.now)) c.args.target.version (group 2 component) in
+    let g3 = rows_written (contents components_tree pedigree_tree (out-Component c.args.held.now)) c.args.target.version (group 3 component) in
+    appends_same c.args.writer.now c.write_contents_rows.new.writer (g0 ++ (g1 ++ (g2 ++ g3))) (rows_written (component_fields components_tree pedigree_tree (out-Component c.args.held.now)) c.args.target.version (rows component)) c.write_contents_rows.result (component_in_groups (out-Component c.args.held.now) c.args.target.version)
     (then_all c.args.writer.now c.write_origin_rows.new.writer c.write_contents_rows.new.writer g0 (g1 ++ (g2 ++ g3)) c.write_contents_rows.result c.in_ok-write_origin_rows.ensures
     (then_all c.write_origin_rows.new.writer c.write_naming_rows.new.writer c.write_contents_rows.new.writer g1 (g2 ++ g3) c.write_contents_rows.result c.in_ok-write_naming_rows.ensures
     (then_all c.write_naming_rows.new.writer c.write_marks_rows.new.writer c.write_contents_rows.new.writer g2 g3 c.write_contents_rows.result c.in_ok-write_marks_rows.ensures
@@ -293,20 +293,20 @@ write_pedigree_rows-returns t c =
 
 pub put_pedigree-returns-in-None : goal.put_pedigree-returns-in-None
 put_pedigree-returns-in-None t c =
-    rw c.in-None.is (nothing_added c.args.writer.now _ (child_none c.args.name.now (a_record pedigree) c.args.w))
+    rw c.in-None.is (nothing_added c.args.writer.now _ (child_none c.args.name.now (a_record pedigree) c.args.target.version))
 
 pub put_pedigree-returns-in-Some : goal.put_pedigree-returns-in-Some
 put_pedigree-returns-in-Some t c =
     let x = c.in-Some.held in
-    rw c.in-Some.is (appends_same c.args.writer.now c.write_pedigree.new.writer (written (pedigree_tree x) c.args.w c.args.name.now (a_record pedigree)) (child_put c.args.name.now (a_record pedigree) (pedigree_tree x) c.args.w) c.write_pedigree.result
-    (pedigree_child c.args.name.now c.args.w x) c.write_pedigree.ensures)
+    rw c.in-Some.is (appends_same c.args.writer.now c.write_pedigree.new.writer (written (pedigree_tree x) c.args.target.version c.args.name.now (a_record pedigree)) (child_put c.args.name.now (a_record pedigree) (pedigree_tree x) c.args.target.version) c.write_pedigree.result
+    (pedigree_child c.args.name.now c.args.target.version x) c.write_pedigree.ensures)
 
 pub put_components-returns-in-None : goal.put_components-returns-in-None
 put_components-returns-in-None t c =
-    rw c.in-None.is (nothing_added c.args.writer.now _ (child_none c.args.name.now (a_list components) c.args.w))
+    rw c.in-None.is (nothing_added c.args.writer.now _ (child_none c.args.name.now (a_list components) c.args.target.version))
 
 pub put_components-returns-in-Some : goal.put_components-returns-in-Some
 put_components-returns-in-Some t c =
     let x = c.in-Some.held in
-    rw c.in-Some.is (appends_same c.args.writer.now c.write_components.new.writer (written (components_tree x) c.args.w c.args.name.now (a_list components)) (child_put c.args.name.now (a_list components) (components_tree x) c.args.w) c.write_components.result
-    (components_child c.args.name.now c.args.w x) c.write_components.ensures)
+    rw c.in-Some.is (appends_same c.args.writer.now c.write_components.new.writer (written (components_tree x) c.args.target.version c.args.name.now (a_list components)) (child_put c.args.name.now (a_list components) (components_tree x) c.args.target.version) c.write_components.result
+    (components_child c.args.name.now c.args.target.version x) c.write_components.ensures)

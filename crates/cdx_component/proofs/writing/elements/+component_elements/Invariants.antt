@@ -7,4 +7,4 @@ use Rattle.cdx_component.specs.Trees.{component_tree}
 use Rattle.cdx_component.proofs.writing.elements.+component_elements.Given as goal
 
 abbrev pub invariant-write_items-loop-item : goal.invariant-write_items-loop-item
-invariant-write_items-loop-item l = l.writer ≡ l.fn.writer ++ flat_map (items_put component_tree (codes "component") (a_record component) l.w) (take l.item-index l.item-items)
+invariant-write_items-loop-item l = l.writer ≡ l.fn.writer ++ flat_map (items_put component_tree (codes "component") (a_record component) l.target.version) (take l.item-index l.item-items)

@@ -5,4 +5,4 @@ use Rattle.cdx_component_parts.proofs.writing.CopyrightWrittenRecord.write_rows.
 
 pub returns : goal.returns
 unfolding rows_written rows list
-returns c = last_row c.args.writer.now c.put_cdata.new.writer _ c.put_cdata.result (c.put_cdata.ensures c.args.w)
+returns c = last_row c.args.writer.now c.put_cdata.new.writer _ c.put_cdata.result (c.put_cdata.ensures c.args.target.version)

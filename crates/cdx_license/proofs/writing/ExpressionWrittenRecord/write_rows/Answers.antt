@@ -5,4 +5,4 @@ use Rattle.cdx_license.proofs.writing.ExpressionWrittenRecord.write_rows.Goals a
 
 pub returns : goal.returns
 unfolding rows_written rows list
-returns c = last_row c.args.writer.now c.put_content.new.writer _ c.put_content.result (c.put_content.ensures c.args.w)
+returns c = last_row c.args.writer.now c.put_content.new.writer _ c.put_content.result (c.put_content.ensures c.args.target.version)

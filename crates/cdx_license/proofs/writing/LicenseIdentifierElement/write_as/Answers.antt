@@ -6,10 +6,10 @@ use Rattle.cdx_license.proofs.writing.LicenseIdentifierElement.write_as.Goals as
 
 pub returns-in-SpdxId : goal.returns-in-SpdxId
 returns-in-SpdxId c =
-    let same = ap (simple_tag (codes "id")) c.as_str.ensures ∙ spdx_identifier c.in-SpdxId.held c.args.w c.args.tag.now in
+    let same = ap (simple_tag (codes "id")) c.as_str.ensures ∙ spdx_identifier c.in-SpdxId.held c.args.target.version c.args.tag.now in
     rw c.in-SpdxId.is (appends_same c.args.writer.now c.write_simple_tag.new.writer (simple_tag (codes "id") c.as_str.result.now) _ c.write_simple_tag.result same c.write_simple_tag.ensures)
 
 pub returns-in-Name : goal.returns-in-Name
 returns-in-Name c =
-    let same = ap (simple_tag (codes "name")) c.as_str-in-Name.ensures ∙ name_identifier c.in-Name.held c.args.w c.args.tag.now in
+    let same = ap (simple_tag (codes "name")) c.as_str-in-Name.ensures ∙ name_identifier c.in-Name.held c.args.target.version c.args.tag.now in
     rw c.in-Name.is (appends_same c.args.writer.now c.write_simple_tag-in-Name.new.writer (simple_tag (codes "name") c.as_str-in-Name.result.now) _ c.write_simple_tag-in-Name.result same c.write_simple_tag-in-Name.ensures)

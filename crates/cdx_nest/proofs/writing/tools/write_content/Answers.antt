@@ -10,4 +10,4 @@ use Rattle.cdx_nest.proofs.writing.tools.write_content.Goals as goal
 pub returns-in-List : goal.returns-in-List
 unfolding list
 returns-in-List c =
-    rw c.in-List.is (appends_same c.args.writer.now c.write_items.new.writer _ _ c.write_items.result (list_inner (each tool_tree c.in-List.held) c.args.w) (c.write_items.ensures tool_list (refl, refl)))
+    rw c.in-List.is (appends_same c.args.writer.now c.write_items.new.writer _ _ c.write_items.result (list_inner (each tool_tree c.in-List.held) c.args.target.version) (c.write_items.ensures tool_list (refl, refl)))

@@ -11,18 +11,18 @@ use Rattle.cdx_nest.proofs.writing.tools.write_parts.Goals as goal
 
 pub returns-then-not-is_known_to : goal.returns-then-not-is_known_to
 returns-then-not-is_known_to c =
-    nothing_added c.args.writer.now _ (early_inner c.args.w c.is_known_to.result (fields_of (object_tree c.args.services.now c.args.components.now)) c.is_known_to.ensures c.if-not-is_known_to.true)
+    nothing_added c.args.writer.now _ (early_inner c.args.target.version c.is_known_to.result (fields_of (object_tree c.args.services.now c.args.components.now)) c.is_known_to.ensures c.if-not-is_known_to.true)
 
 pub returns-in_err-put_child : goal.returns-in_err-put_child
 unfolding rows_written rows
 returns-in_err-put_child c =
     let p = err_from_is_err_and c.from_residual.result c.from_residual.ensures.1 in
-    rw (p.1, p.2) (appends_same c.args.writer.now c.put_child.new.writer _ _ (Err _) (late_inner c.args.w c.is_known_to.result (fields_of (object_tree c.args.services.now c.args.components.now)) c.is_known_to.ensures c.if-not-is_known_to.false)
+    rw (p.1, p.2) (appends_same c.args.writer.now c.put_child.new.writer _ _ (Err _) (late_inner c.args.target.version c.is_known_to.result (fields_of (object_tree c.args.services.now c.args.components.now)) c.is_known_to.ensures c.if-not-is_known_to.false)
     (first_fails c.args.writer.now c.put_child.new.writer _ _ _ c.in_err-put_child.ensures))
 
 pub returns : goal.returns
 unfolding rows_written rows
 returns c =
-    appends_same c.args.writer.now c.put_child-2.new.writer _ _ c.put_child-2.result (late_inner c.args.w c.is_known_to.result (fields_of (object_tree c.args.services.now c.args.components.now)) c.is_known_to.ensures c.if-not-is_known_to.false)
+    appends_same c.args.writer.now c.put_child-2.new.writer _ _ c.put_child-2.result (late_inner c.args.target.version c.is_known_to.result (fields_of (object_tree c.args.services.now c.args.components.now)) c.is_known_to.ensures c.if-not-is_known_to.false)
     (then_all c.args.writer.now c.put_child.new.writer c.put_child-2.new.writer _ _ c.put_child-2.result c.in_ok-put_child.ensures
     (last_row c.put_child.new.writer c.put_child-2.new.writer _ c.put_child-2.result c.put_child-2.ensures))

@@ -24,9 +24,9 @@ write_service-returns-in_err-write_opening t c =
     let tag = c.args.tag.now in
     let x = c.args.held.now in
     let start = opening tag c.in_ok-attributes.attributes in
-    let content = rows_written (service_fields services_tree (out-Service x)) c.args.w (rows service) in
-    let same = service_made x c.args.w tag c.in_ok-attributes.attributes c.in_ok-attributes.ensures in
-    rw (p.1, p.2) (appends_same c.args.writer.now c.write_opening.new.writer (start ∷ content ++ end_tag tag ∷ []) (written (service_tree x) c.args.w tag (a_record service)) (Err _) same
+    let content = rows_written (service_fields services_tree (out-Service x)) c.args.target.version (rows service) in
+    let same = service_made x c.args.target.version tag c.in_ok-attributes.attributes c.in_ok-attributes.ensures in
+    rw (p.1, p.2) (appends_same c.args.writer.now c.write_opening.new.writer (start ∷ content ++ end_tag tag ∷ []) (written (service_tree x) c.args.target.version tag (a_record service)) (Err _) same
     (first_fails c.args.writer.now c.write_opening.new.writer (start ∷ []) (content ++ end_tag tag ∷ []) _ c.in_err-write_opening.ensures))
 
 pub write_service-returns-in_err-write_rows : goal.write_service-returns-in_err-write_rows
@@ -35,9 +35,9 @@ write_service-returns-in_err-write_rows t c =
     let tag = c.args.tag.now in
     let x = c.args.held.now in
     let start = opening tag c.in_ok-attributes.attributes in
-    let content = rows_written (service_fields services_tree (out-Service x)) c.args.w (rows service) in
-    let same = service_made x c.args.w tag c.in_ok-attributes.attributes c.in_ok-attributes.ensures in
-    rw (p.1, p.2) (appends_same c.args.writer.now c.write_rows.new.writer (start ∷ content ++ end_tag tag ∷ []) (written (service_tree x) c.args.w tag (a_record service)) (Err _) same
+    let content = rows_written (service_fields services_tree (out-Service x)) c.args.target.version (rows service) in
+    let same = service_made x c.args.target.version tag c.in_ok-attributes.attributes c.in_ok-attributes.ensures in
+    rw (p.1, p.2) (appends_same c.args.writer.now c.write_rows.new.writer (start ∷ content ++ end_tag tag ∷ []) (written (service_tree x) c.args.target.version tag (a_record service)) (Err _) same
     (then_all c.args.writer.now c.write_opening.new.writer c.write_rows.new.writer (start ∷ []) (content ++ end_tag tag ∷ []) (Err _) c.in_ok-write_opening.ensures
     (first_fails c.write_opening.new.writer c.write_rows.new.writer content (end_tag tag ∷ []) _ c.in_err-write_rows.ensures)))
 
@@ -46,9 +46,9 @@ write_service-returns t c =
     let tag = c.args.tag.now in
     let x = c.args.held.now in
     let start = opening tag c.in_ok-attributes.attributes in
-    let content = rows_written (service_fields services_tree (out-Service x)) c.args.w (rows service) in
-    let same = service_made x c.args.w tag c.in_ok-attributes.attributes c.in_ok-attributes.ensures in
-    appends_same c.args.writer.now c.write_close_tag.new.writer (start ∷ content ++ end_tag tag ∷ []) (written (service_tree x) c.args.w tag (a_record service)) c.write_close_tag.result same
+    let content = rows_written (service_fields services_tree (out-Service x)) c.args.target.version (rows service) in
+    let same = service_made x c.args.target.version tag c.in_ok-attributes.attributes c.in_ok-attributes.ensures in
+    appends_same c.args.writer.now c.write_close_tag.new.writer (start ∷ content ++ end_tag tag ∷ []) (written (service_tree x) c.args.target.version tag (a_record service)) c.write_close_tag.result same
     (then_all c.args.writer.now c.write_opening.new.writer c.write_close_tag.new.writer (start ∷ []) (content ++ end_tag tag ∷ []) c.write_close_tag.result c.in_ok-write_opening.ensures
     (then_all c.write_opening.new.writer c.write_rows.new.writer c.write_close_tag.new.writer content (end_tag tag ∷ []) c.write_close_tag.result c.in_ok-write_rows.ensures c.write_close_tag.ensures))
 
@@ -58,9 +58,9 @@ write_services-returns-in_err-write_start_tag t c =
     let tag = c.args.tag.now in
     let x = c.args.held.now in
     let start = start_tag tag in
-    let content = inner (services_tree x) c.args.w (a_list services) in
-    let same = services_made tag c.args.w x in
-    rw (p.1, p.2) (appends_same c.args.writer.now c.write_start_tag.new.writer (start ∷ content ++ end_tag tag ∷ []) (written (services_tree x) c.args.w tag (a_list services)) (Err _) same
+    let content = inner (services_tree x) c.args.target.version (a_list services) in
+    let same = services_made tag c.args.target.version x in
+    rw (p.1, p.2) (appends_same c.args.writer.now c.write_start_tag.new.writer (start ∷ content ++ end_tag tag ∷ []) (written (services_tree x) c.args.target.version tag (a_list services)) (Err _) same
     (first_fails c.args.writer.now c.write_start_tag.new.writer (start ∷ []) (content ++ end_tag tag ∷ []) _ c.in_err-write_start_tag.ensures))
 
 pub write_services-returns-in_err-write_items : goal.write_services-returns-in_err-write_items
@@ -69,9 +69,9 @@ write_services-returns-in_err-write_items t c =
     let tag = c.args.tag.now in
     let x = c.args.held.now in
     let start = start_tag tag in
-    let content = inner (services_tree x) c.args.w (a_list services) in
-    let same = services_made tag c.args.w x in
-    rw (p.1, p.2) (appends_same c.args.writer.now c.write_items.new.writer (start ∷ content ++ end_tag tag ∷ []) (written (services_tree x) c.args.w tag (a_list services)) (Err _) same
+    let content = inner (services_tree x) c.args.target.version (a_list services) in
+    let same = services_made tag c.args.target.version x in
+    rw (p.1, p.2) (appends_same c.args.writer.now c.write_items.new.writer (start ∷ content ++ end_tag tag ∷ []) (written (services_tree x) c.args.target.version tag (a_list services)) (Err _) same
     (then_all c.args.writer.now c.write_start_tag.new.writer c.write_items.new.writer (start ∷ []) (content ++ end_tag tag ∷ []) (Err _) c.in_ok-write_start_tag.ensures
     (first_fails c.write_start_tag.new.writer c.write_items.new.writer content (end_tag tag ∷ []) _ c.in_err-write_items.ensures)))
 
@@ -80,9 +80,9 @@ write_services-returns t c =
     let tag = c.args.tag.now in
     let x = c.args.held.now in
     let start = start_tag tag in
-    let content = inner (services_tree x) c.args.w (a_list services) in
-    let same = services_made tag c.args.w x in
-    appends_same c.args.writer.now c.write_close_tag.new.writer (start ∷ content ++ end_tag tag ∷ []) (written (services_tree x) c.args.w tag (a_list services)) c.write_close_tag.result same
+    let content = inner (services_tree x) c.args.target.version (a_list services) in
+    let same = services_made tag c.args.target.version x in
+    appends_same c.args.writer.now c.write_close_tag.new.writer (start ∷ content ++ end_tag tag ∷ []) (written (services_tree x) c.args.target.version tag (a_list services)) c.write_close_tag.result same
     (then_all c.args.writer.now c.write_start_tag.new.writer c.write_close_tag.new.writer (start ∷ []) (content ++ end_tag tag ∷ []) c.write_close_tag.result c.in_ok-write_start_tag.ensures
     (then_all c.write_start_tag.new.writer c.write_items.new.writer c.write_close_tag.new.writer content (end_tag tag ∷ []) c.write_close_tag.result c.in_ok-write_items.ensures c.write_close_tag.ensures))
 
@@ -93,50 +93,50 @@ write_items-loop-item-init t c =
 pub write_items-loop-item-preserved : goal.write_items-loop-item-preserved
 write_items-loop-item-preserved t c =
     let x = c.item-item.result in
-    item_written (items_put service_tree (codes "service") (a_record service) c.args.w) c.args.writer.now c.loop-item.writer c.write_service.new.writer c.deref-item-items.result.now c.loop-item.item-index x c.loop-item-test.true c.item-item.is c.loop-item.invariant
-    (c.in_ok-write_service.ensures ∙ ap (λ s. c.loop-item.writer ++ s) (service_item (codes "service") c.args.w x))
+    item_written (items_put service_tree (codes "service") (a_record service) c.args.target.version) c.args.writer.now c.loop-item.writer c.write_service.new.writer c.deref-item-items.result.now c.loop-item.item-index x c.loop-item-test.true c.item-item.is c.loop-item.invariant
+    (c.in_ok-write_service.ensures ∙ ap (λ s. c.loop-item.writer ++ s) (service_item (codes "service") c.args.target.version x))
 
 pub write_items-returns-in_err-write_service : goal.write_items-returns-in_err-write_service
 write_items-returns-in_err-write_service t c =
     let p = err_from_is_err_and c.from_residual.result c.from_residual.ensures.1 in
     let x = c.item-item.result in
-    let f = items_put service_tree (codes "service") (a_record service) c.args.w in
+    let f = items_put service_tree (codes "service") (a_record service) c.args.target.version in
     let new = c.write_service.new.writer in
     let all = flat_map f (services_listed c.args.held.now) in
-    rw (p.1, p.2) (appends_same c.args.writer.now new (all ++ []) (inner (services_tree c.args.held.now) c.args.w (a_list services)) (Err _) (append-nil all ∙ services_inner c.args.w c.args.held.now)
+    rw (p.1, p.2) (appends_same c.args.writer.now new (all ++ []) (inner (services_tree c.args.held.now) c.args.target.version (a_list services)) (Err _) (append-nil all ∙ services_inner c.args.target.version c.args.held.now)
     (item_fails f c.args.writer.now c.loop-item.writer new [] c.deref-item-items.result.now (services_listed c.args.held.now) c.loop-item.item-index x _ c.deref-item-items.ensures.value c.loop-item-test.true c.item-item.is c.loop-item.invariant
-    (appends_same c.loop-item.writer new (written (service_tree x) c.args.w (codes "service") (a_record service)) (item_put (codes "service") (a_record service) (service_tree x) c.args.w) (Err _) (service_item (codes "service") c.args.w x) c.in_err-write_service.ensures)))
+    (appends_same c.loop-item.writer new (written (service_tree x) c.args.target.version (codes "service") (a_record service)) (item_put (codes "service") (a_record service) (service_tree x) c.args.target.version) (Err _) (service_item (codes "service") c.args.target.version x) c.in_err-write_service.ensures)))
 
 pub write_items-returns : goal.write_items-returns
 write_items-returns t c =
-    items_end (items_put service_tree (codes "service") (a_record service) c.args.w) c.args.writer.now c.loop-item.writer c.deref-item-items.result.now (services_listed c.args.held.now) c.loop-item.item-index c.deref-item-items.ensures.value c.loop-item-test.false c.loop-item.invariant
-    ∙ ap (λ s. c.args.writer.now ++ s) (services_inner c.args.w c.args.held.now)
+    items_end (items_put service_tree (codes "service") (a_record service) c.args.target.version) c.args.writer.now c.loop-item.writer c.deref-item-items.result.now (services_listed c.args.held.now) c.loop-item.item-index c.deref-item-items.ensures.value c.loop-item-test.false c.loop-item.invariant
+    ∙ ap (λ s. c.args.writer.now ++ s) (services_inner c.args.target.version c.args.held.now)
 
 pub write_rows-returns-in_err-write_naming_rows : goal.write_rows-returns-in_err-write_naming_rows
 write_rows-returns-in_err-write_naming_rows t c =
     let p = err_from_is_err_and c.from_residual.result c.from_residual.ensures.1 in
-    let g0 = rows_written (service_naming (out-Service c.args.held.now)) c.args.w (group 0 service) in
-    let g1 = rows_written (service_access (out-Service c.args.held.now)) c.args.w (group 1 service) in
-    let g2 = rows_written (service_contents services_tree (out-Service c.args.held.now)) c.args.w (group 2 service) in
-    rw (p.1, p.2) (appends_same c.args.writer.now c.write_naming_rows.new.writer (g0 ++ (g1 ++ g2)) (rows_written (service_fields services_tree (out-Service c.args.held.now)) c.args.w (rows service)) (Err _) (service_in_groups (out-Service c.args.held.now) c.args.w)
+    let g0 = rows_written (service_naming (out-Service c.args.held.now)) c.args.target.version (group 0 service) in
+    let g1 = rows_written (service_access (out-Service c.args.held.now)) c.args.target.version (group 1 service) in
+    let g2 = rows_written (service_contents services_tree (out-Service c.args.held.now)) c.args.target.version (group 2 service) in
+    rw (p.1, p.2) (appends_same c.args.writer.now c.write_naming_rows.new.writer (g0 ++ (g1 ++ g2)) (rows_written (service_fields services_tree (out-Service c.args.held.now)) c.args.target.version (rows service)) (Err _) (service_in_groups (out-Service c.args.held.now) c.args.target.version)
     (first_fails c.args.writer.now c.write_naming_rows.new.writer g0 (g1 ++ g2) _ c.in_err-write_naming_rows.ensures))
 
 pub write_rows-returns-in_err-write_access_rows : goal.write_rows-returns-in_err-write_access_rows
 write_rows-returns-in_err-write_access_rows t c =
     let p = err_from_is_err_and c.from_residual-in_err-write_access_rows.result c.from_residual-in_err-write_access_rows.ensures.1 in
-    let g0 = rows_written (service_naming (out-Service c.args.held.now)) c.args.w (group 0 service) in
-    let g1 = rows_written (service_access (out-Service c.args.held.now)) c.args.w (group 1 service) in
-    let g2 = rows_written (service_contents services_tree (out-Service c.args.held.now)) c.args.w (group 2 service) in
-    rw (p.1, p.2) (appends_same c.args.writer.now c.write_access_rows.new.writer (g0 ++ (g1 ++ g2)) (rows_written (service_fields services_tree (out-Service c.args.held.now)) c.args.w (rows service)) (Err _) (service_in_groups (out-Service c.args.held.now) c.args.w)
+    let g0 = rows_written (service_naming (out-Service c.args.held.now)) c.args.target.version (group 0 service) in
+    let g1 = rows_written (service_access (out-Service c.args.held.now)) c.args.target.version (group 1 service) in
+    let g2 = rows_written (service_contents services_tree (out-Service c.args.held.now)) c.args.target.version (group 2 service) in
+    rw (p.1, p.2) (appends_same c.args.writer.now c.write_access_rows.new.writer (g0 ++ (g1 ++ g2)) (rows_written (service_fields services_tree (out-Service c.args.held.now)) c.args.target.version (rows service)) (Err _) (service_in_groups (out-Service c.args.held.now) c.args.target.version)
     (then_all c.args.writer.now c.write_naming_rows.new.writer c.write_access_rows.new.writer g0 (g1 ++ g2) (Err _) c.in_ok-write_naming_rows.ensures
     (first_fails c.write_naming_rows.new.writer c.write_access_rows.new.writer g1 g2 _ c.in_err-write_access_rows.ensures)))
 
 pub write_rows-returns : goal.write_rows-returns
 write_rows-returns t c =
-    let g0 = rows_written (service_naming (out-Service c.args.held.now)) c.args.w (group 0 service) in
-    let g1 = rows_written (service_access (out-Service c.args.held.now)) c.args.w (group 1 service) in
-    let g2 = rows_written (service_contents services_tree (out-Service c.args.held.now)) c.args.w (group 2 service) in
-    appends_same c.args.writer.now c.write_contents_rows.new.writer (g0 ++ (g1 ++ g2)) (rows_written (service_fields services_tree (out-Service c.args.held.now)) c.args.w (rows service)) c.write_contents_rows.result (service_in_groups (out-Service c.args.held.now) c.args.w)
+    let g0 = rows_written (service_naming (out-Service c.args.held.now)) c.args.target.version (group 0 service) in
+    let g1 = rows_written (service_access (out-Service c.args.held.now)) c.args.target.version (group 1 service) in
+    let g2 = rows_written (service_contents services_tree (out-Service c.args.held.now)) c.args.target.version (group 2 service) in
+    appends_same c.args.writer.now c.write_contents_rows.new.writer (g0 ++ (g1 ++ g2)) (rows_written (service_fields services_tree (out-Service c.args.held.now)) c.args.target.version (rows service)) c.write_contents_rows.result (service_in_groups (out-Service c.args.held.now) c.args.target.version)
     (then_all c.args.writer.now c.write_naming_rows.new.writer c.write_contents_rows.new.writer g0 (g1 ++ g2) c.write_contents_rows.result c.in_ok-write_naming_rows.ensures
     (then_all c.write_naming_rows.new.writer c.write_access_rows.new.writer c.write_contents_rows.new.writer g1 g2 c.write_contents_rows.result c.in_ok-write_access_rows.ensures
     (c.write_contents_rows.ensures)))
@@ -172,10 +172,10 @@ write_contents_rows-returns t c =
 
 pub put_services-returns-in-None : goal.put_services-returns-in-None
 put_services-returns-in-None t c =
-    rw c.in-None.is (nothing_added c.args.writer.now _ (child_none c.args.name.now (a_list services) c.args.w))
+    rw c.in-None.is (nothing_added c.args.writer.now _ (child_none c.args.name.now (a_list services) c.args.target.version))
 
 pub put_services-returns-in-Some : goal.put_services-returns-in-Some
 put_services-returns-in-Some t c =
     let x = c.in-Some.held in
-    rw c.in-Some.is (appends_same c.args.writer.now c.write_services.new.writer (written (services_tree x) c.args.w c.args.name.now (a_list services)) (child_put c.args.name.now (a_list services) (services_tree x) c.args.w) c.write_services.result
-    (services_child c.args.name.now c.args.w x) c.write_services.ensures)
+    rw c.in-Some.is (appends_same c.args.writer.now c.write_services.new.writer (written (services_tree x) c.args.target.version c.args.name.now (a_list services)) (child_put c.args.name.now (a_list services) (services_tree x) c.args.target.version) c.write_services.result
+    (services_child c.args.name.now c.args.target.version x) c.write_services.ensures)

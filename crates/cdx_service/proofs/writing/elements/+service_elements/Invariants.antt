@@ -7,4 +7,4 @@ use Rattle.cdx_service.specs.Trees.{service_tree}
 use Rattle.cdx_service.proofs.writing.elements.+service_elements.Given as goal
 
 abbrev pub invariant-write_items-loop-item : goal.invariant-write_items-loop-item
-invariant-write_items-loop-item l = l.writer ≡ l.fn.writer ++ flat_map (items_put service_tree (codes "service") (a_record service) l.w) (take l.item-index l.item-items)
+invariant-write_items-loop-item l = l.writer ≡ l.fn.writer ++ flat_map (items_put service_tree (codes "service") (a_record service) l.target.version) (take l.item-index l.item-items)

@@ -10,13 +10,13 @@ use Rattle.cdx_signature.proofs.writing.SignatureElement.write_as.Goals as goal
 pub returns-in-Signers : goal.returns-in-Signers
 unfolding list
 returns-in-Signers c =
-    rw c.in-Signers.is (appends_same c.args.writer.now c.write_signers.new.writer _ _ c.write_signers.result (signers_signature (each signer_tree c.in-Signers.held) c.args.w c.args.tag.now) (c.write_signers.ensures signer_list (refl, refl)))
+    rw c.in-Signers.is (appends_same c.args.writer.now c.write_signers.new.writer _ _ c.write_signers.result (signers_signature (each signer_tree c.in-Signers.held) c.args.target.version c.args.tag.now) (c.write_signers.ensures signer_list (refl, refl)))
 
 pub returns-in-Chain : goal.returns-in-Chain
 unfolding list
 returns-in-Chain c =
-    rw c.in-Chain.is (appends_same c.args.writer.now c.write_signers-in-Chain.new.writer _ _ c.write_signers-in-Chain.result (chain_signature (each signer_tree c.in-Chain.held) c.args.w c.args.tag.now) (c.write_signers-in-Chain.ensures chain_list (refl, refl)))
+    rw c.in-Chain.is (appends_same c.args.writer.now c.write_signers-in-Chain.new.writer _ _ c.write_signers-in-Chain.result (chain_signature (each signer_tree c.in-Chain.held) c.args.target.version c.args.tag.now) (c.write_signers-in-Chain.ensures chain_list (refl, refl)))
 
 pub returns-in-Single : goal.returns-in-Single
 returns-in-Single c =
-    rw c.in-Single.is (appends_same c.args.writer.now c.write_record.new.writer _ _ c.write_record.result (single_signature (fields_of (signer_tree c.in-Single.held)) c.args.w c.args.tag.now) c.write_record.ensures)
+    rw c.in-Single.is (appends_same c.args.writer.now c.write_record.new.writer _ _ c.write_record.result (single_signature (fields_of (signer_tree c.in-Single.held)) c.args.target.version c.args.tag.now) c.write_record.ensures)

@@ -13,8 +13,8 @@ pub returns-in_err-write_start_tag : goal.returns-in_err-write_start_tag
 returns-in_err-write_start_tag c =
     let p = err_from_is_err_and c.from_residual.result c.from_residual.ensures.1 in
     let tag = c.args.tag.now in
-    let content = inner (tools_tree c.args.self.now) c.args.w a_tools in
-    rw (p.1, p.2) (appends_same c.args.writer.now c.write_start_tag.new.writer (start_tag tag ∷ content ++ end_tag tag ∷ []) (written (tools_tree c.args.self.now) c.args.w tag a_tools) (Err _) (tools_written tag c.args.self.now c.args.w)
+    let content = inner (tools_tree c.args.self.now) c.args.target.version a_tools in
+    rw (p.1, p.2) (appends_same c.args.writer.now c.write_start_tag.new.writer (start_tag tag ∷ content ++ end_tag tag ∷ []) (written (tools_tree c.args.self.now) c.args.target.version tag a_tools) (Err _) (tools_written tag c.args.self.now c.args.target.version)
     (first_fails c.args.writer.now c.write_start_tag.new.writer (start_tag tag ∷ []) (content ++ end_tag tag ∷ []) _ c.in_err-write_start_tag.ensures))
 
 pub returns-in_err-write_content : goal.returns-in_err-write_content
@@ -22,8 +22,8 @@ returns-in_err-write_content c =
     let p = err_from_is_err_and c.from_residual-in_err-write_content.result c.from_residual-in_err-write_content.ensures.1 in
     let tag = c.args.tag.now in
     let new = c.write_content.new.writer in
-    let content = inner (tools_tree c.args.self.now) c.args.w a_tools in
-    rw (p.1, p.2) (appends_same c.args.writer.now new (start_tag tag ∷ content ++ end_tag tag ∷ []) (written (tools_tree c.args.self.now) c.args.w tag a_tools) (Err _) (tools_written tag c.args.self.now c.args.w)
+    let content = inner (tools_tree c.args.self.now) c.args.target.version a_tools in
+    rw (p.1, p.2) (appends_same c.args.writer.now new (start_tag tag ∷ content ++ end_tag tag ∷ []) (written (tools_tree c.args.self.now) c.args.target.version tag a_tools) (Err _) (tools_written tag c.args.self.now c.args.target.version)
     (then_all c.args.writer.now c.write_start_tag.new.writer new (start_tag tag ∷ []) (content ++ end_tag tag ∷ []) (Err _) c.in_ok-write_start_tag.ensures
     (first_fails c.write_start_tag.new.writer new content (end_tag tag ∷ []) _ c.in_err-write_content.ensures)))
 
@@ -31,7 +31,7 @@ pub returns : goal.returns
 returns c =
     let tag = c.args.tag.now in
     let new = c.write_close_tag.new.writer in
-    let content = inner (tools_tree c.args.self.now) c.args.w a_tools in
-    appends_same c.args.writer.now new (start_tag tag ∷ content ++ end_tag tag ∷ []) (written (tools_tree c.args.self.now) c.args.w tag a_tools) c.write_close_tag.result (tools_written tag c.args.self.now c.args.w)
+    let content = inner (tools_tree c.args.self.now) c.args.target.version a_tools in
+    appends_same c.args.writer.now new (start_tag tag ∷ content ++ end_tag tag ∷ []) (written (tools_tree c.args.self.now) c.args.target.version tag a_tools) c.write_close_tag.result (tools_written tag c.args.self.now c.args.target.version)
     (then_all c.args.writer.now c.write_start_tag.new.writer new (start_tag tag ∷ []) (content ++ end_tag tag ∷ []) c.write_close_tag.result c.in_ok-write_start_tag.ensures
     (then_all c.write_start_tag.new.writer c.write_content.new.writer new content (end_tag tag ∷ []) c.write_close_tag.result c.in_ok-write_content.ensures c.write_close_tag.ensures))

@@ -7,4 +7,4 @@ use Rattle.cdx_relations.proofs.writing.dependency.DependencyWrittenRecord.write
 
 pub returns : goal.returns
 unfolding rows_written rows list
-returns c = last_row c.args.writer.now c.write_references.new.writer _ c.write_references.result (c.write_references.ensures c.args.w depended (refl, refl))
+returns c = last_row c.args.writer.now c.write_references.new.writer _ c.write_references.result (c.write_references.ensures c.args.target.version depended (refl, refl))
