@@ -5,7 +5,7 @@ ghost use Rattle.cdx_events.specs.declared.event.XmlEvent.{XmlEvent};
 ghost use Rattle.cdx_push_reader.specs.Pushed.{Stands, Hears, Outcome};
 ghost use Rattle.cdx_machine.specs.Machines.{CanYield};
 ghost use Rattle.cdx_push_reader.specs.PushSteps.{CanGoOn, Closes, Moves};
-ghost use Rattle.cdx_push_reader.specs.declared.hearing.Stage.TheVariants.{Within};
+ghost use Rattle.cdx_push_reader.specs.declared.hearing.Stage.TheVariants.{Before, Within};
 ghost use Rattle.cdx_push_reader.specs.PushAnswers.{is_want, Finishes};
 
 use crate::machine::RootMachine;
@@ -60,8 +60,19 @@ impl<M: RootMachine> Hearing<M> {
         }
     }
 
-    // Asks the root's machine what the root is read as, which this event ends. It stands apart, since what it moves is
-    // large, and room for it would be cleared with each event.
+    // Goes on from before the root. It and `close` stand apart, since what they move is large, and room for it would be
+    // cleared with each event.
+    fn open(&mut self, place: usize, event: &XmlEvent) -> Result<(), XmlReadError>
+        ensures moves { Moves M.holds M.tree self.old.version Before place event.now
+            (λ events _. Stands M.holds M.tree self.new.version self.new.stage events) result }
+        ensures balance { self.new.balance ≡ self.old.balance }
+        ensures version { self.new.version ≡ self.old.version }
+    {
+        self.stage = begin(self.alloc, self.version, place, event)?;
+        Ok(())
+    }
+
+    // Asks the root's machine what the root is read as, which this event ends.
     fn close(&mut self, place: usize, event: &XmlEvent) -> Result<(), XmlReadError>
         requires { (m : M) × (self.old.stage ≡ Within m) × CanYield M.holds m place event.now }
         ensures closes { (m : M) → self.old.stage ≡ Within m
@@ -86,10 +97,7 @@ impl<M: RootMachine> Hearing<M> {
         ensures version { self.new.version ≡ self.old.version }
     {
         match &mut self.stage {
-            Stage::Before => {
-                self.stage = begin(self.alloc, self.version, place, event)?;
-                Ok(())
-            }
+            Stage::Before => self.open(place, event),
             Stage::Within { machine } => {
                 if !machine.step(place, event)? {
                     return Ok(());

@@ -99,7 +99,7 @@ pub(crate) fn read_items<P: Part + Drop>(
 ) -> Result<Option<Items<P>>, AllocError>
     ensures { IfOk result (λ o. o ≡ all_in P.part_of (items_view values.now)) }
 {
-    let mut items = Items::new(alloc);
+    let mut items = Items::with_capacity(alloc, values.len())?;
     for value in values {
         let Some(item) = P::from_value(alloc, value)? else {
             return Ok(None);

@@ -14,7 +14,7 @@ step-requires g c =
 
 pub returns-in_err-step-in-Within-clause-moves : goal.returns-in_err-step-in-Within-clause-moves
 returns-in_err-step-in-Within-clause-moves g c = λ events st go p.
-    let q = err_from_is_err_and c.from_residual-in_err-step-in-Within.result c.from_residual-in_err-step-in-Within.ensures.1 in
+    let q = err_from_is_err_and c.from_residual.result c.from_residual.ensures.1 in
     let h = c.args.self.now in
     rw (q.1, q.2) (reads_fault g.M.RootMachine.holds g.M.RootMachine.tree h.version c.in-Within.machine events c.args.event.now
     (subst (λ x. Stands g.M.RootMachine.holds g.M.RootMachine.tree h.version x events) c.in-Within.is st) go c.step.new.self c.args.place c.in_err-step-in-Within.field-0.0 c.in_err-step-in-Within.ensures p)
