@@ -68,10 +68,11 @@ pub fn read_whole<X: XmlRecord>(
         attributes,
     });
     let part: X::Part = read_record(alloc, reader, version, element, begun)?;
+    let end = reader.place() - 1;
     X::finish(
         &End {
             alloc,
-            place: reader.place() - 1,
+            place: end,
             version,
             element,
         },
