@@ -17,15 +17,15 @@ use Rattle.cdx_component.specs.Groups.{component_by_groups}
 use Rattle.cdx_component.proofs.Deep.{component_deep, component_none, component_some}
 use Rattle.cdx_component.proofs.json.reading.+component_read.Goals as goal
 
-pub read_component-returns-then-depth-ge32 : goal.read_component-returns-then-depth-ge32
-read_component-returns-then-depth-ge32 t c = component_deep c.here.result (view c.args.value.now) c.args.context.version (depth_of c.args.context.depth) (omega arith) c.here.ensures
+pub read_component-returns-then-context-ge32 : goal.read_component-returns-then-context-ge32
+read_component-returns-then-context-ge32 t c = component_deep c.here.result (view c.args.value.now) c.args.context.version (depth_of c.args.context.depth) (omega arith) c.here.ensures
 
 pub read_component-returns-in-None : goal.read_component-returns-in-None
-read_component-returns-in-None t c = component_none c.here-in-None.result (view c.args.value.now) c.args.context.version (depth_of c.args.context.depth) c.if-depth-ge32.false c.in-None.ensures c.here-in-None.ensures
+read_component-returns-in-None t c = component_none c.here-in-None.result (view c.args.value.now) c.args.context.version (depth_of c.args.context.depth) c.if-context-ge32.false c.in-None.ensures c.here-in-None.ensures
 
 pub read_component-returns-in-Some : goal.read_component-returns-in-Some
 read_component-returns-in-Some t c =
-    component_some c.component_from_members.result (view c.args.value.now) (members_view c.in-Some.map.now.entries) c.args.context.version (depth_of c.args.context.depth) c.if-depth-ge32.false c.in-Some.ensures c.component_from_members.ensures
+    component_some c.component_from_members.result (view c.args.value.now) (members_view c.in-Some.map.now.entries) c.args.context.version (depth_of c.args.context.depth) c.if-context-ge32.false c.in-Some.ensures c.component_from_members.ensures
 
 pub component_from_members-returns-in_err-origin : goal.component_from_members-returns-in_err-origin
 unfolding component_by_groups

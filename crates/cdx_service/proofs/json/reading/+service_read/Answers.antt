@@ -17,15 +17,15 @@ use Rattle.cdx_service.specs.Groups.{service_by_groups}
 use Rattle.cdx_service.proofs.Deep.{service_deep, service_none, service_some}
 use Rattle.cdx_service.proofs.json.reading.+service_read.Goals as goal
 
-pub read_service-returns-then-depth-ge32 : goal.read_service-returns-then-depth-ge32
-read_service-returns-then-depth-ge32 t c = service_deep c.here.result (view c.args.value.now) c.args.context.version (depth_of c.args.context.depth) (omega arith) c.here.ensures
+pub read_service-returns-then-context-ge32 : goal.read_service-returns-then-context-ge32
+read_service-returns-then-context-ge32 t c = service_deep c.here.result (view c.args.value.now) c.args.context.version (depth_of c.args.context.depth) (omega arith) c.here.ensures
 
 pub read_service-returns-in-None : goal.read_service-returns-in-None
-read_service-returns-in-None t c = service_none c.here-in-None.result (view c.args.value.now) c.args.context.version (depth_of c.args.context.depth) c.if-depth-ge32.false c.in-None.ensures c.here-in-None.ensures
+read_service-returns-in-None t c = service_none c.here-in-None.result (view c.args.value.now) c.args.context.version (depth_of c.args.context.depth) c.if-context-ge32.false c.in-None.ensures c.here-in-None.ensures
 
 pub read_service-returns-in-Some : goal.read_service-returns-in-Some
 read_service-returns-in-Some t c =
-    service_some c.service_from_members.result (view c.args.value.now) (members_view c.in-Some.map.now.entries) c.args.context.version (depth_of c.args.context.depth) c.if-depth-ge32.false c.in-Some.ensures c.service_from_members.ensures
+    service_some c.service_from_members.result (view c.args.value.now) (members_view c.in-Some.map.now.entries) c.args.context.version (depth_of c.args.context.depth) c.if-context-ge32.false c.in-Some.ensures c.service_from_members.ensures
 
 pub service_from_members-returns-in_err-service_naming : goal.service_from_members-returns-in_err-service_naming
 unfolding service_by_groups
