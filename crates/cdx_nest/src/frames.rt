@@ -219,7 +219,7 @@ impl Nested for NestFrame {
         match self {
             NestFrame::Component(frame) => finish_in_components(frame, closed),
             NestFrame::Service(frame) => finish_in_services(frame, closed),
-            NestFrame::Tools(part) => { Ok(NestValue::Tools(finish_tools(closed, part)?)) }
+            NestFrame::Tools(part) => Ok(NestValue::Tools(finish_tools(closed, part)?)),
             NestFrame::Metadata(part) => Ok(NestValue::Metadata(finish_metadata(part))),
         }
     }
