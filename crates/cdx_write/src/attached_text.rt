@@ -1,10 +1,10 @@
 //! Attached texts.
 
-use crate::WriteResult;
 use crate::attribute::put_attribute;
 use crate::element::HasContent;
 use crate::record::WrittenRecord;
 use crate::row::put_content;
+use crate::tags::WriteResult;
 use cdx_events::{EventWriter, List, OwnedAttribute};
 use cdx_models::AttachedText;
 use cdx_schema::Target;

@@ -9,8 +9,7 @@ ghost use Rattle.cdx_write.specs.Stays.{keeps_presence, KeepsHollow};
 ghost use Rattle.cdx_write.specs.WillWrite.{will_write};
 ghost use Rattle.cdx_write.specs.Writing.{Appends};
 
-use crate::WriteResult;
-use crate::tags::write_simple_tag;
+use crate::tags::{WriteResult, write_simple_tag};
 use cdx_events::{EventWriter, Text};
 use cdx_schema::{Kinded, Target};
 use std::alloc::{AllocError, Global};

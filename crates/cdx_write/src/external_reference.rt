@@ -3,12 +3,12 @@
 ghost use Rattle.std.specs.Prelude.{refl, codes};
 ghost use Rattle.cdx_write.specs.Lone.{text_is_lone};
 
-use crate::WriteResult;
 use crate::attribute::put_required_attribute;
 use crate::element::{Element, HasContent, Item, Lone, Tagged, write_lone};
 use crate::list::write_list;
 use crate::record::WrittenRecord;
 use crate::row::{put_child, put_required_child};
+use crate::tags::WriteResult;
 use cdx_events::{EventWriter, List, OwnedAttribute, Text};
 use cdx_models::{ExternalReference, ExternalReferences, Uri};
 use cdx_schema::Target;

@@ -2,12 +2,12 @@
 
 ghost use Rattle.std.specs.Prelude.{refl, codes};
 
-use crate::WriteResult;
 use crate::attribute::put_required_attribute;
 use crate::element::{Element, HasContent, Item, Tagged};
 use crate::list::write_list;
 use crate::record::WrittenRecord;
 use crate::row::put_content;
+use crate::tags::WriteResult;
 use cdx_events::{EventWriter, List, OwnedAttribute};
 use cdx_models::{Hash, Hashes};
 use cdx_schema::Target;

@@ -18,7 +18,6 @@ pub mod tool;
 pub mod values;
 
 pub use attribute::{put_attribute, put_attribute_since, put_required_attribute};
-use cdx_models::XmlWriteError;
 pub use element::{Element, Filled, HasContent, Item, Lone, Tagged, write_lone};
 pub use list::{put_each, put_list, put_list_since, write_items, write_list};
 pub use record::{WrittenRecord, write_record};
@@ -27,10 +26,7 @@ pub use row::{
     put_required_child,
 };
 pub use tags::{
-    write_close_tag, write_list_string_tag, write_list_tag, write_opening, write_simple_option_tag,
-    write_simple_tag, write_start_tag,
+    WriteResult, write_close_tag, write_list_string_tag, write_list_tag, write_opening,
+    write_simple_option_tag, write_simple_tag, write_start_tag,
 };
 pub use to_xml::{Shown, ToInnerXml, ToXml};
-
-/// What writing answers: only want of memory is refused.
-pub type WriteResult = Result<(), XmlWriteError>;

@@ -7,9 +7,8 @@ ghost use Rattle.cdx_write.specs.Spelling.{written, inner};
 ghost use Rattle.cdx_write.specs.WrittenRows.{child_put, late_put};
 ghost use Rattle.cdx_write.specs.Writing.{Appends};
 
-use crate::WriteResult;
 use crate::element::Item;
-use crate::tags::{write_close_tag, write_start_tag};
+use crate::tags::{WriteResult, write_close_tag, write_start_tag};
 use cdx_events::{EventWriter, List};
 use cdx_models::SpecVersion;
 use cdx_schema::Target;

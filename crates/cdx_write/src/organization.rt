@@ -2,12 +2,12 @@
 
 ghost use Rattle.cdx_write.specs.Stays.{entity_keeps_hollow};
 
-use crate::WriteResult;
 use crate::attribute::put_attribute;
 use crate::element::{Filled, HasContent, Item};
 use crate::list::put_each;
 use crate::record::WrittenRecord;
 use crate::row::{is_there, put_child};
+use crate::tags::WriteResult;
 use cdx_events::{EventWriter, List, OwnedAttribute};
 use cdx_models::{OrganizationalContact, OrganizationalEntity};
 use cdx_schema::Target;

@@ -8,9 +8,8 @@ ghost use Rattle.cdx_write.specs.Spelling.{written};
 ghost use Rattle.cdx_write.specs.WrittenRows.{attributes_put, rows_written};
 ghost use Rattle.cdx_write.specs.Writing.{Appends};
 
-use crate::WriteResult;
 use crate::element::Element;
-use crate::tags::{write_close_tag, write_opening};
+use crate::tags::{WriteResult, write_close_tag, write_opening};
 use cdx_events::{EventWriter, List, OwnedAttribute};
 use cdx_schema::{Record, Target};
 use std::alloc::AllocError;

@@ -8,9 +8,8 @@ ghost use Rattle.cdx_write.specs.Spelling.{inner};
 ghost use Rattle.cdx_write.specs.WrittenRows.{child_put, filled_put, cdata_put, late_put};
 ghost use Rattle.cdx_write.specs.Writing.{Appends};
 
-use crate::WriteResult;
 use crate::element::{Element, Filled};
-use crate::tags::write_characters;
+use crate::tags::{WriteResult, write_characters};
 use cdx_events::{EventWriter, Text, XmlEvent};
 use cdx_models::{HasTree, SpecVersion};
 use cdx_schema::Target;

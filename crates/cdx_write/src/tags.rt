@@ -4,11 +4,13 @@ ghost use Rattle.std.specs.Prelude.{[], ◌∷◌, option_copied};
 ghost use Rattle.cdx_write.specs.Spelling.{spelling};
 ghost use Rattle.cdx_write.specs.Writing.{Appends, opening, start_tag, end_tag, simple_tag, simple_option_tag, list_tag};
 
-use crate::WriteResult;
 use crate::to_xml::ToXml;
 use cdx_events::{EventWriter, List, Namespace, OwnedAttribute, OwnedName, Text, XmlEvent};
 use cdx_models::{SpecVersion, XmlWriteError};
 use std::alloc::Global;
+
+/// What writing answers: only want of memory is refused.
+pub type WriteResult = Result<(), XmlWriteError>;
 
 /// Appends the start of an element with these attributes.
 pub fn write_opening(

@@ -2,10 +2,10 @@
 
 ghost use Rattle.std.specs.Prelude.{codes};
 
-use crate::WriteResult;
 use crate::element::{HasContent, Item, Tagged};
 use crate::record::WrittenRecord;
 use crate::row::{is_there, put_child, put_child_since};
+use crate::tags::WriteResult;
 use cdx_events::{EventWriter, List, OwnedAttribute};
 use cdx_models::{SpecVersion, Tool};
 use cdx_schema::Target;

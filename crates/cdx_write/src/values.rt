@@ -1,7 +1,7 @@
 //! Texts, booleans and numbers.
 
-use crate::WriteResult;
 use crate::element::{Element, Item, Lone, write_lone};
+use crate::tags::WriteResult;
 use cdx_events::{EventWriter, Text};
 use cdx_models::UrnUuid;
 use cdx_schema::Target;
