@@ -13,8 +13,8 @@ use cdx_schema::Target;
 use serde_json::Value;
 use std::alloc::{AllocError, Global};
 
+#[tactic(auto, unfolding(cdx_json::proofs::OnRows::on_rows))]
 impl JsonRecord for IdentifiableAction {
-    #[tactic(auto, unfolding(cdx_json::proofs::OnRows::on_rows))]
     fn from_members(map: &Members, context: Context) -> Result<IdentifiableAction, JsonReadError> {
         let timestamp = optional_row(map, "timestamp", context)?;
         let name = optional_row(map, "name", context)?;
@@ -26,7 +26,6 @@ impl JsonRecord for IdentifiableAction {
         })
     }
 
-    #[tactic(auto, unfolding(cdx_json::proofs::OnRows::on_rows))]
     fn kept_rows(&self, keeping: Keeping) -> Result<IdentifiableAction, AllocError> {
         Ok(IdentifiableAction {
             timestamp: keep_row(&self.timestamp, keeping)?,
@@ -35,7 +34,6 @@ impl JsonRecord for IdentifiableAction {
         })
     }
 
-    #[tactic(auto, unfolding(cdx_json::proofs::OnRows::on_rows))]
     fn put_members(&self, map: &mut Members, target: Target) -> Result<(), AllocError> {
         put_row(map, "timestamp", &self.timestamp, target)?;
         put_row(map, "name", &self.name, target)?;
@@ -43,8 +41,8 @@ impl JsonRecord for IdentifiableAction {
     }
 }
 
+#[tactic(auto, unfolding(cdx_json::proofs::OnRows::on_rows))]
 impl JsonRecord for Commit {
-    #[tactic(auto, unfolding(cdx_json::proofs::OnRows::on_rows))]
     fn from_members(map: &Members, context: Context) -> Result<Commit, JsonReadError> {
         let uid = optional_row(map, "uid", context)?;
         let url = optional_row(map, "url", context)?;
@@ -60,7 +58,6 @@ impl JsonRecord for Commit {
         })
     }
 
-    #[tactic(auto, unfolding(cdx_json::proofs::OnRows::on_rows))]
     fn kept_rows(&self, keeping: Keeping) -> Result<Commit, AllocError> {
         Ok(Commit {
             uid: keep_row(&self.uid, keeping)?,
@@ -71,7 +68,6 @@ impl JsonRecord for Commit {
         })
     }
 
-    #[tactic(auto, unfolding(cdx_json::proofs::OnRows::on_rows))]
     fn put_members(&self, map: &mut Members, target: Target) -> Result<(), AllocError> {
         put_row(map, "uid", &self.uid, target)?;
         put_row(map, "url", &self.url, target)?;

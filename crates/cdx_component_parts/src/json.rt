@@ -14,8 +14,8 @@ use cdx_schema::Target;
 use serde_json::Value;
 use std::alloc::{AllocError, Global};
 
+#[tactic(auto, unfolding(cdx_json::proofs::OnRows::on_rows))]
 impl JsonRecord for Swid {
-    #[tactic(auto, unfolding(cdx_json::proofs::OnRows::on_rows))]
     fn from_members(map: &Members, context: Context) -> Result<Swid, JsonReadError> {
         let tag_id = required_row(map, "tagId", context)?;
         let name = required_row(map, "name", context)?;
@@ -35,7 +35,6 @@ impl JsonRecord for Swid {
         })
     }
 
-    #[tactic(auto, unfolding(cdx_json::proofs::OnRows::on_rows))]
     fn kept_rows(&self, keeping: Keeping) -> Result<Swid, AllocError> {
         Ok(Swid {
             tag_id: self.tag_id.kept_as(keeping)?,
@@ -48,7 +47,6 @@ impl JsonRecord for Swid {
         })
     }
 
-    #[tactic(auto, unfolding(cdx_json::proofs::OnRows::on_rows))]
     fn put_members(&self, map: &mut Members, target: Target) -> Result<(), AllocError> {
         put_required(map, "tagId", &self.tag_id, target)?;
         put_required(map, "name", &self.name, target)?;
@@ -105,8 +103,8 @@ impl ToJson for MimeType {
     }
 }
 
+#[tactic(auto, unfolding(cdx_json::proofs::OnRows::on_rows))]
 impl JsonRecord for ComponentEvidence {
-    #[tactic(auto, unfolding(cdx_json::proofs::OnRows::on_rows))]
     fn from_members(map: &Members, context: Context) -> Result<ComponentEvidence, JsonReadError> {
         let licenses = optional_row(map, "licenses", context)?;
         let copyright = optional_row(map, "copyright", context)?;
@@ -116,7 +114,6 @@ impl JsonRecord for ComponentEvidence {
         })
     }
 
-    #[tactic(auto, unfolding(cdx_json::proofs::OnRows::on_rows))]
     fn kept_rows(&self, keeping: Keeping) -> Result<ComponentEvidence, AllocError> {
         Ok(ComponentEvidence {
             licenses: keep_row(&self.licenses, keeping)?,
@@ -124,28 +121,25 @@ impl JsonRecord for ComponentEvidence {
         })
     }
 
-    #[tactic(auto, unfolding(cdx_json::proofs::OnRows::on_rows))]
     fn put_members(&self, map: &mut Members, target: Target) -> Result<(), AllocError> {
         put_row(map, "licenses", &self.licenses, target)?;
         put_row(map, "copyright", &self.copyright, target)
     }
 }
 
+#[tactic(auto, unfolding(cdx_json::proofs::OnRows::on_rows))]
 impl JsonRecord for Copyright {
-    #[tactic(auto, unfolding(cdx_json::proofs::OnRows::on_rows))]
     fn from_members(map: &Members, context: Context) -> Result<Copyright, JsonReadError> {
         let text = required_row(map, "text", context)?;
         Ok(Copyright { text })
     }
 
-    #[tactic(auto, unfolding(cdx_json::proofs::OnRows::on_rows))]
     fn kept_rows(&self, keeping: Keeping) -> Result<Copyright, AllocError> {
         Ok(Copyright {
             text: self.text.kept_as(keeping)?,
         })
     }
 
-    #[tactic(auto, unfolding(cdx_json::proofs::OnRows::on_rows))]
     fn put_members(&self, map: &mut Members, target: Target) -> Result<(), AllocError> {
         put_required(map, "text", &self.text, target)
     }

@@ -24,8 +24,8 @@ use cdx_schema::Target;
 use serde_json::{Map, Value};
 use std::alloc::{AllocError, Global};
 
+#[tactic(auto, unfolding(cdx_json::proofs::OnRows::on_rows))]
 impl JsonRecord for Expression {
-    #[tactic(auto, unfolding(cdx_json::proofs::OnRows::on_rows))]
     fn from_members(map: &Members, context: Context) -> Result<Expression, JsonReadError> {
         let reference = first_or_old(map, "bom-ref", "bomRef");
         let bom_ref = optional_row(map, reference, context)?;
@@ -36,7 +36,6 @@ impl JsonRecord for Expression {
         })
     }
 
-    #[tactic(auto, unfolding(cdx_json::proofs::OnRows::on_rows))]
     fn kept_rows(&self, keeping: Keeping) -> Result<Expression, AllocError> {
         Ok(Expression {
             bom_ref: keep_row(&self.bom_ref, keeping)?,
@@ -44,15 +43,14 @@ impl JsonRecord for Expression {
         })
     }
 
-    #[tactic(auto, unfolding(cdx_json::proofs::OnRows::on_rows))]
     fn put_members(&self, map: &mut Members, target: Target) -> Result<(), AllocError> {
         put_row(map, "bom-ref", &self.bom_ref, target)?;
         put_required(map, "expression", &self.expression, target)
     }
 }
 
+#[tactic(auto, unfolding(cdx_json::proofs::OnRows::on_rows))]
 impl JsonRecord for License {
-    #[tactic(auto, unfolding(cdx_json::proofs::OnRows::on_rows))]
     fn from_members(map: &Members, context: Context) -> Result<License, JsonReadError> {
         let reference = first_or_old(map, "bom-ref", "bomRef");
         let bom_ref = optional_row_since(map, reference, SpecVersion::V1_5, context)?;
@@ -69,7 +67,6 @@ impl JsonRecord for License {
         })
     }
 
-    #[tactic(auto, unfolding(cdx_json::proofs::OnRows::on_rows))]
     fn kept_rows(&self, keeping: Keeping) -> Result<License, AllocError> {
         Ok(License {
             bom_ref: keep_row_since(&self.bom_ref, SpecVersion::V1_5, keeping)?,
@@ -80,7 +77,6 @@ impl JsonRecord for License {
         })
     }
 
-    #[tactic(auto, unfolding(cdx_json::proofs::OnRows::on_rows))]
     fn put_members(&self, map: &mut Members, target: Target) -> Result<(), AllocError> {
         put_row_since(map, "bom-ref", &self.bom_ref, SpecVersion::V1_5, target)?;
         put_identifier(map, &self.license_identifier, target)?;

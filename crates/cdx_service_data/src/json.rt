@@ -18,8 +18,8 @@ use cdx_schema::Target;
 use serde_json::Value;
 use std::alloc::{AllocError, Global};
 
+#[tactic(auto, unfolding(cdx_json::proofs::OnRows::on_rows))]
 impl JsonRecord for DataClassification {
-    #[tactic(auto, unfolding(cdx_json::proofs::OnRows::on_rows))]
     fn from_members(map: &Members, context: Context) -> Result<DataClassification, JsonReadError> {
         let flow = required_row(map, "flow", context)?;
         let classification = required_row(map, "classification", context)?;
@@ -29,7 +29,6 @@ impl JsonRecord for DataClassification {
         })
     }
 
-    #[tactic(auto, unfolding(cdx_json::proofs::OnRows::on_rows))]
     fn kept_rows(&self, keeping: Keeping) -> Result<DataClassification, AllocError> {
         Ok(DataClassification {
             flow: self.flow.kept_as(keeping)?,
@@ -37,15 +36,14 @@ impl JsonRecord for DataClassification {
         })
     }
 
-    #[tactic(auto, unfolding(cdx_json::proofs::OnRows::on_rows))]
     fn put_members(&self, map: &mut Members, target: Target) -> Result<(), AllocError> {
         put_required(map, "flow", &self.flow, target)?;
         put_required(map, "classification", &self.classification, target)
     }
 }
 
+#[tactic(auto, unfolding(cdx_json::proofs::OnRows::on_rows))]
 impl JsonRecord for ServiceData {
-    #[tactic(auto, unfolding(cdx_json::proofs::OnRows::on_rows))]
     fn from_members(map: &Members, context: Context) -> Result<ServiceData, JsonReadError> {
         let name = optional_row(map, "name", context)?;
         let description = optional_row(map, "description", context)?;
@@ -57,7 +55,6 @@ impl JsonRecord for ServiceData {
         })
     }
 
-    #[tactic(auto, unfolding(cdx_json::proofs::OnRows::on_rows))]
     fn kept_rows(&self, keeping: Keeping) -> Result<ServiceData, AllocError> {
         Ok(ServiceData {
             name: keep_row(&self.name, keeping)?,
@@ -66,7 +63,6 @@ impl JsonRecord for ServiceData {
         })
     }
 
-    #[tactic(auto, unfolding(cdx_json::proofs::OnRows::on_rows))]
     fn put_members(&self, map: &mut Members, target: Target) -> Result<(), AllocError> {
         put_row(map, "name", &self.name, target)?;
         put_row(map, "description", &self.description, target)?;

@@ -64,15 +64,14 @@ impl ToJson for Algorithm {
     }
 }
 
+#[tactic(auto, unfolding(cdx_json::proofs::OnRows::on_rows))]
 impl JsonRecord for Signer {
-    #[tactic(auto, unfolding(cdx_json::proofs::OnRows::on_rows))]
     fn from_members(map: &Members, context: Context) -> Result<Signer, JsonReadError> {
         let algorithm = required_row(map, "algorithm", context)?;
         let value = required_row(map, "value", context)?;
         Ok(Signer { algorithm, value })
     }
 
-    #[tactic(auto, unfolding(cdx_json::proofs::OnRows::on_rows))]
     fn kept_rows(&self, keeping: Keeping) -> Result<Signer, AllocError> {
         Ok(Signer {
             algorithm: self.algorithm.kept_as(keeping)?,
@@ -80,7 +79,6 @@ impl JsonRecord for Signer {
         })
     }
 
-    #[tactic(auto, unfolding(cdx_json::proofs::OnRows::on_rows))]
     fn put_members(&self, map: &mut Members, target: Target) -> Result<(), AllocError> {
         put_required(map, "algorithm", &self.algorithm, target)?;
         put_required(map, "value", &self.value, target)

@@ -9,15 +9,14 @@ use cdx_models::JsonReadError;
 use cdx_schema::Target;
 use std::alloc::AllocError;
 
+#[tactic(auto, unfolding(cdx_json::proofs::OnRows::on_rows))]
 impl JsonRecord for Source {
-    #[tactic(auto, unfolding(cdx_json::proofs::OnRows::on_rows))]
     fn from_members(map: &Members, context: Context) -> Result<Source, JsonReadError> {
         let name = optional_row(map, "name", context)?;
         let url = optional_row(map, "url", context)?;
         Ok(Source { name, url })
     }
 
-    #[tactic(auto, unfolding(cdx_json::proofs::OnRows::on_rows))]
     fn kept_rows(&self, keeping: Keeping) -> Result<Source, AllocError> {
         Ok(Source {
             name: keep_row(&self.name, keeping)?,
@@ -25,15 +24,14 @@ impl JsonRecord for Source {
         })
     }
 
-    #[tactic(auto, unfolding(cdx_json::proofs::OnRows::on_rows))]
     fn put_members(&self, map: &mut Members, target: Target) -> Result<(), AllocError> {
         put_row(map, "name", &self.name, target)?;
         put_row(map, "url", &self.url, target)
     }
 }
 
+#[tactic(auto, unfolding(cdx_json::proofs::OnRows::on_rows))]
 impl JsonRecord for Issue {
-    #[tactic(auto, unfolding(cdx_json::proofs::OnRows::on_rows))]
     fn from_members(map: &Members, context: Context) -> Result<Issue, JsonReadError> {
         let issue_type = required_row(map, "type", context)?;
         let id = optional_row(map, "id", context)?;
@@ -51,7 +49,6 @@ impl JsonRecord for Issue {
         })
     }
 
-    #[tactic(auto, unfolding(cdx_json::proofs::OnRows::on_rows))]
     fn kept_rows(&self, keeping: Keeping) -> Result<Issue, AllocError> {
         Ok(Issue {
             issue_type: self.issue_type.kept_as(keeping)?,
@@ -63,7 +60,6 @@ impl JsonRecord for Issue {
         })
     }
 
-    #[tactic(auto, unfolding(cdx_json::proofs::OnRows::on_rows))]
     fn put_members(&self, map: &mut Members, target: Target) -> Result<(), AllocError> {
         put_required(map, "type", &self.issue_type, target)?;
         put_row(map, "id", &self.id, target)?;

@@ -14,15 +14,14 @@ use cdx_schema::Target;
 use serde_json::Value;
 use std::alloc::{AllocError, Global};
 
+#[tactic(auto, unfolding(cdx_json::proofs::OnRows::on_rows))]
 impl JsonRecord for Diff {
-    #[tactic(auto, unfolding(cdx_json::proofs::OnRows::on_rows))]
     fn from_members(map: &Members, context: Context) -> Result<Diff, JsonReadError> {
         let text = optional_row(map, "text", context)?;
         let url = optional_row(map, "url", context)?;
         Ok(Diff { text, url })
     }
 
-    #[tactic(auto, unfolding(cdx_json::proofs::OnRows::on_rows))]
     fn kept_rows(&self, keeping: Keeping) -> Result<Diff, AllocError> {
         Ok(Diff {
             text: keep_row(&self.text, keeping)?,
@@ -30,15 +29,14 @@ impl JsonRecord for Diff {
         })
     }
 
-    #[tactic(auto, unfolding(cdx_json::proofs::OnRows::on_rows))]
     fn put_members(&self, map: &mut Members, target: Target) -> Result<(), AllocError> {
         put_row(map, "text", &self.text, target)?;
         put_row(map, "url", &self.url, target)
     }
 }
 
+#[tactic(auto, unfolding(cdx_json::proofs::OnRows::on_rows))]
 impl JsonRecord for Patch {
-    #[tactic(auto, unfolding(cdx_json::proofs::OnRows::on_rows))]
     fn from_members(map: &Members, context: Context) -> Result<Patch, JsonReadError> {
         let patch_type = required_row(map, "type", context)?;
         let diff = optional_row(map, "diff", context)?;
@@ -50,7 +48,6 @@ impl JsonRecord for Patch {
         })
     }
 
-    #[tactic(auto, unfolding(cdx_json::proofs::OnRows::on_rows))]
     fn kept_rows(&self, keeping: Keeping) -> Result<Patch, AllocError> {
         Ok(Patch {
             patch_type: self.patch_type.kept_as(keeping)?,
@@ -59,7 +56,6 @@ impl JsonRecord for Patch {
         })
     }
 
-    #[tactic(auto, unfolding(cdx_json::proofs::OnRows::on_rows))]
     fn put_members(&self, map: &mut Members, target: Target) -> Result<(), AllocError> {
         put_required(map, "type", &self.patch_type, target)?;
         put_row(map, "diff", &self.diff, target)?;

@@ -41,8 +41,8 @@ impl ToJson for BomReference {
     }
 }
 
+#[tactic(auto, unfolding(cdx_json::proofs::OnRows::on_rows))]
 impl JsonRecord for Composition {
-    #[tactic(auto, unfolding(cdx_json::proofs::OnRows::on_rows))]
     fn from_members(map: &Members, context: Context) -> Result<Composition, JsonReadError> {
         let reference = first_or_old(map, "bom-ref", "bomRef");
         let bom_ref = optional_row_since(map, reference, SpecVersion::V1_5, context)?;
@@ -66,7 +66,6 @@ impl JsonRecord for Composition {
         })
     }
 
-    #[tactic(auto, unfolding(cdx_json::proofs::OnRows::on_rows))]
     fn kept_rows(&self, keeping: Keeping) -> Result<Composition, AllocError> {
         Ok(Composition {
             bom_ref: keep_row_since(&self.bom_ref, SpecVersion::V1_5, keeping)?,
@@ -82,7 +81,6 @@ impl JsonRecord for Composition {
         })
     }
 
-    #[tactic(auto, unfolding(cdx_json::proofs::OnRows::on_rows))]
     fn put_members(&self, map: &mut Members, target: Target) -> Result<(), AllocError> {
         put_row_since(map, "bom-ref", &self.bom_ref, SpecVersion::V1_5, target)?;
         put_required(map, "aggregate", &self.aggregate, target)?;

@@ -14,8 +14,8 @@ use cdx_schema::Target;
 use serde_json::Value;
 use std::alloc::{AllocError, Global};
 
+#[tactic(auto, unfolding(cdx_json::proofs::OnRows::on_rows))]
 impl JsonRecord for Dependency {
-    #[tactic(auto, unfolding(cdx_json::proofs::OnRows::on_rows))]
     fn from_members(map: &Members, context: Context) -> Result<Dependency, JsonReadError> {
         let dependency_ref = required_row(map, "ref", context)?;
         let depends_on = list_row(map, "dependsOn", context)?;
@@ -25,7 +25,6 @@ impl JsonRecord for Dependency {
         })
     }
 
-    #[tactic(auto, unfolding(cdx_json::proofs::OnRows::on_rows))]
     fn kept_rows(&self, keeping: Keeping) -> Result<Dependency, AllocError> {
         Ok(Dependency {
             dependency_ref: self.dependency_ref.kept_as(keeping)?,
@@ -33,7 +32,6 @@ impl JsonRecord for Dependency {
         })
     }
 
-    #[tactic(auto, unfolding(cdx_json::proofs::OnRows::on_rows))]
     fn put_members(&self, map: &mut Members, target: Target) -> Result<(), AllocError> {
         put_required(map, "ref", &self.dependency_ref, target)?;
         put_list(map, "dependsOn", &self.depends_on, target)
