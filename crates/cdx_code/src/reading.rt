@@ -1,12 +1,11 @@
 //! Commits, and who made them, read from XML.
 
 use crate::{Commit, Commits, IdentifiableAction};
-use cdx_events::{EventReader, List, OwnedAttribute, OwnedName};
+use cdx_events::EventReader;
 use cdx_leaf::{
-    Children, End, FromXml, Rule, Start, Taken, XmlRecord, read_lax_validation_list_tag, take_one,
+    Children, End, FromXml, Reading, Rule, Start, Taken, XmlRecord, read_items, take_one,
 };
-use cdx_models::{SpecVersion, XmlReadError};
-use std::alloc::Global;
+use cdx_models::XmlReadError;
 
 impl Children for IdentifiableAction {
     ghost use Rattle.cdx_models.specs.Trees.{action};
@@ -23,18 +22,11 @@ impl Children for IdentifiableAction {
         Rule::Lax
     }
 
-    fn read_child(
-        &mut self,
-        alloc: Global,
-        reader: &mut EventReader<'_>,
-        v: SpecVersion,
-        element: &OwnedName,
-        attributes: &List<OwnedAttribute>,
-    ) -> Result<Taken, XmlReadError> {
-        match element.local_name.as_str() {
-            "timestamp" => take_one(alloc, reader, v, element, attributes, &mut self.timestamp),
-            "name" => take_one(alloc, reader, v, element, attributes, &mut self.name),
-            "email" => take_one(alloc, reader, v, element, attributes, &mut self.email),
+    fn read_child(&mut self, reader: &mut EventReader<'_>, opened: &Start<'_>) -> Reading<Taken> {
+        match opened.element.local_name.as_str() {
+            "timestamp" => take_one(reader, opened, &mut self.timestamp),
+            "name" => take_one(reader, opened, &mut self.name),
+            "email" => take_one(reader, opened, &mut self.email),
             _ => Ok(Taken::Unknown),
         }
     }
@@ -49,9 +41,7 @@ impl XmlRecord for IdentifiableAction {
 
     ghost no_content = { content_is action };
 
-    ghost by_rows = { λ part. refl };
-
-    ghost same_depth = { λ part. refl };
+    ghost by_rows = { λ part. (refl, refl) };
 
     fn begin(_opened: &Start<'_>) -> Result<IdentifiableAction, XmlReadError> {
         Ok(IdentifiableAction {
@@ -84,20 +74,13 @@ impl Children for Commit {
         Rule::Lax
     }
 
-    fn read_child(
-        &mut self,
-        alloc: Global,
-        reader: &mut EventReader<'_>,
-        v: SpecVersion,
-        element: &OwnedName,
-        attributes: &List<OwnedAttribute>,
-    ) -> Result<Taken, XmlReadError> {
-        match element.local_name.as_str() {
-            "uid" => take_one(alloc, reader, v, element, attributes, &mut self.uid),
-            "url" => take_one(alloc, reader, v, element, attributes, &mut self.url),
-            "author" => take_one(alloc, reader, v, element, attributes, &mut self.author),
-            "committer" => take_one(alloc, reader, v, element, attributes, &mut self.committer),
-            "message" => take_one(alloc, reader, v, element, attributes, &mut self.message),
+    fn read_child(&mut self, reader: &mut EventReader<'_>, opened: &Start<'_>) -> Reading<Taken> {
+        match opened.element.local_name.as_str() {
+            "uid" => take_one(reader, opened, &mut self.uid),
+            "url" => take_one(reader, opened, &mut self.url),
+            "author" => take_one(reader, opened, &mut self.author),
+            "committer" => take_one(reader, opened, &mut self.committer),
+            "message" => take_one(reader, opened, &mut self.message),
             _ => Ok(Taken::Unknown),
         }
     }
@@ -112,9 +95,7 @@ impl XmlRecord for Commit {
 
     ghost no_content = { content_is commit };
 
-    ghost by_rows = { λ part. refl };
-
-    ghost same_depth = { λ part. refl };
+    ghost by_rows = { λ part. (refl, refl) };
 
     fn begin(_opened: &Start<'_>) -> Result<Commit, XmlReadError> {
         Ok(Commit {
@@ -138,13 +119,7 @@ impl FromXml for Commits {
 
     ghost at_top = { refl };
 
-    fn read_xml_element(
-        alloc: Global,
-        reader: &mut EventReader<'_>,
-        v: SpecVersion,
-        element: &OwnedName,
-        _attributes: &List<OwnedAttribute>,
-    ) -> Result<Commits, XmlReadError> {
-        Ok(Commits(read_lax_validation_list_tag(alloc, reader, v, element, "commit")?))
+    fn read_from(reader: &mut EventReader<'_>, opened: &Start<'_>) -> Reading<Commits> {
+        Ok(Commits(read_items(reader, opened, "commit", Rule::Lax)?))
     }
 }

@@ -9,11 +9,9 @@ use crate::component::{Component, Components, Pedigree};
 use crate::reading::elements::{
     read_component_element, read_components_element, read_pedigree_element,
 };
-use cdx_events::{EventReader, List, OwnedAttribute, OwnedName};
+use cdx_events::EventReader;
 use cdx_json::Depth;
-use cdx_leaf::FromXml;
-use cdx_models::{SpecVersion, XmlReadError};
-use std::alloc::Global;
+use cdx_leaf::{FromXml, Reading, Start};
 
 /// A component outside all components. Its parts count their depth from here on.
 impl FromXml for Component {
@@ -24,14 +22,8 @@ impl FromXml for Component {
 
     ghost at_top = { refl };
 
-    fn read_xml_element(
-        alloc: Global,
-        reader: &mut EventReader<'_>,
-        v: SpecVersion,
-        element: &OwnedName,
-        attributes: &List<OwnedAttribute>,
-    ) -> Result<Component, XmlReadError> {
-        read_component_element(alloc, reader, v, element, attributes, Depth::top())
+    fn read_from(reader: &mut EventReader<'_>, opened: &Start<'_>) -> Reading<Component> {
+        read_component_element(reader, opened, Depth::top())
     }
 }
 
@@ -44,14 +36,8 @@ impl FromXml for Components {
 
     ghost at_top = { refl };
 
-    fn read_xml_element(
-        alloc: Global,
-        reader: &mut EventReader<'_>,
-        v: SpecVersion,
-        element: &OwnedName,
-        attributes: &List<OwnedAttribute>,
-    ) -> Result<Components, XmlReadError> {
-        read_components_element(alloc, reader, v, element, attributes, Depth::top())
+    fn read_from(reader: &mut EventReader<'_>, opened: &Start<'_>) -> Reading<Components> {
+        read_components_element(reader, opened, Depth::top())
     }
 }
 
@@ -64,13 +50,7 @@ impl FromXml for Pedigree {
 
     ghost at_top = { refl };
 
-    fn read_xml_element(
-        alloc: Global,
-        reader: &mut EventReader<'_>,
-        v: SpecVersion,
-        element: &OwnedName,
-        attributes: &List<OwnedAttribute>,
-    ) -> Result<Pedigree, XmlReadError> {
-        read_pedigree_element(alloc, reader, v, element, attributes, Depth::top())
+    fn read_from(reader: &mut EventReader<'_>, opened: &Start<'_>) -> Reading<Pedigree> {
+        read_pedigree_element(reader, opened, Depth::top())
     }
 }

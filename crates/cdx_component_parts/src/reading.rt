@@ -1,13 +1,12 @@
 //! Software tags, platform names and evidence.
 
 use crate::component::{ComponentEvidence, Copyright, CopyrightTexts, Cpe, Swid};
-use cdx_events::{EventReader, List, OwnedAttribute, OwnedName, Text};
+use cdx_events::{EventReader, Text};
 use cdx_leaf::{
-    Children, End, FromXml, Rule, Start, Taken, TextRecord, XmlRecord, attribute_or_error,
-    attribute_or_none, attribute_value, read_list_tag, read_text_record, take_one,
+    Children, End, FromXml, Reading, Rule, Start, Taken, TextRecord, XmlRecord, attribute_or_none,
+    attribute_value, read_items, read_text_record, required_attribute, take_one,
 };
-use cdx_models::{SpecVersion, XmlReadError};
-use std::alloc::Global;
+use cdx_models::XmlReadError;
 
 impl Children for Swid {
     ghost use Rattle.cdx_models.specs.Trees.{swid};
@@ -24,17 +23,10 @@ impl Children for Swid {
         Rule::Lax
     }
 
-    fn read_child(
-        &mut self,
-        alloc: Global,
-        reader: &mut EventReader<'_>,
-        v: SpecVersion,
-        element: &OwnedName,
-        attributes: &List<OwnedAttribute>,
-    ) -> Result<Taken, XmlReadError> {
-        match element.local_name.as_str() {
-            "text" => take_one(alloc, reader, v, element, attributes, &mut self.text),
-            "url" => take_one(alloc, reader, v, element, attributes, &mut self.url),
+    fn read_child(&mut self, reader: &mut EventReader<'_>, opened: &Start<'_>) -> Reading<Taken> {
+        match opened.element.local_name.as_str() {
+            "text" => take_one(reader, opened, &mut self.text),
+            "url" => take_one(reader, opened, &mut self.url),
             _ => Ok(Taken::Unknown),
         }
     }
@@ -49,34 +41,15 @@ impl XmlRecord for Swid {
 
     ghost no_content = { content_is swid };
 
-    ghost by_rows = { λ part. refl };
-
-    ghost same_depth = { λ part. refl };
+    ghost by_rows = { λ part. (refl, refl) };
 
     fn begin(opened: &Start<'_>) -> Result<Swid, XmlReadError> {
         Ok(Swid {
-            tag_id: attribute_or_error(
-                opened.alloc,
-                opened.place,
-                opened.element,
-                opened.attributes,
-                "tagId",
-            )?,
-            name: attribute_or_error(
-                opened.alloc,
-                opened.place,
-                opened.element,
-                opened.attributes,
-                "name",
-            )?,
+            tag_id: required_attribute(opened, "tagId")?,
+            name: required_attribute(opened, "name")?,
             version: attribute_or_none(opened.alloc, opened.attributes, "version")?,
-            tag_version: attribute_value(
-                opened.alloc,
-                opened.place,
-                opened.attributes,
-                "tagVersion",
-            )?,
-            patch: attribute_value(opened.alloc, opened.place, opened.attributes, "patch")?,
+            tag_version: attribute_value(opened, "tagVersion")?,
+            patch: attribute_value(opened, "patch")?,
             text: None,
             url: None,
         })
@@ -94,14 +67,8 @@ impl FromXml for Cpe {
 
     ghost at_top = { refl };
 
-    fn read_xml_element(
-        alloc: Global,
-        reader: &mut EventReader<'_>,
-        v: SpecVersion,
-        element: &OwnedName,
-        attributes: &List<OwnedAttribute>,
-    ) -> Result<Cpe, XmlReadError> {
-        Ok(Cpe(Text::read_xml_element(alloc, reader, v, element, attributes)?))
+    fn read_from(reader: &mut EventReader<'_>, opened: &Start<'_>) -> Reading<Cpe> {
+        Ok(Cpe(Text::read_from(reader, opened)?))
     }
 }
 
@@ -120,17 +87,10 @@ impl Children for ComponentEvidence {
         Rule::Passing
     }
 
-    fn read_child(
-        &mut self,
-        alloc: Global,
-        reader: &mut EventReader<'_>,
-        v: SpecVersion,
-        element: &OwnedName,
-        attributes: &List<OwnedAttribute>,
-    ) -> Result<Taken, XmlReadError> {
-        match element.local_name.as_str() {
-            "licenses" => take_one(alloc, reader, v, element, attributes, &mut self.licenses),
-            "copyright" => take_one(alloc, reader, v, element, attributes, &mut self.copyright),
+    fn read_child(&mut self, reader: &mut EventReader<'_>, opened: &Start<'_>) -> Reading<Taken> {
+        match opened.element.local_name.as_str() {
+            "licenses" => take_one(reader, opened, &mut self.licenses),
+            "copyright" => take_one(reader, opened, &mut self.copyright),
             _ => Ok(Taken::Unknown),
         }
     }
@@ -145,9 +105,7 @@ impl XmlRecord for ComponentEvidence {
 
     ghost no_content = { content_is evidence };
 
-    ghost by_rows = { λ part. refl };
-
-    ghost same_depth = { λ part. refl };
+    ghost by_rows = { λ part. (refl, refl) };
 
     fn begin(_opened: &Start<'_>) -> Result<ComponentEvidence, XmlReadError> {
         Ok(ComponentEvidence {
@@ -196,14 +154,8 @@ impl FromXml for Copyright {
 
     ghost at_top = { refl };
 
-    fn read_xml_element(
-        alloc: Global,
-        reader: &mut EventReader<'_>,
-        v: SpecVersion,
-        element: &OwnedName,
-        attributes: &List<OwnedAttribute>,
-    ) -> Result<Copyright, XmlReadError> {
-        read_text_record(alloc, reader, v, element, attributes)
+    fn read_from(reader: &mut EventReader<'_>, opened: &Start<'_>) -> Reading<Copyright> {
+        read_text_record(reader, opened)
     }
 }
 
@@ -214,13 +166,7 @@ impl FromXml for CopyrightTexts {
 
     ghost at_top = { refl };
 
-    fn read_xml_element(
-        alloc: Global,
-        reader: &mut EventReader<'_>,
-        v: SpecVersion,
-        element: &OwnedName,
-        _attributes: &List<OwnedAttribute>,
-    ) -> Result<CopyrightTexts, XmlReadError> {
-        Ok(CopyrightTexts(read_list_tag(alloc, reader, v, element, "text")?))
+    fn read_from(reader: &mut EventReader<'_>, opened: &Start<'_>) -> Reading<CopyrightTexts> {
+        Ok(CopyrightTexts(read_items(reader, opened, "text", Rule::Strict)?))
     }
 }

@@ -151,8 +151,8 @@ differs x y h = go (bytes_eq x y) refl
 
 -- ---- what the loop is told of a child
 
-pub kept_takes : (f g : Plan) (h k : Depth → Depth) (before now : Trees) (old new : Cursor) (v : SpecVersion) (n : OwnedName) (a : List OwnedAttribute) (r : Result Taken XmlReadError) → f ≡ g → h ≡ k → TakesChild before now old new v f h n a r → TakesChild before now old new v g k n a r
-kept_takes f g h k before now old new v n a r x y t = subst (λ z. TakesChild before now old new v g z n a r) y (subst (λ z. TakesChild before now old new v z h n a r) x t)
+pub kept_takes : (f g : Plan) (h k : Depth → Depth) (u v : SpecVersion) (before now : Trees) (old new : Cursor) (n : OwnedName) (a : List OwnedAttribute) (r : Result Taken XmlReadError) → f ≡ g → h ≡ k → u ≡ v → TakesChild before now old new u f h n a r → TakesChild before now old new v g k n a r
+kept_takes f g h k u v before now old new n a r x y z t = subst (λ w. TakesChild before now old new w g k n a r) z (subst (λ w. TakesChild before now old new u g w n a r) y (subst (λ w. TakesChild before now old new u w h n a r) x t))
 
 pub was_unknown : (b : Taken) (before now : Trees) (old new end : Cursor) (child : Met) → b ≡ answers.Unknown → ReadsChild before now old new end child (Ok b) → (child ≡ nothing) × (now ≡ before) × (new ≡ old)
 was_unknown answers.Read before now old new end child e h = absurd cc

@@ -1,6 +1,6 @@
 -- A loop over the children of an element, by its pieces: the next child, reading it, and leaving it.
 use Rattle.std.proofs.Common.{◌≡◌, ℕ, suc, ◌+◌, ◌≤◌, ◌<◌, List, ◌∷◌, ◌++◌, length, Bool, true, false, Option, Some, None, Result, Ok, Err, refl, sym, ap, ◌∙◌, subst, arith, length-append}
-use Rattle.std.specs.Prelude.{if◌then◌else◌}
+use Rattle.std.specs.Prelude.{if◌then◌else◌, IfSome}
 use Rattle.cdx_events.specs.declared.name.OwnedName.{OwnedName}
 use Rattle.cdx_events.specs.declared.name.OwnedAttribute.{OwnedAttribute}
 use Rattle.cdx_events.specs.declared.name.Namespace.{Namespace}
@@ -20,7 +20,7 @@ use Rattle.cdx_schema.specs.Faults.{unexpected}
 use Rattle.cdx_schema.specs.Nodes.{places, places_of}
 use Rattle.cdx_schema.specs.Results.{◌>>=◌}
 use Rattle.cdx_schema.specs.XmlReading.{Plan, unknown}
-use Rattle.cdx_leaf.specs.declared.child.Child.{Child}
+use Rattle.cdx_leaf.specs.declared.start.Start.{Start}
 use Rattle.cdx_leaf.specs.declared.rule.Rule.{Rule}
 use Rattle.cdx_leaf.specs.declared.taken.Taken.{Taken}
 use Rattle.cdx_leaf.specs.declared.taken.Taken.TheVariants as answers
@@ -74,10 +74,10 @@ module _ (r : Rule) (old : Cursor) (name : OwnedName) (nodes : Nodes) (rest : Li
       (sym l.same ∙ ap (past_texts r) e.nodes_are, cursor_is new (after old nodes rest) (omega (arith, l.is_left, took.1)) e.ahead)
 
   -- a child's start was taken
-  pub texts_start : (mid new : Cursor) (event : XmlEvent) (child : Child) (ns : Namespace) → event ≡ StartElement child.name.now child.attributes.now ns → child.place ≡ mid.place → Took mid new event → PastTexts r old mid name nodes rest → Meets r old new name nodes rest (Ok (Some child))
+  pub texts_start : (mid new : Cursor) (event : XmlEvent) (child : Start) (ns : Namespace) → event ≡ StartElement child.element.now child.attributes.now ns → child.place ≡ mid.place → Took mid new event → PastTexts r old mid name nodes rest → Meets r old new name nodes rest (Ok (Some child))
   texts_start mid new event child ns is place took l =
-      let e = at_start mid new event name child.name.now child.attributes.now ns l.left rest is l.at took in
-      let here : past_texts r nodes ≡ node (element child.name.now child.attributes.now ns e.kids) e.others = sym l.same ∙ ap (past_texts r) e.nodes_are in
+      let e = at_start mid new event name child.element.now child.attributes.now ns l.left rest is l.at took in
+      let here : past_texts r nodes ≡ node (element child.element.now child.attributes.now ns e.kids) e.others = sym l.same ∙ ap (past_texts r) e.nodes_are in
       let w : places_of (past_texts r nodes) ≡ places_of l.left = ap places_of here ∙ ap places_of (sym e.nodes_are) in
       record {
         namespace = ns;
@@ -89,7 +89,7 @@ module _ (r : Rule) (old : Cursor) (name : OwnedName) (nodes : Nodes) (rest : Li
       }
 
   -- a text is refused
-  pub texts_refused : (mid new : Cursor) (event : XmlEvent) (place : ℕ) (result : Result (Option Child) XmlReadError) → passes r ≡ false → ((n : OwnedName) (a : List OwnedAttribute) (s : Namespace) → event ≡ StartElement n a s → ⊥) → ((m : OwnedName) → event ≡ EndElement m → ⊥) → place ≡ mid.place → Refused result (unexpected place name.local_name (kind_of event)) → Took mid new event → PastTexts r old mid name nodes rest → Meets r old new name nodes rest result
+  pub texts_refused : (mid new : Cursor) (event : XmlEvent) (place : ℕ) (result : Result (Option Start) XmlReadError) → passes r ≡ false → ((n : OwnedName) (a : List OwnedAttribute) (s : Namespace) → event ≡ StartElement n a s → ⊥) → ((m : OwnedName) → event ≡ EndElement m → ⊥) → place ≡ mid.place → Refused result (unexpected place name.local_name (kind_of event)) → Took mid new event → PastTexts r old mid name nodes rest → Meets r old new name nodes rest result
   texts_refused mid new event place (Ok x) never x' y at refused took l = absurd refused
   texts_refused mid new event place (Err e) never start end at refused took l =
       let b = at_other mid new event name l.left rest end l.at took in
@@ -103,7 +103,7 @@ module _ (r : Rule) (old : Cursor) (name : OwnedName) (nodes : Nodes) (rest : Li
         no_child = no_start b.item (λ n a s kids x. start n a s (b.started n a s kids x));
         is_left = omega (arith, l.is_left);
         grown = omega (arith, took.1, l.grown);
-        fails = refused_fails (Option Child) e mid.place new.place name.local_name (kind_of event) (kind_of_node b.item) (subst (λ q. Refused {X = Option Child} (Err e) (unexpected q name.local_name (kind_of event))) at refused) b.kind_is (omega (arith, took.1));
+        fails = refused_fails (Option Start) e mid.place new.place name.local_name (kind_of event) (kind_of_node b.item) (subst (λ q. Refused {X = Option Start} (Err e) (unexpected q name.local_name (kind_of event))) at refused) b.kind_is (omega (arith, took.1));
       }
     where
       no_start : (k : Node) → ((n : OwnedName) (a : List OwnedAttribute) (s : Namespace) (kids : Nodes) → k ≡ element n a s kids → ⊥) → kind_of_node k ≡ kinds.StartElement → ⊥
@@ -125,6 +125,10 @@ module _ (r : Rule) (old : Cursor) (name : OwnedName) (nodes : Nodes) (rest : Li
       let f = at_cdata mid new (CData t) name t l.left rest refl l.at took in
       let w : places_of l.left ≡ 1 + places_of f.others = ap places_of f.nodes_are in
       record { left = f.others; at = f.at; is_left = omega (arith, l.is_left, took.1); grown = omega (arith, took.1, l.grown); same = sym (cdata_past r t f.others does) ∙ ap (past_texts r) (sym f.nodes_are) ∙ l.same }
+
+-- the next child is of the element's version
+pub of_version : (o : Option Start) (child : Start) (v : SpecVersion) → o ≡ Some child → IfSome o (λ c. c.version ≡ v) → child.version ≡ v
+of_version o child v is h = subst (λ x. IfSome x (λ c. c.version ≡ v)) is h
 
 -- ---- what a plan makes of the texts before a child: nothing
 
@@ -193,7 +197,7 @@ module _ (plan : Plan) (v : SpecVersion) (depth : Depth → Depth) (d : Depth) (
       sym l.same ∙ sym (each_past plan v (depth d) name.local_name r ruled l.left mid.place p s left) ∙ ap (λ ks. each reading ks p s) first
 
   -- the end was taken
-  pub no_child_left : (mid new : Cursor) (s : Trees) (l : Inside mid s) (o : Option Child) → Meets r mid new name l.left rest (Ok o) → ((child : Child) → o ≡ Some child → ⊥) → (each reading nodes old.place start ≡ Ok s) × (new ≡ after old nodes rest)
+  pub no_child_left : (mid new : Cursor) (s : Trees) (l : Inside mid s) (o : Option Start) → Meets r mid new name l.left rest (Ok o) → ((child : Start) → o ≡ Some child → ⊥) → (each reading nodes old.place start ≡ Ok s) × (new ≡ after old nodes rest)
   no_child_left mid new s l (Some child) m other = absurd (other child refl)
   no_child_left mid new s l None m other =
       let p = mid.place + places_of l.left in
@@ -209,18 +213,18 @@ module _ (plan : Plan) (v : SpecVersion) (depth : Depth → Depth) (d : Depth) (
       let is : each reading nodes old.place start ≡ Err (unexpected m.place name.local_name (kind_of_node m.text)) = from_here mid s l m.text m.others m.place m.first m.is_left ∙ ap (λ x. x >>= λ next. each reading m.others (m.place + places m.text) next) along in
       (omega (arith, l.grown, m.grown), fails_along e new.place (no_more (unexpected m.place name.local_name (kind_of_node m.text))) (each reading nodes old.place start) (λ f x. is ∙ (let same : unexpected m.place name.local_name (kind_of_node m.text) ≡ f = cc in ap (λ g. Err g) same)) m.fails)
 
-  pub child_begins : (mid new : Cursor) (s : Trees) (l : Inside mid s) (o : Option Child) (child : Child) → o ≡ Some child → Meets r mid new name l.left rest (Ok o) → MeetsChild mid new name l.left (past_texts r l.left) rest child
+  pub child_begins : (mid new : Cursor) (s : Trees) (l : Inside mid s) (o : Option Start) (child : Start) → o ≡ Some child → Meets r mid new name l.left rest (Ok o) → MeetsChild mid new name l.left (past_texts r l.left) rest child
   child_begins mid new s l o child is m = subst (λ x. Meets r mid new name l.left rest (Ok x)) is m
 
   -- A child begins, and is offered to what is read.
-  module _ (mid new : Cursor) (s : Trees) (l : Inside mid s) (child : Child) (m : MeetsChild mid new name l.left (past_texts r l.left) rest child) where
+  module _ (mid new : Cursor) (s : Trees) (l : Inside mid s) (child : Start) (m : MeetsChild mid new name l.left (past_texts r l.left) rest child) where
     abbrev tail : List XmlEvent
     tail = events_of_all m.others ++ EndElement name ∷ rest
 
     abbrev item : Node
-    item = element child.name.now child.attributes.now m.namespace m.kids
+    item = element child.element.now child.attributes.now m.namespace m.kids
 
-    pub is_in : IsIn new child.name.now
+    pub is_in : IsIn new child.element.now
     is_in = record { p = child.place; nodes = m.kids; rest = tail; stands = m.stands }
 
     all_is : each reading nodes old.place start ≡ (reading item child.place s >>= λ next. each reading m.others (child.place + places item) next)
@@ -230,31 +234,31 @@ module _ (plan : Plan) (v : SpecVersion) (depth : Depth → Depth) (d : Depth) (
     grown = omega (arith, l.grown, m.is_left, places_past r l.left)
 
     abbrev child_met : Met
-    child_met = met plan v (depth d) child.name.now child.attributes.now m.namespace child.place m.kids s
+    child_met = met plan v (depth d) child.element.now child.attributes.now m.namespace child.place m.kids s
 
     step_is : (x : Met) → child_met ≡ x → reading item child.place s ≡ then_read x plan.rule name.local_name child.place s
-    step_is x e = child_step plan v (depth d) name.local_name child.name.now child.attributes.now m.namespace m.kids child.place s x e
+    step_is x e = child_step plan v (depth d) name.local_name child.element.now child.attributes.now m.namespace m.kids child.place s x e
 
     fault_is : (f : XmlReadError) → reading item child.place s ≡ Err f → each reading nodes old.place start ≡ Err f
     fault_is f e = all_is ∙ ap (λ x. x >>= λ next. each reading m.others (child.place + places item) next) e
 
     -- it is refused
-    pub child_fails : (next : Cursor) (s' : Trees) (e : XmlReadError) → TakesChild s s' new next v plan depth child.name.now child.attributes.now (Err e) → (old.place ≤ next.place) × Fails e next.place (each reading nodes old.place start)
+    pub child_fails : (next : Cursor) (s' : Trees) (e : XmlReadError) → TakesChild s s' new next v plan depth child.element.now child.attributes.now (Err e) → (old.place ≤ next.place) × Fails e next.place (each reading nodes old.place start)
     child_fails next s' e takes =
         let t = takes d m.namespace child.place m.kids tail m.stands in
         (omega (arith, grown, m.stands.place, t.grown), fails_along e next.place t.read (each reading nodes old.place start) (λ f x. fault_is f (step_is (found t.read) t.child_is ∙ x)) t.fails)
 
     -- it is unknown, and the reader stands where it stood
-    pub still_open : (next : Cursor) (s' : Trees) (taken : Taken) → TakesChild s s' new next v plan depth child.name.now child.attributes.now (Ok taken) → taken ≡ answers.Unknown → IsAt next child.name.now
+    pub still_open : (next : Cursor) (s' : Trees) (taken : Taken) → TakesChild s s' new next v plan depth child.element.now child.attributes.now (Ok taken) → taken ≡ answers.Unknown → IsAt next child.element.now
     still_open next s' taken takes is =
         let u = was_unknown taken s s' new next (after new m.kids tail) child_met is (takes d m.namespace child.place m.kids tail m.stands) in
-        record { nodes = m.kids; rest = tail; at = subst (λ c. At c child.name.now m.kids tail) (sym u.2) m.stands.at }
+        record { nodes = m.kids; rest = tail; at = subst (λ c. At c child.element.now m.kids tail) (sym u.2) m.stands.at }
 
     abbrev fault : XmlReadError
     fault = unexpected child.place name.local_name kinds.StartElement
 
     -- it is refused once it was offered
-    pub leaving_fails : (next last : Cursor) (s' : Trees) (taken : Taken) (e : XmlReadError) → TakesChild s s' new next v plan depth child.name.now child.attributes.now (Ok taken) → Leaves r taken next last name child (Err e) → (old.place ≤ last.place) × Fails e last.place (each reading nodes old.place start)
+    pub leaving_fails : (next last : Cursor) (s' : Trees) (taken : Taken) (e : XmlReadError) → TakesChild s s' new next v plan depth child.element.now child.attributes.now (Ok taken) → Leaves r taken next last name child (Err e) → (old.place ≤ last.place) × Fails e last.place (each reading nodes old.place start)
     leaving_fails next last s' taken e takes leaves = go taken (takes d m.namespace child.place m.kids tail m.stands) leaves
       where
         refused : next ≡ new → last ≡ next → reading item child.place s ≡ Err fault → Refused (no_more e) fault → (old.place ≤ last.place) × Fails e last.place (each reading nodes old.place start)
@@ -267,18 +271,18 @@ module _ (plan : Plan) (v : SpecVersion) (depth : Depth → Depth) (d : Depth) (
         go answers.Unknown t h = refused t.2 h.1 (step_is nothing t.0 ∙ ap (λ x. unknown x name.local_name child.place s) ruled ∙ unknown_fails plan v (depth d) name.local_name r child.place s (never_skips (skips r) h.0)) h.2
         go answers.Second t h = refused t.2 h.1 (step_is second t.0) h.2
 
-    left_behind : (next last : Cursor) (s' : Trees) (taken : Taken) → TakesChild s s' new next v plan depth child.name.now child.attributes.now (Ok taken) → Leaves r taken next last name child (Ok tt) → (last ≡ after new m.kids tail) × (reading item child.place s ≡ Ok s')
+    left_behind : (next last : Cursor) (s' : Trees) (taken : Taken) → TakesChild s s' new next v plan depth child.element.now child.attributes.now (Ok taken) → Leaves r taken next last name child (Ok tt) → (last ≡ after new m.kids tail) × (reading item child.place s ≡ Ok s')
     left_behind next last s' taken takes leaves = go taken (takes d m.namespace child.place m.kids tail m.stands) leaves
       where
         go : (t : Taken) → ReadsChild s s' new next (after new m.kids tail) child_met (Ok t) → Leaves r t next last name child (Ok tt) → (last ≡ after new m.kids tail) × (reading item child.place s ≡ Ok s')
         go answers.Read t h = (h.1 ∙ t.1, step_is (found (Ok s')) t.0)
         go answers.Unknown t h =
-            let there : At next child.name.now m.kids tail = subst (λ c. At c child.name.now m.kids tail) (sym t.2) m.stands.at in
+            let there : At next child.element.now m.kids tail = subst (λ c. At c child.element.now m.kids tail) (sym t.2) m.stands.at in
             (h.1 m.kids tail there ∙ ap (λ c. after c m.kids tail) t.2, step_is nothing t.0 ∙ ap (λ x. unknown x name.local_name child.place s) ruled ∙ unknown_passes plan v (depth d) name.local_name r child.place s (does_skip (skips r) h.0) ∙ ap (λ x. Ok x) (sym t.1))
         go answers.Second t h = absurd cc
 
     -- nothing of it is left, and the loop goes on after it
-    pub goes_on : (next last : Cursor) (s' : Trees) (taken : Taken) → TakesChild s s' new next v plan depth child.name.now child.attributes.now (Ok taken) → Leaves r taken next last name child (Ok tt) → Inside last s'
+    pub goes_on : (next last : Cursor) (s' : Trees) (taken : Taken) → TakesChild s s' new next v plan depth child.element.now child.attributes.now (Ok taken) → Leaves r taken next last name child (Ok tt) → Inside last s'
     goes_on next last s' taken takes leaves =
         let h = left_behind next last s' taken takes leaves in
         let placed : last.place ≡ new.place + places_of m.kids + 1 = ap (λ (c : Cursor). c.place) h.0 in
@@ -293,7 +297,7 @@ module _ (plan : Plan) (v : SpecVersion) (depth : Depth → Depth) (d : Depth) (
         }
 
     -- less is ahead
-    pub nearer : (next last : Cursor) (s' : Trees) (taken : Taken) → TakesChild s s' new next v plan depth child.name.now child.attributes.now (Ok taken) → Leaves r taken next last name child (Ok tt) → length last.ahead < length mid.ahead
+    pub nearer : (next last : Cursor) (s' : Trees) (taken : Taken) → TakesChild s s' new next v plan depth child.element.now child.attributes.now (Ok taken) → Leaves r taken next last name child (Ok tt) → length last.ahead < length mid.ahead
     nearer next last s' taken takes leaves =
         let h = left_behind next last s' taken takes leaves in
         let x : length last.ahead ≡ length tail = ap (λ (c : Cursor). length c.ahead) h.0 in

@@ -73,12 +73,6 @@ pub licenses_read : (v : SpecVersion) (n : OwnedName) (a : List OwnedAttribute) 
 unfolding list
 licenses_read v n a ns d p nodes = list_reads licenses v n a ns d p nodes
 
--- The reader of a list type: f makes the type of the list.
-pub whole_list : {X : Type 0} (f : X → Tree) (l : Lists) (K : Kind) (depth : Depth → Depth) (inner : List ℕ) (r : Rule) (v : SpecVersion) (n : OwnedName) (a : List OwnedAttribute) (old new : Cursor) (result : Result (List X) XmlReadError)
-    → plan_of_list l ≡ listing_plan r inner K → ReadsList f K depth old new v n inner r result → ReadsAs (list_tree f) old new n a v (a_list l) depth result
-whole_list f l K depth inner r v n a old new result is reads d ns p nodes rest st =
-    subst (λ x. Reads (list_tree f) old new (after old nodes rest) x result) (sym (list_reads l v n a ns (depth d) p nodes ∙ ap (λ x. items_read x n.local_name v (depth d) p nodes) is)) (reads d p nodes rest st)
-
 -- what was read of a list, seen as one
 pub reads_list : {X : Type 0} (f : X → Tree) (K : Kind) (depth : Depth → Depth) (old new : Cursor) (v : SpecVersion) (n : OwnedName) (inner : List ℕ) (r : Rule) (result : Result (List X) XmlReadError)
     → ReadsItems f K depth old new v n inner r result → ReadsList f K depth old new v n inner r result
@@ -88,6 +82,12 @@ reads_list f K depth old new v n inner r (Ok xs) reads d p nodes rest st =
 reads_list f K depth old new v n inner r (Err e) reads d p nodes rest st =
     let h = reads d p nodes rest st in
     (h.0, items_fail e new.place (listing_plan r inner K) n.local_name v (depth d) p nodes h.1)
+
+-- The reader of a list type: f makes the type of the list.
+pub whole_list : {X : Type 0} (f : X → Tree) (l : Lists) (K : Kind) (depth : Depth → Depth) (inner : List ℕ) (r : Rule) (v : SpecVersion) (n : OwnedName) (a : List OwnedAttribute) (old new : Cursor) (result : Result (List X) XmlReadError)
+    → plan_of_list l ≡ listing_plan r inner K → ReadsItems f K depth old new v n inner r result → ReadsAs (list_tree f) old new n a v (a_list l) depth result
+whole_list f l K depth inner r v n a old new result is reads d ns p nodes rest st =
+    subst (λ x. Reads (list_tree f) old new (after old nodes rest) x result) (sym (list_reads l v n a ns (depth d) p nodes ∙ ap (λ x. items_read x n.local_name v (depth d) p nodes) is)) (reads_list f K depth old new v n inner r result reads d p nodes rest st)
 
 -- A field that is a list of the schema's.
 pub takes_list : (now : Tree) (K : Kind) (depth : Depth → Depth) (old new : Cursor) (v : SpecVersion) (n : OwnedName) (a : List OwnedAttribute) (inner : List ℕ) (r : Rule) (result : Result Taken XmlReadError) (l : Lists)

@@ -73,22 +73,22 @@ record_is name alone plain v n a ns d p nodes =
     nested_is name alone v n a ns d p nodes ((plain_name name plain).shallow d) ∙ ap (λ x. so_far name v x n.local_name a p nodes >>= λ ts. finished name v n.local_name (suc (p + places_of nodes)) ts) ((plain_name name plain).same_depth d)
 
 -- Begun by its attributes, and read to the element's end.
-pub begins : {R : Type 0} (slots : R → Trees) (plan : R → Plan) (depth : R → Depth → Depth) (v : SpecVersion) (pl : Plan) (dp : Depth → Depth) (p : ℕ) (first : Result Trees XmlReadError) (begun : Result R XmlReadError) → ((r : R) → plan r ≡ pl) → ((r : R) → depth r ≡ dp) → Gives slots (p + 1) first begun → Begins slots plan depth v dp pl p first begun
-begins slots plan depth v pl dp p first (Ok r) x y h = (h, x r, y r)
-begins slots plan depth v pl dp p first (Err e) x y h = h
+pub begins : {R : Type 0} (slots : R → Trees) (plan : R → Plan) (depth : R → Depth → Depth) (v : SpecVersion) (pl : Plan) (dp : Depth → Depth) (p : ℕ) (first : Result Trees XmlReadError) (begun : Result R XmlReadError) → ((r : R) → (plan r ≡ pl) × (depth r ≡ dp)) → Gives slots (p + 1) first begun → Begins slots plan depth v dp pl p first begun
+begins slots plan depth v pl dp p first (Ok r) laws h = (h, (laws r).0, (laws r).1)
+begins slots plan depth v pl dp p first (Err e) laws h = h
 
 pub start_is : (q k p : ℕ) → q ≡ k → q ≡ suc p → k - 1 ≡ p
 start_is q k p is at = omega arith
 
-pub reads_so_far : {R : Type 0} (slots : R → Trees) (plan_of : R → Plan) (depth_of : R → Depth → Depth) (name : Name) → ((r : R) → plan_of r ≡ record_plan name) → ((r : R) → depth_of r ≡ (λ d. d))
+pub reads_so_far : {R : Type 0} (slots : R → Trees) (plan_of : R → Plan) (depth_of : R → Depth → Depth) (name : Name) → ((r : R) → (plan_of r ≡ record_plan name) × (depth_of r ≡ (λ d. d)))
     → (v : SpecVersion) (n : OwnedName) (a : List OwnedAttribute) (old new : Cursor) (k : ℕ) (begun result : Result R XmlReadError)
     → old.place ≡ k → Gives slots ((k - 1) + 1) (attributes_read (rows name) (in_force name a) v n.local_name (k - 1)) begun
     → ReadsBegun slots plan_of depth_of old new v n begun result
     → (d : Depth) (p : ℕ) (nodes : Nodes) (rest : List XmlEvent) → Stands old n p nodes rest → Reads slots old new (after old nodes rest) (so_far name v d n.local_name a p nodes) result
-reads_so_far slots plan_of depth_of name plans depths v n a old new k begun result at gives reads d p nodes rest st =
+reads_so_far slots plan_of depth_of name laws v n a old new k begun result at gives reads d p nodes rest st =
     let first : ℕ → Result Trees XmlReadError = λ x. attributes_read (rows name) (in_force name a) v n.local_name x in
     let gives' : Gives slots (p + 1) (first p) begun = subst (λ x. Gives slots (x + 1) (first x) begun) (start_is old.place k p at st.place) gives in
-    reads d (λ d. d) (record_plan name) (first p) p nodes rest st (begins slots plan_of depth_of v (record_plan name) (λ d. d) p (first p) begun plans depths gives')
+    reads d (λ d. d) (record_plan name) (first p) p nodes rest st (begins slots plan_of depth_of v (record_plan name) (λ d. d) p (first p) begun laws gives')
 
 -- ---- a record that is finished at its end
 

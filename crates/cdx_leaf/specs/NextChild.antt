@@ -10,7 +10,7 @@ use Rattle.cdx_events.specs.Cursor.{Cursor}
 use Rattle.cdx_models.specs.declared.errors.XmlReadError.{XmlReadError}
 use Rattle.cdx_schema.specs.Faults.{unexpected}
 use Rattle.cdx_schema.specs.Nodes.{places_of}
-use Rattle.cdx_leaf.specs.declared.child.Child.{Child}
+use Rattle.cdx_leaf.specs.declared.start.Start.{Start}
 use Rattle.cdx_leaf.specs.declared.rule.Rule.{Rule}
 use Rattle.cdx_leaf.specs.declared.taken.Taken.{Taken}
 use Rattle.cdx_leaf.specs.declared.taken.Taken.TheVariants as answers
@@ -34,12 +34,12 @@ abbrev pub IsLeft : Cursor → Nodes → ℕ → Nodes → Type 0
 IsLeft old nodes p left = p + places_of left ≡ old.place + places_of nodes
 
 -- The first node left is a child element, right after whose start the reader stands.
-pub record MeetsChild (old new : Cursor) (el : OwnedName) (nodes left : Nodes) (rest : List XmlEvent) (child : Child) : Type 0 where
+pub record MeetsChild (old new : Cursor) (el : OwnedName) (nodes left : Nodes) (rest : List XmlEvent) (child : Start) : Type 0 where
   pub namespace : Namespace
   pub kids : Nodes
   pub others : Nodes
-  pub first : left ≡ node (element child.name.now child.attributes.now namespace kids) others
-  pub stands : Stands new child.name.now child.place kids (events_of_all others ++ EndElement el ∷ rest)
+  pub first : left ≡ node (element child.element.now child.attributes.now namespace kids) others
+  pub stands : Stands new child.element.now child.place kids (events_of_all others ++ EndElement el ∷ rest)
   pub is_left : IsLeft old nodes child.place left
 
 -- The first node left is a text, and the fault.
@@ -53,7 +53,7 @@ pub record MeetsText (old new : Cursor) (el : OwnedName) (nodes left : Nodes) (e
   pub grown : old.place ≤ new.place
   pub fails : Fails e new.place (no_more (unexpected place el.local_name (kind_of_node text)))
 
-abbrev pub Meets : Rule → Cursor → Cursor → OwnedName → Nodes → List XmlEvent → Result (Option Child) XmlReadError → Type 0
+abbrev pub Meets : Rule → Cursor → Cursor → OwnedName → Nodes → List XmlEvent → Result (Option Start) XmlReadError → Type 0
 Meets r old new el nodes rest (Ok None) = (past_texts r nodes ≡ no_nodes) × (new ≡ after old nodes rest)
 Meets r old new el nodes rest (Ok (Some child)) = MeetsChild old new el nodes (past_texts r nodes) rest child
 Meets r old new el nodes rest (Err e) = MeetsText old new el nodes (past_texts r nodes) e
@@ -74,6 +74,6 @@ abbrev pub Passed : Taken → Cursor → Cursor → OwnedName → Type 0
 Passed answers.Unknown old new n = (nodes : Nodes) (rest : List XmlEvent) → At old n nodes rest → new ≡ after old nodes rest
 Passed taken old new n = new ≡ old
 
-abbrev pub Leaves : Rule → Taken → Cursor → Cursor → OwnedName → Child → Result (Unit {0}) XmlReadError → Type 0
-Leaves r taken old new el child (Ok x) = (refuses r taken ≡ false) × Passed taken old new child.name.now
+abbrev pub Leaves : Rule → Taken → Cursor → Cursor → OwnedName → Start → Result (Unit {0}) XmlReadError → Type 0
+Leaves r taken old new el child (Ok x) = (refuses r taken ≡ false) × Passed taken old new child.element.now
 Leaves r taken old new el child (Err e) = (refuses r taken ≡ true) × (new ≡ old) × Refused (no_more e) (unexpected child.place el.local_name kinds.StartElement)

@@ -5,6 +5,8 @@ ghost use Rattle.cdx_schema.specs.XmlReading.{find_attribute};
 ghost use Rattle.cdx_schema.specs.Faults.{lacking};
 ghost use Rattle.cdx_leaf.specs.Attribute.{or_fault, Gives, known};
 
+use crate::error::{Reading, refuse_missing};
+use crate::start::{End, Start};
 use cdx_events::{List, OwnedAttribute, OwnedName, Text};
 use cdx_models::{SpecVersion, XmlReadError};
 use std::alloc::{AllocError, Global};
@@ -58,19 +60,34 @@ pub fn attribute_or_error(
     }
 }
 
-/// A copy of the value where `version` knows the attribute, which is there from `since` on.
+/// A copy of the value of the first attribute of that local name. `RequiredDataMissing` at the start exactly where there
+/// is none.
+pub fn required_attribute(opened: &Start<'_>, expected: &str) -> Reading<Text>
+    ensures { Gives (λ t. t) (opened.now.place + 1)
+        (or_fault (find_attribute expected.now opened.now.attributes.now)
+        (lacking opened.now.place opened.now.element.now.local_name expected.now))
+        result }
+{
+    attribute_or_error(
+        opened.alloc,
+        opened.place,
+        opened.element,
+        opened.attributes,
+        expected,
+    )
+}
+
+/// A copy of the value where the start's version knows the attribute, which is there from `since` on.
 pub fn attribute_since(
-    alloc: Global,
+    opened: &Start<'_>,
     since: SpecVersion,
-    version: SpecVersion,
-    attributes: &List<OwnedAttribute>,
     expected: &str,
 ) -> Result<Option<Text>, AllocError>
-    ensures { IfOk result
-        (λ o. o ≡ known since version (find_attribute expected.now attributes.now)) }
+    ensures { IfOk result (λ o. o
+        ≡ known since opened.now.version (find_attribute expected.now opened.now.attributes.now)) }
 {
-    if since.is_known_to(version) {
-        attribute_or_none(alloc, attributes, expected)
+    if since.is_known_to(opened.version) {
+        attribute_or_none(opened.alloc, opened.attributes, expected)
     } else {
         Ok(None)
     }
@@ -96,19 +113,14 @@ pub fn last_attribute(
     }
 }
 
-/// What was read of a child. `RequiredDataMissing` at `place`, that of the element's end, where the child isn't there.
-pub fn child_or_error<T: Drop>(
-    alloc: Global,
-    place: usize,
-    element: &OwnedName,
-    child: Option<T>,
-    expected: &str,
-) -> Result<T, XmlReadError>
-    ensures { Gives (λ t. t) (place + 1)
-        (or_fault child (lacking place element.now.local_name expected.now)) result }
+/// What was read of a child. `RequiredDataMissing` at the element's end where the child isn't there.
+pub fn child_or_error<T: Drop>(closed: &End<'_>, child: Option<T>, expected: &str) -> Reading<T>
+    ensures { Gives (λ t. t) (closed.now.place + 1)
+        (or_fault child (lacking closed.now.place closed.now.element.now.local_name expected.now))
+        result }
 {
     match child {
         Some(value) => Ok(value),
-        None => Err(XmlReadError::required_data_missing(alloc, place, expected, element)?),
+        None => refuse_missing(closed.alloc, closed.place, closed.element, expected),
     }
 }

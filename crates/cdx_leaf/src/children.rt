@@ -13,11 +13,11 @@ ghost use Rattle.cdx_leaf.specs.Each.{each, plan_step};
 ghost use Rattle.cdx_leaf.specs.Begun.{ReadsBegun};
 
 use crate::child::{after_child, next_child};
+use crate::error::Reading;
 use crate::rule::Rule;
+use crate::start::Start;
 use crate::taken::Taken;
-use cdx_events::{EventReader, List, OwnedAttribute, OwnedName};
-use cdx_models::{SpecVersion, XmlReadError};
-use std::alloc::Global;
+use cdx_events::{EventReader, List};
 
 /// What is read child by child, by a plan.
 pub trait Children: Drop {
@@ -44,43 +44,35 @@ pub trait Children: Drop {
     fn rule(&self) -> Rule
         ensures { (plan self.now).rule ≡ as_rule result };
 
-    /// Reads the element where `version` knows a child of its name. Else, and where it is a second one of which one may
+    /// Reads the element where its version knows a child of its name. Else, and where it is a second one of which one may
     /// stand, it reads nothing and says so. A refusal is the first fault of the child.
-    fn read_child(
-        &mut self,
-        alloc: Global,
-        reader: &mut EventReader<'_>,
-        version: SpecVersion,
-        element: &OwnedName,
-        attributes: &List<OwnedAttribute>,
-    ) -> Result<Taken, XmlReadError>
-        requires { IsIn reader.old element.now }
+    fn read_child(&mut self, reader: &mut EventReader<'_>, opened: &Start<'_>) -> Reading<Taken>
+        requires { IsIn reader.old opened.now.element.now }
         ensures takes { TakesChild (slots self.old) (slots self.new) reader.old reader.new
-            version (plan self.old) (depth self.old) element.now attributes.now result }
+            opened.now.version (plan self.old) (depth self.old) opened.now.element.now
+            opened.now.attributes.now result }
         ensures plan { plan self.new ≡ plan self.old }
         ensures depth { depth self.new ≡ depth self.old };
 }
 
 // Reads the children up to the element's end.
 fn read_children<R: Children>(
-    alloc: Global,
     reader: &mut EventReader<'_>,
-    version: SpecVersion,
-    element: &OwnedName,
+    opened: &Start<'_>,
     target: &mut R,
-) -> Result<(), XmlReadError>
-    requires { IsAt reader.old element.now }
+) -> Reading<()>
+    requires { IsAt reader.old opened.now.element.now }
     ensures { (d : Depth) (nodes : Nodes) (rest : List XmlEvent)
-        → At reader.old element.now nodes rest
+        → At reader.old opened.now.element.now nodes rest
         → Reads (λ _. R.slots target.new) reader.old reader.new (after reader.old nodes rest)
-        (each (plan_step (R.plan target.old) version (R.depth target.old d) element.now.local_name)
-        nodes reader.old.place (R.slots target.old))
+        (each (plan_step (R.plan target.old) opened.now.version (R.depth target.old d)
+        opened.now.element.now.local_name) nodes reader.old.place (R.slots target.old))
         result }
 {
     let rule = target.rule();
-    'nodes: while let Some(child) = next_child(alloc, reader, element, rule)? {
-        let taken = target.read_child(alloc, reader, version, child.name, child.attributes)?;
-        after_child(alloc, reader, element, rule, &child, taken)?;
+    'nodes: while let Some(child) = next_child(reader, opened, rule)? {
+        let taken = target.read_child(reader, &child)?;
+        after_child(reader, opened, rule, &child, taken)?;
     }
     Ok(())
 }
@@ -88,17 +80,15 @@ fn read_children<R: Children>(
 /// What was begun by the element's attributes, read to the element's end; or else the fault that it was begun with, or the
 /// first one of the content.
 pub fn read_record<R: Children>(
-    alloc: Global,
     reader: &mut EventReader<'_>,
-    version: SpecVersion,
-    element: &OwnedName,
-    begun: Result<R, XmlReadError>,
-) -> Result<R, XmlReadError>
-    requires { IsIn reader.old element.now }
-    ensures { ReadsBegun R.slots R.plan R.depth reader.old reader.new version element.now
-        begun result }
+    opened: &Start<'_>,
+    begun: Reading<R>,
+) -> Reading<R>
+    requires { IsIn reader.old opened.now.element.now }
+    ensures { ReadsBegun R.slots R.plan R.depth reader.old reader.new opened.now.version
+        opened.now.element.now begun result }
 {
     let mut record = begun?;
-    read_children(alloc, reader, version, element, &mut record)?;
+    read_children(reader, opened, &mut record)?;
     Ok(record)
 }

@@ -9,6 +9,9 @@ use cdx_events::{OwnedName, Text, XmlEvent};
 use cdx_models::XmlReadError;
 use std::alloc::{AllocError, Global};
 
+/// What a reading gives, or why there is none.
+pub type Reading<T> = Result<T, XmlReadError>;
+
 /// The fault of an event that isn't expected at this place in the element of this local name. It holds the event's kind.
 pub fn unexpected_element_error(
     alloc: Global,

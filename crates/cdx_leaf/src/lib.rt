@@ -22,11 +22,11 @@ mod xml_type;
 
 pub use attribute::{
     attribute_or_error, attribute_or_none, attribute_since, child_or_error, last_attribute,
-    optional_attribute,
+    optional_attribute, required_attribute,
 };
 pub use children::{Children, read_record};
 pub use content::{read_content, read_exact_content};
-pub use error::{invalid_parse_error, refuse, refuse_missing, unexpected_element_error};
+pub use error::{Reading, invalid_parse_error, refuse, refuse_missing, unexpected_element_error};
 pub use from_xml::{FromXml, FromXmlDocument};
 pub use lists::{read_items, read_lax_validation_list_tag, read_list_tag};
 pub use namespace::{expected_namespace_or_error, namespace_of};

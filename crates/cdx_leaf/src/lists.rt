@@ -5,11 +5,13 @@ ghost use Rattle.cdx_leaf.specs.Listing.{ReadsList, ReadsItems};
 ghost use Rattle.cdx_leaf.specs.declared.rule.Rule.TheVariants as rules;
 
 use crate::children::{Children, read_record};
+use crate::error::Reading;
 use crate::from_xml::FromXml;
 use crate::rule::Rule;
+use crate::start::Start;
 use crate::take::take_into;
 use crate::taken::Taken;
-use cdx_events::{EventReader, List, OwnedAttribute, OwnedName};
+use cdx_events::{EventReader, List, OwnedName};
 use cdx_models::{SpecVersion, XmlReadError};
 use std::alloc::Global;
 
@@ -35,40 +37,31 @@ impl<'a, X: FromXml> Children for Listing<'a, X> {
         self.rule
     }
 
-    fn read_child(
-        &mut self,
-        alloc: Global,
-        reader: &mut EventReader<'_>,
-        version: SpecVersion,
-        element: &OwnedName,
-        attributes: &List<OwnedAttribute>,
-    ) -> Result<Taken, XmlReadError> {
-        if !element.local_name.is(self.inner) {
+    fn read_child(&mut self, reader: &mut EventReader<'_>, opened: &Start<'_>) -> Reading<Taken> {
+        if !opened.element.local_name.is(self.inner) {
             return Ok(Taken::Unknown);
         }
-        take_into(alloc, reader, version, element, attributes, &mut self.items)
+        take_into(reader, opened, &mut self.items)
     }
 }
 
 /// The items of the element, by the rule for what else stands in it.
 pub fn read_items<X: FromXml>(
-    alloc: Global,
     reader: &mut EventReader<'_>,
-    version: SpecVersion,
-    element: &OwnedName,
+    opened: &Start<'_>,
     inner: &str,
     rule: Rule,
-) -> Result<List<X>, XmlReadError>
-    requires { IsIn reader.old element.now }
-    ensures { ReadsItems X.tree X.kind X.depth reader.old reader.new version element.now
-        inner.now rule result }
+) -> Reading<List<X>>
+    requires { IsIn reader.old opened.now.element.now }
+    ensures { ReadsItems X.tree X.kind X.depth reader.old reader.new opened.now.version
+        opened.now.element.now inner.now rule result }
 {
     let begun = Ok(Listing {
         inner,
         rule,
-        items: List::new(alloc),
+        items: List::new(opened.alloc),
     });
-    let listing: Listing<'_, X> = read_record(alloc, reader, version, element, begun)?;
+    let listing: Listing<'_, X> = read_record(reader, opened, begun)?;
     Ok(listing.items)
 }
 
@@ -84,7 +77,15 @@ pub fn read_list_tag<X: FromXml>(
     ensures { ReadsList X.tree X.kind X.depth reader.old reader.new version element.now
         inner.now rules.Strict result }
 {
-    read_items(alloc, reader, version, element, inner, Rule::Strict)
+    let none = List::new(alloc);
+    let opened = Start {
+        alloc,
+        place: reader.place() - 1,
+        version,
+        element,
+        attributes: &none,
+    };
+    read_items(reader, &opened, inner, Rule::Strict)
 }
 
 /// The items of the element in their order: the children named `inner`. Children of other names are skipped whole; a
@@ -100,5 +101,13 @@ pub fn read_lax_validation_list_tag<X: FromXml>(
     ensures { ReadsList X.tree X.kind X.depth reader.old reader.new version element.now
         inner.now rules.Lax result }
 {
-    read_items(alloc, reader, version, element, inner, Rule::Lax)
+    let none = List::new(alloc);
+    let opened = Start {
+        alloc,
+        place: reader.place() - 1,
+        version,
+        element,
+        attributes: &none,
+    };
+    read_items(reader, &opened, inner, Rule::Lax)
 }

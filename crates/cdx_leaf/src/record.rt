@@ -6,12 +6,12 @@ ghost use Rattle.cdx_leaf.specs.Reading.{IsIn, ReadsAs};
 
 use crate::children::{Children, read_record};
 use crate::content::read_content;
+use crate::error::Reading;
 use crate::from_xml::FromXml;
 use crate::start::{End, Start};
-use cdx_events::{EventReader, List, OwnedAttribute, OwnedName, Text};
+use cdx_events::{EventReader, List, Text};
 use cdx_models::{SpecVersion, XmlReadError};
 use cdx_schema::Record;
-use std::alloc::Global;
 
 /// A record that is read child by child, by its rows of the schema.
 pub trait XmlRecord: Record + Drop {
@@ -41,40 +41,29 @@ pub trait XmlRecord: Record + Drop {
     // None of its rows is a text that stands right in it.
     ghost no_content: { content_from 0 (rows Self.name) ≡ xml.no_content };
 
-    // Its children are those of its rows.
-    ghost by_rows: { (part : Self.Part) → Self.Part.plan part ≡ record_plan Self.name };
-
-    // They are read at the depth of the record itself.
-    ghost same_depth: { (part : Self.Part) → Self.Part.depth part ≡ (λ d. d) };
+    // Its children are those of its rows, and are read at the depth of the record itself.
+    ghost by_rows: { (part : Self.Part)
+        → (Self.Part.plan part ≡ record_plan Self.name) × (Self.Part.depth part ≡ (λ d. d)) };
 }
 
 /// The record that the element is, in which nothing that has a depth stands.
-pub fn read_whole<X: XmlRecord>(
-    alloc: Global,
-    reader: &mut EventReader<'_>,
-    version: SpecVersion,
-    element: &OwnedName,
-    attributes: &List<OwnedAttribute>,
-) -> Result<X, XmlReadError>
-    requires { IsIn reader.old element.now }
-    ensures { ReadsAs X.tree reader.old reader.new element.now attributes.now version
-        (a_record X.name) (λ d. d) result }
+pub fn read_whole<X: XmlRecord>(reader: &mut EventReader<'_>, opened: &Start<'_>) -> Reading<X>
+    requires { IsIn reader.old opened.now.element.now }
+    ensures { ReadsAs X.tree reader.old reader.new opened.now.element.now
+        opened.now.attributes.now opened.now.version (a_record X.name) (λ d. d) result }
 {
     let begun = X::begin(&Start {
-        alloc,
         place: reader.place() - 1,
-        version,
-        element,
-        attributes,
+        ..*opened
     });
-    let part: X::Part = read_record(alloc, reader, version, element, begun)?;
+    let part: X::Part = read_record(reader, opened, begun)?;
     let end = reader.place() - 1;
     X::finish(
         &End {
-            alloc,
+            alloc: opened.alloc,
             place: end,
-            version,
-            element,
+            version: opened.version,
+            element: opened.element,
         },
         part,
     )
@@ -86,14 +75,8 @@ impl<X: XmlRecord> FromXml for X {
 
     ghost at_top = { refl };
 
-    fn read_xml_element(
-        alloc: Global,
-        reader: &mut EventReader<'_>,
-        version: SpecVersion,
-        element: &OwnedName,
-        attributes: &List<OwnedAttribute>,
-    ) -> Result<X, XmlReadError> {
-        read_whole(alloc, reader, version, element, attributes)
+    fn read_from(reader: &mut EventReader<'_>, opened: &Start<'_>) -> Reading<X> {
+        read_whole(reader, opened)
     }
 }
 
@@ -137,23 +120,17 @@ pub trait TextRecord: Record + Drop {
 
 /// The record that the element is.
 pub fn read_text_record<X: TextRecord>(
-    alloc: Global,
     reader: &mut EventReader<'_>,
-    version: SpecVersion,
-    element: &OwnedName,
-    attributes: &List<OwnedAttribute>,
-) -> Result<X, XmlReadError>
-    requires { IsIn reader.old element.now }
-    ensures { ReadsAs X.tree reader.old reader.new element.now attributes.now version
-        (a_record X.name) (λ d. d) result }
+    opened: &Start<'_>,
+) -> Reading<X>
+    requires { IsIn reader.old opened.now.element.now }
+    ensures { ReadsAs X.tree reader.old reader.new opened.now.element.now
+        opened.now.attributes.now opened.now.version (a_record X.name) (λ d. d) result }
 {
     let begun = X::begin(&Start {
-        alloc,
         place: reader.place() - 1,
-        version,
-        element,
-        attributes,
+        ..*opened
     });
-    let (start, content) = read_content(alloc, reader, element, begun)?;
+    let (start, content) = read_content(reader, opened, begun)?;
     Ok(X::with_text(start, content))
 }

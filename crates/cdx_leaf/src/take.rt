@@ -7,28 +7,26 @@ ghost use Rattle.cdx_models.specs.Trees.{present, list_tree};
 ghost use Rattle.cdx_leaf.specs.Listing.{TakesList};
 ghost use Rattle.cdx_leaf.specs.Trees.{collected};
 
+use crate::error::Reading;
 use crate::from_xml::FromXml;
 use crate::lists::read_items;
 use crate::rule::Rule;
+use crate::start::Start;
 use crate::taken::Taken;
-use cdx_events::{EventReader, List, OwnedAttribute, OwnedName};
-use cdx_models::{SpecVersion, XmlReadError};
+use cdx_events::{EventReader, List};
 use std::alloc::{AllocError, Global};
 
 /// Reads the element into a field, in place of what was there. The answer is always Read.
 pub fn take_one<X: FromXml>(
-    alloc: Global,
     reader: &mut EventReader<'_>,
-    version: SpecVersion,
-    element: &OwnedName,
-    attributes: &List<OwnedAttribute>,
+    opened: &Start<'_>,
     field: &mut Option<X>,
-) -> Result<Taken, XmlReadError>
-    requires { IsIn reader.old element.now }
-    ensures { TakesOne (present X.tree field.new) reader.old reader.new version X.kind X.depth
-        element.now attributes.now result }
+) -> Reading<Taken>
+    requires { IsIn reader.old opened.now.element.now }
+    ensures { TakesOne (present X.tree field.new) reader.old reader.new opened.now.version X.kind
+        X.depth opened.now.element.now opened.now.attributes.now result }
 {
-    *field = Some(X::read_xml_element(alloc, reader, version, element, attributes)?);
+    *field = Some(X::read_from(reader, opened)?);
     Ok(Taken::Read)
 }
 
@@ -53,55 +51,48 @@ pub fn push_into<T: Drop>(
 
 /// Reads the element to the end of a list that may not be there yet. The answer is always Read.
 pub fn take_more<X: FromXml>(
-    alloc: Global,
     reader: &mut EventReader<'_>,
-    version: SpecVersion,
-    element: &OwnedName,
-    attributes: &List<OwnedAttribute>,
+    opened: &Start<'_>,
     field: &mut Option<List<X>>,
-) -> Result<Taken, XmlReadError>
-    requires { IsIn reader.old element.now }
+) -> Reading<Taken>
+    requires { IsIn reader.old opened.now.element.now }
     ensures { TakesMore (present (list_tree X.tree) field.old)
         (present (list_tree X.tree) field.new) reader.old reader.new
-        version X.kind X.depth element.now attributes.now result }
+        opened.now.version X.kind X.depth opened.now.element.now opened.now.attributes.now result }
 {
-    let item = X::read_xml_element(alloc, reader, version, element, attributes)?;
-    push_into(alloc, field, item)?;
+    let item = X::read_from(reader, opened)?;
+    push_into(opened.alloc, field, item)?;
     Ok(Taken::Read)
 }
 
 /// Reads the element to the end of a list. The answer is always Read.
 pub fn take_into<X: FromXml>(
-    alloc: Global,
     reader: &mut EventReader<'_>,
-    version: SpecVersion,
-    element: &OwnedName,
-    attributes: &List<OwnedAttribute>,
+    opened: &Start<'_>,
     field: &mut List<X>,
-) -> Result<Taken, XmlReadError>
-    requires { IsIn reader.old element.now }
+) -> Reading<Taken>
+    requires { IsIn reader.old opened.now.element.now }
     ensures { TakesMore (collected X.tree field.old) (collected X.tree field.new) reader.old
-        reader.new version X.kind X.depth element.now attributes.now result }
+        reader.new opened.now.version X.kind X.depth opened.now.element.now
+        opened.now.attributes.now result }
 {
-    let item = X::read_xml_element(alloc, reader, version, element, attributes)?;
+    let item = X::read_from(reader, opened)?;
     field.push(item)?;
     Ok(Taken::Read)
 }
 
 /// Reads the element's items into a field, in place of what was there. The answer is always Read.
 pub fn take_list<X: FromXml>(
-    alloc: Global,
     reader: &mut EventReader<'_>,
-    version: SpecVersion,
-    element: &OwnedName,
+    opened: &Start<'_>,
     inner: &str,
     rule: Rule,
     field: &mut Option<List<X>>,
-) -> Result<Taken, XmlReadError>
-    requires { IsIn reader.old element.now }
+) -> Reading<Taken>
+    requires { IsIn reader.old opened.now.element.now }
     ensures { TakesList (present (list_tree X.tree) field.new) X.kind X.depth reader.old reader.new
-        version element.now inner.now rule result }
+        opened.now.version opened.now.element.now inner.now rule result }
 {
-    *field = Some(read_items(alloc, reader, version, element, inner, rule)?);
+    *field = Some(read_items(reader, opened, inner, rule)?);
     Ok(Taken::Read)
 }

@@ -1,10 +1,10 @@
 //! Elements that are a text, a boolean or a number.
 
+use crate::error::Reading;
 use crate::from_xml::FromXml;
+use crate::start::Start;
 use crate::tags::{read_boolean_tag, read_simple_tag, read_u32_tag};
-use cdx_events::{EventReader, List, OwnedAttribute, OwnedName, Text};
-use cdx_models::{SpecVersion, XmlReadError};
-use std::alloc::Global;
+use cdx_events::{EventReader, Text};
 
 impl FromXml for Text {
     ghost use Rattle.std.specs.Prelude.{refl};
@@ -13,14 +13,8 @@ impl FromXml for Text {
 
     ghost at_top = { refl };
 
-    fn read_xml_element(
-        alloc: Global,
-        reader: &mut EventReader<'_>,
-        _version: SpecVersion,
-        element: &OwnedName,
-        _attributes: &List<OwnedAttribute>,
-    ) -> Result<Text, XmlReadError> {
-        read_simple_tag(alloc, reader, element)
+    fn read_from(reader: &mut EventReader<'_>, opened: &Start<'_>) -> Reading<Text> {
+        read_simple_tag(opened.alloc, reader, opened.element)
     }
 }
 
@@ -31,14 +25,8 @@ impl FromXml for bool {
 
     ghost at_top = { refl };
 
-    fn read_xml_element(
-        alloc: Global,
-        reader: &mut EventReader<'_>,
-        _version: SpecVersion,
-        element: &OwnedName,
-        _attributes: &List<OwnedAttribute>,
-    ) -> Result<bool, XmlReadError> {
-        read_boolean_tag(alloc, reader, element)
+    fn read_from(reader: &mut EventReader<'_>, opened: &Start<'_>) -> Reading<bool> {
+        read_boolean_tag(opened.alloc, reader, opened.element)
     }
 }
 
@@ -49,13 +37,7 @@ impl FromXml for u32 {
 
     ghost at_top = { refl };
 
-    fn read_xml_element(
-        alloc: Global,
-        reader: &mut EventReader<'_>,
-        _version: SpecVersion,
-        element: &OwnedName,
-        _attributes: &List<OwnedAttribute>,
-    ) -> Result<u32, XmlReadError> {
-        read_u32_tag(alloc, reader, element)
+    fn read_from(reader: &mut EventReader<'_>, opened: &Start<'_>) -> Reading<u32> {
+        read_u32_tag(opened.alloc, reader, opened.element)
     }
 }

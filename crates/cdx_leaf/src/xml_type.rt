@@ -8,8 +8,8 @@ ghost use Rattle.cdx_leaf.specs.Attribute.{Gives};
 ghost use Rattle.cdx_leaf.specs.Numbers.{value_attribute};
 
 use crate::attribute::optional_attribute;
-use crate::error::invalid_parse_error;
-use cdx_events::{List, OwnedAttribute};
+use crate::error::{Reading, invalid_parse_error};
+use crate::start::Start;
 use cdx_models::{HasTree, XmlReadError};
 use std::alloc::Global;
 
@@ -111,21 +111,19 @@ impl FromXmlType for u32 {
     }
 }
 
-/// The value of the first attribute of that local name, where there is one. A text that is no value is refused at
-/// `place`, that of the element's start.
-pub fn attribute_value<T: FromXmlType>(
-    alloc: Global,
-    place: usize,
-    attributes: &List<OwnedAttribute>,
-    expected: &str,
-) -> Result<Option<T>, XmlReadError>
-    ensures { Gives (present T.tree) (place + 1)
-        (value_attribute T.value_kind place expected.now
-        (find_attribute expected.now attributes.now))
+/// The value of the first attribute of that local name, where there is one. A text that is no value is refused at the
+/// start.
+pub fn attribute_value<T: FromXmlType>(opened: &Start<'_>, expected: &str) -> Reading<Option<T>>
+    ensures { Gives (present T.tree) (opened.now.place + 1)
+        (value_attribute T.value_kind opened.now.place expected.now
+        (find_attribute expected.now opened.now.attributes.now))
         result }
 {
-    match optional_attribute(attributes, expected) {
-        Some(value) => Ok(Some(T::from_xml_value(alloc, place, expected, value.as_str())?)),
+    match optional_attribute(opened.attributes, expected) {
+        Some(value) => {
+            let text = value.as_str();
+            Ok(Some(T::from_xml_value(opened.alloc, opened.place, expected, text)?))
+        }
         None => Ok(None),
     }
 }

@@ -2,14 +2,13 @@
 
 use crate::license::{Expression, License, LicenseChoice, LicenseIdentifier, Licenses};
 use crate::parts::{ChoicesPart, LicensePart};
-use cdx_events::{EventReader, List, OwnedAttribute, OwnedName, Text};
+use cdx_events::{EventReader, List, Text};
 use cdx_leaf::{
-    Children, End, FromXml, Rule, Start, Taken, TextRecord, XmlRecord, attribute_or_none,
+    Children, End, FromXml, Reading, Rule, Start, Taken, TextRecord, XmlRecord, attribute_or_none,
     attribute_since, child_or_error, read_exact_content, read_record, read_text_record,
     refuse_missing, take_into, take_one,
 };
 use cdx_models::{SpecVersion, XmlReadError};
-use std::alloc::Global;
 
 /// An `id` or a `name`. An element of another name lacks `id or name`, at its start.
 impl FromXml for LicenseIdentifier {
@@ -19,22 +18,21 @@ impl FromXml for LicenseIdentifier {
 
     ghost at_top = { refl };
 
-    fn read_xml_element(
-        alloc: Global,
-        reader: &mut EventReader<'_>,
-        _v: SpecVersion,
-        element: &OwnedName,
-        _attributes: &List<OwnedAttribute>,
-    ) -> Result<LicenseIdentifier, XmlReadError> {
-        if element.local_name.is("id") {
-            let (_, id) = read_exact_content(alloc, reader, element, Ok(()))?;
+    fn read_from(reader: &mut EventReader<'_>, opened: &Start<'_>) -> Reading<LicenseIdentifier> {
+        if opened.element.local_name.is("id") {
+            let (_, id) = read_exact_content(reader, opened, Ok(()))?;
             return Ok(LicenseIdentifier::SpdxId(id));
         }
-        if element.local_name.is("name") {
-            let (_, name) = read_exact_content(alloc, reader, element, Ok(()))?;
+        if opened.element.local_name.is("name") {
+            let (_, name) = read_exact_content(reader, opened, Ok(()))?;
             return Ok(LicenseIdentifier::Name(name));
         }
-        refuse_missing(alloc, reader.place() - 1, element, "id or name")
+        refuse_missing(
+            opened.alloc,
+            reader.place() - 1,
+            opened.element,
+            "id or name",
+        )
     }
 }
 
@@ -53,48 +51,27 @@ impl Children for LicensePart {
         Rule::Lax
     }
 
-    fn read_child(
-        &mut self,
-        alloc: Global,
-        reader: &mut EventReader<'_>,
-        v: SpecVersion,
-        element: &OwnedName,
-        attributes: &List<OwnedAttribute>,
-    ) -> Result<Taken, XmlReadError> {
-        match element.local_name.as_str() {
+    fn read_child(&mut self, reader: &mut EventReader<'_>, opened: &Start<'_>) -> Reading<Taken> {
+        match opened.element.local_name.as_str() {
             "id" => {
                 if self.license_identifier.is_some() {
                     return Ok(Taken::Second);
                 }
-                take_one(
-                    alloc,
-                    reader,
-                    v,
-                    element,
-                    attributes,
-                    &mut self.license_identifier,
-                )
+                take_one(reader, opened, &mut self.license_identifier)
             }
             "name" => {
                 if self.license_identifier.is_some() {
                     return Ok(Taken::Second);
                 }
-                take_one(
-                    alloc,
-                    reader,
-                    v,
-                    element,
-                    attributes,
-                    &mut self.license_identifier,
-                )
+                take_one(reader, opened, &mut self.license_identifier)
             }
-            "text" => take_one(alloc, reader, v, element, attributes, &mut self.text),
-            "url" => take_one(alloc, reader, v, element, attributes, &mut self.url),
+            "text" => take_one(reader, opened, &mut self.text),
+            "url" => take_one(reader, opened, &mut self.url),
             "properties" => {
-                if !SpecVersion::V1_5.is_known_to(v) {
+                if !SpecVersion::V1_5.is_known_to(opened.version) {
                     return Ok(Taken::Unknown);
                 }
-                take_one(alloc, reader, v, element, attributes, &mut self.properties)
+                take_one(reader, opened, &mut self.properties)
             }
             _ => Ok(Taken::Unknown),
         }
@@ -110,19 +87,11 @@ impl XmlRecord for License {
 
     ghost no_content = { content_is license };
 
-    ghost by_rows = { λ part. refl };
-
-    ghost same_depth = { λ part. refl };
+    ghost by_rows = { λ part. (refl, refl) };
 
     fn begin(opened: &Start<'_>) -> Result<LicensePart, XmlReadError> {
         Ok(LicensePart {
-            bom_ref: attribute_since(
-                opened.alloc,
-                SpecVersion::V1_5,
-                opened.version,
-                opened.attributes,
-                "bom-ref",
-            )?,
+            bom_ref: attribute_since(opened, SpecVersion::V1_5, "bom-ref")?,
             license_identifier: None,
             text: None,
             url: None,
@@ -131,13 +100,7 @@ impl XmlRecord for License {
     }
 
     fn finish(closed: &End<'_>, part: LicensePart) -> Result<License, XmlReadError> {
-        let license_identifier = child_or_error(
-            closed.alloc,
-            closed.place,
-            closed.element,
-            part.license_identifier,
-            "id or name",
-        )?;
+        let license_identifier = child_or_error(closed, part.license_identifier, "id or name")?;
         Ok(License {
             bom_ref: part.bom_ref,
             license_identifier,
@@ -185,14 +148,8 @@ impl FromXml for Expression {
 
     ghost at_top = { refl };
 
-    fn read_xml_element(
-        alloc: Global,
-        reader: &mut EventReader<'_>,
-        v: SpecVersion,
-        element: &OwnedName,
-        attributes: &List<OwnedAttribute>,
-    ) -> Result<Expression, XmlReadError> {
-        read_text_record(alloc, reader, v, element, attributes)
+    fn read_from(reader: &mut EventReader<'_>, opened: &Start<'_>) -> Reading<Expression> {
+        read_text_record(reader, opened)
     }
 }
 
@@ -204,22 +161,21 @@ impl FromXml for LicenseChoice {
 
     ghost at_top = { refl };
 
-    fn read_xml_element(
-        alloc: Global,
-        reader: &mut EventReader<'_>,
-        v: SpecVersion,
-        element: &OwnedName,
-        attributes: &List<OwnedAttribute>,
-    ) -> Result<LicenseChoice, XmlReadError> {
-        if element.local_name.is("license") {
-            let license = License::read_xml_element(alloc, reader, v, element, attributes)?;
+    fn read_from(reader: &mut EventReader<'_>, opened: &Start<'_>) -> Reading<LicenseChoice> {
+        if opened.element.local_name.is("license") {
+            let license = License::read_from(reader, opened)?;
             return Ok(LicenseChoice::License(license));
         }
-        if element.local_name.is("expression") {
-            let expression = Expression::read_xml_element(alloc, reader, v, element, attributes)?;
+        if opened.element.local_name.is("expression") {
+            let expression = Expression::read_from(reader, opened)?;
             return Ok(LicenseChoice::Expression(expression));
         }
-        refuse_missing(alloc, reader.place() - 1, element, "license or expression")
+        refuse_missing(
+            opened.alloc,
+            reader.place() - 1,
+            opened.element,
+            "license or expression",
+        )
     }
 }
 
@@ -238,17 +194,10 @@ impl Children for ChoicesPart {
         Rule::Strict
     }
 
-    fn read_child(
-        &mut self,
-        alloc: Global,
-        reader: &mut EventReader<'_>,
-        v: SpecVersion,
-        element: &OwnedName,
-        attributes: &List<OwnedAttribute>,
-    ) -> Result<Taken, XmlReadError> {
-        match element.local_name.as_str() {
-            "license" => take_into(alloc, reader, v, element, attributes, &mut self.items),
-            "expression" => take_into(alloc, reader, v, element, attributes, &mut self.items),
+    fn read_child(&mut self, reader: &mut EventReader<'_>, opened: &Start<'_>) -> Reading<Taken> {
+        match opened.element.local_name.as_str() {
+            "license" => take_into(reader, opened, &mut self.items),
+            "expression" => take_into(reader, opened, &mut self.items),
             _ => Ok(Taken::Unknown),
         }
     }
@@ -261,17 +210,11 @@ impl FromXml for Licenses {
 
     ghost at_top = { refl };
 
-    fn read_xml_element(
-        alloc: Global,
-        reader: &mut EventReader<'_>,
-        v: SpecVersion,
-        element: &OwnedName,
-        _attributes: &List<OwnedAttribute>,
-    ) -> Result<Licenses, XmlReadError> {
+    fn read_from(reader: &mut EventReader<'_>, opened: &Start<'_>) -> Reading<Licenses> {
         let begun = Ok(ChoicesPart {
-            items: List::new(alloc),
+            items: List::new(opened.alloc),
         });
-        let part: ChoicesPart = read_record(alloc, reader, v, element, begun)?;
+        let part: ChoicesPart = read_record(reader, opened, begun)?;
         Ok(Licenses(part.items))
     }
 }

@@ -1,13 +1,10 @@
 -- Several machines in a row.
-use Rattle.std.proofs.Common.{◌≡◌, ℕ, zero, suc, ◌-◌, List, [], ◌∷◌, Option, Some, None, Result, Ok, Err, refl, sym, ap, ◌∙◌, subst, arith}
+use Rattle.std.proofs.Common.{◌≡◌, ℕ, zero, suc, ◌-◌, List, [], ◌∷◌, Option, Some, None, refl, ap, ◌∙◌, subst, arith}
 use Rattle.cdx_events.specs.declared.event.XmlEvent.{XmlEvent}
 use Rattle.cdx_models.specs.declared.bom.SpecVersion.{SpecVersion}
-use Rattle.cdx_models.specs.declared.errors.XmlReadError.{XmlReadError}
-use Rattle.cdx_models.specs.Trees.{Tree}
-use Rattle.cdx_events.specs.Nodes.{Node}
 use Rattle.cdx_schema.specs.Depth.{Depth}
-use Rattle.cdx_machine.specs.Begun.{Begun, Next, still, whole}
-use Rattle.cdx_machine.specs.Machines.{Holding, CanStep, Steps}
+use Rattle.cdx_machine.specs.Begun.{Begun}
+use Rattle.cdx_machine.specs.Machines.{Holding, CanStep}
 use Rattle.cdx_machine.specs.Several.{at_position}
 
 pub some_same : {A : Type 0} {x y : A} → Some x ≡ Some y → x ≡ y
@@ -44,27 +41,3 @@ only_is x y (suc i) is = absurd (let wrong : None ≡ Some y = is in cc)
 module _ {M N : Type 0} {holds : Holding M} {holds' : Holding N} where
   pub can_inside : (n w : N) (m : M) (place : ℕ) (event : XmlEvent) → n ≡ w → ((v : SpecVersion) (p : ℕ) (d : Depth) (o : Begun) → holds' w v p d o → holds m v p d o) → CanStep holds' n place event → CanStep holds m place event
   can_inside n w m place event is down h = record { v = h.v; p = h.p; d = h.d; o = h.o; held = down h.v h.p h.d h.o (subst (λ (x : N). holds' x h.v h.p h.d h.o) is h.held); place_is = h.place_is; takes = h.takes }
-
-module _ {X Y : Type 0} (held held' : Begun → Type 0) (view : X → Tree) (view' : Y → Tree) (read : Node → Result Tree XmlReadError) (p : ℕ) (n : Next) (up : (o : Begun) → held o → held' o) where
-  pub steps_more : (r : Option X) → r ≡ None → Steps held view read p n (Ok r) → Steps held' view' read p n (Ok None)
-  steps_more (Some x) is h = absurd (let wrong : Some x ≡ None = is in cc)
-  steps_more None is h = by n h
-    where
-      by : (n : Next) → Steps held view read p n (Ok None) → Steps held' view' read p n (Ok None)
-      by (still o) h = (up o h.0, h.1)
-      by (whole k) h = h
-
-  pub steps_done : (r : Option X) (x : X) (y : Y) → r ≡ Some x → view' y ≡ view x → Steps held view read p n (Ok r) → Steps held' view' read p n (Ok (Some y))
-  steps_done None x y is same h = absurd (let wrong : None ≡ Some x = is in cc)
-  steps_done (Some z) x y is same h = by n h
-    where
-      by : (n : Next) → Steps held view read p n (Ok (Some z)) → Steps held' view' read p n (Ok (Some y))
-      by (still o) h = h
-      by (whole k) h = h ∙ ap (λ t. Ok t) (ap view (some_same is) ∙ sym same)
-
-  pub steps_failed : (e : XmlReadError) → Steps held view read p n (Err e) → Steps held' view' read p n (Err e)
-  steps_failed e h = by n h
-    where
-      by : (n : Next) → Steps held view read p n (Err e) → Steps held' view' read p n (Err e)
-      by (still o) h = h
-      by (whole k) h = h

@@ -3,12 +3,10 @@
 use crate::frames::{NestFrame, NestKind, NestValue};
 use crate::metadata::Metadata;
 use crate::tools::Tools;
-use cdx_events::{EventReader, List, OwnedAttribute, OwnedName};
+use cdx_events::EventReader;
 use cdx_json::Depth;
-use cdx_leaf::FromXml;
-use cdx_models::{SpecVersion, XmlReadError};
+use cdx_leaf::{FromXml, Reading, Start};
 use cdx_nest_machine::read_element;
-use std::alloc::Global;
 
 /// The tools where there is one, and else, in 1.5, the object of the services and components that were read last; before
 /// 1.5 the empty list. Any other element and any text is unexpected at its place, and before 1.5 services and components
@@ -22,16 +20,9 @@ impl FromXml for Tools {
 
     ghost at_top = { refl };
 
-    fn read_xml_element(
-        alloc: Global,
-        reader: &mut EventReader<'_>,
-        v: SpecVersion,
-        element: &OwnedName,
-        attributes: &List<OwnedAttribute>,
-    ) -> Result<Tools, XmlReadError> {
-        let sort = NestKind::Tools;
+    fn read_from(reader: &mut EventReader<'_>, opened: &Start<'_>) -> Reading<Tools> {
         let depth = Depth::top();
-        match read_element::<NestFrame>(alloc, reader, v, sort, depth, element, attributes)? {
+        match read_element::<NestFrame>(reader, opened, NestKind::Tools, depth)? {
             NestValue::Tools(tools) => Ok(tools),
             _ => unreachable!(),
         }
@@ -48,16 +39,9 @@ impl FromXml for Metadata {
 
     ghost at_top = { refl };
 
-    fn read_xml_element(
-        alloc: Global,
-        reader: &mut EventReader<'_>,
-        v: SpecVersion,
-        element: &OwnedName,
-        attributes: &List<OwnedAttribute>,
-    ) -> Result<Metadata, XmlReadError> {
-        let sort = NestKind::Metadata;
+    fn read_from(reader: &mut EventReader<'_>, opened: &Start<'_>) -> Reading<Metadata> {
         let depth = Depth::top();
-        match read_element::<NestFrame>(alloc, reader, v, sort, depth, element, attributes)? {
+        match read_element::<NestFrame>(reader, opened, NestKind::Metadata, depth)? {
             NestValue::Metadata(metadata) => Ok(metadata),
             _ => unreachable!(),
         }

@@ -6,37 +6,30 @@ ghost use Rattle.cdx_leaf.specs.Reading.{IsIn, ReadsAs};
 
 use crate::nested::Nested;
 use crate::stack::StackMachine;
-use cdx_events::{EventReader, List, OwnedAttribute, OwnedName};
+use cdx_events::EventReader;
 use cdx_json::Depth;
-use cdx_leaf::Start;
-use cdx_models::{SpecVersion, XmlReadError};
-use std::alloc::Global;
+use cdx_leaf::{Reading, Start};
 
 /// What the element denotes, as one of the nested kinds, whose start the reader has just taken, inside so many components
 /// and services. A refusal is the fault of the element, too great a depth among them, or want of memory.
 pub fn read_element<F: Nested>(
-    alloc: Global,
     reader: &mut EventReader<'_>,
-    v: SpecVersion,
+    opened: &Start<'_>,
     sort: F::Sort,
     depth: Depth,
-    element: &OwnedName,
-    attributes: &List<OwnedAttribute>,
-) -> Result<F::Value, XmlReadError>
-    requires { IsIn reader.old element.now }
-    ensures reads { ReadsAs F.tree reader.old reader.new element.now attributes.now v
-        (F.as_kind sort) (λ _. depth_of depth) result }
+) -> Reading<F::Value>
+    requires { IsIn reader.old opened.now.element.now }
+    ensures reads { ReadsAs F.tree reader.old reader.new opened.now.element.now
+        opened.now.attributes.now opened.now.version (F.as_kind sort) (λ _. depth_of depth)
+        result }
     ensures sort { IfOk result (λ x. F.value_sort x ≡ sort) }
 {
     let mut machine = StackMachine::<F>::start(
         sort,
         depth,
         &Start {
-            alloc,
             place: reader.place() - 1,
-            version: v,
-            element,
-            attributes,
+            ..*opened
         },
     )?;
     'events: loop {

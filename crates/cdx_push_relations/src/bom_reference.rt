@@ -1,7 +1,7 @@
 //! References to other parts of the bill.
 
 use cdx_events::{OwnedName, Text, XmlEvent};
-use cdx_leaf::{End, Rule, Start, attribute_or_error};
+use cdx_leaf::{End, Rule, Start, required_attribute};
 use cdx_machine::{Found, Frame, FrameMachine, Machine, NoMachine};
 use cdx_models::{SpecVersion, XmlReadError};
 use cdx_relations::BomReference;
@@ -80,13 +80,7 @@ impl Frame for BegunReference {
 
     fn begin(opened: &Start<'_>) -> Result<BegunReference, XmlReadError> {
         Ok(BegunReference {
-            reference: attribute_or_error(
-                opened.alloc,
-                opened.place,
-                opened.element,
-                opened.attributes,
-                "ref",
-            )?,
+            reference: required_attribute(opened, "ref")?,
         })
     }
 

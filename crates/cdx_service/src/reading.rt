@@ -8,28 +8,22 @@ ghost use Rattle.cdx_service.specs.Trees.{service_tree, services_tree};
 
 use crate::frames::{ServiceFrame, ServiceKind, ServiceValue};
 use crate::service::{Service, Services};
-use cdx_events::{EventReader, List, OwnedAttribute, OwnedName};
+use cdx_events::EventReader;
 use cdx_json::Depth;
-use cdx_leaf::FromXml;
-use cdx_models::{SpecVersion, XmlReadError};
+use cdx_leaf::{FromXml, Reading, Start};
 use cdx_nest_machine::read_element;
-use std::alloc::Global;
 
 /// The service that the element is. Inside 32 services it is too deep, at the place of its start and whatever it holds.
 fn read_service_element(
-    alloc: Global,
     reader: &mut EventReader<'_>,
-    v: SpecVersion,
-    element: &OwnedName,
-    attributes: &List<OwnedAttribute>,
+    opened: &Start<'_>,
     depth: Depth,
-) -> Result<Service, XmlReadError>
-    requires { IsIn reader.old element.now }
-    ensures { ReadsAs service_tree reader.old reader.new element.now attributes.now v
-        (a_record service) (λ _. depth_of depth) result }
+) -> Reading<Service>
+    requires { IsIn reader.old opened.now.element.now }
+    ensures { ReadsAs service_tree reader.old reader.new opened.now.element.now
+        opened.now.attributes.now opened.now.version (a_record service) (λ _. depth_of depth) result }
 {
-    let sort = ServiceKind::Service;
-    match read_element::<ServiceFrame>(alloc, reader, v, sort, depth, element, attributes)? {
+    match read_element::<ServiceFrame>(reader, opened, ServiceKind::Service, depth)? {
         ServiceValue::Service(service) => Ok(service),
         ServiceValue::Services(_) => unreachable!(),
     }
@@ -37,19 +31,15 @@ fn read_service_element(
 
 /// The services that the element's children of that name are; other children are skipped, and texts are unexpected.
 fn read_services_element(
-    alloc: Global,
     reader: &mut EventReader<'_>,
-    v: SpecVersion,
-    element: &OwnedName,
-    attributes: &List<OwnedAttribute>,
+    opened: &Start<'_>,
     depth: Depth,
-) -> Result<Services, XmlReadError>
-    requires { IsIn reader.old element.now }
-    ensures { ReadsAs services_tree reader.old reader.new element.now attributes.now v
-        (a_list services) (λ _. depth_of depth) result }
+) -> Reading<Services>
+    requires { IsIn reader.old opened.now.element.now }
+    ensures { ReadsAs services_tree reader.old reader.new opened.now.element.now
+        opened.now.attributes.now opened.now.version (a_list services) (λ _. depth_of depth) result }
 {
-    let sort = ServiceKind::Services;
-    match read_element::<ServiceFrame>(alloc, reader, v, sort, depth, element, attributes)? {
+    match read_element::<ServiceFrame>(reader, opened, ServiceKind::Services, depth)? {
         ServiceValue::Services(services) => Ok(services),
         ServiceValue::Service(_) => unreachable!(),
     }
@@ -65,14 +55,8 @@ impl FromXml for Service {
 
     ghost at_top = { refl };
 
-    fn read_xml_element(
-        alloc: Global,
-        reader: &mut EventReader<'_>,
-        v: SpecVersion,
-        element: &OwnedName,
-        attributes: &List<OwnedAttribute>,
-    ) -> Result<Service, XmlReadError> {
-        read_service_element(alloc, reader, v, element, attributes, Depth::top())
+    fn read_from(reader: &mut EventReader<'_>, opened: &Start<'_>) -> Reading<Service> {
+        read_service_element(reader, opened, Depth::top())
     }
 }
 
@@ -85,13 +69,7 @@ impl FromXml for Services {
 
     ghost at_top = { refl };
 
-    fn read_xml_element(
-        alloc: Global,
-        reader: &mut EventReader<'_>,
-        v: SpecVersion,
-        element: &OwnedName,
-        attributes: &List<OwnedAttribute>,
-    ) -> Result<Services, XmlReadError> {
-        read_services_element(alloc, reader, v, element, attributes, Depth::top())
+    fn read_from(reader: &mut EventReader<'_>, opened: &Start<'_>) -> Reading<Services> {
+        read_services_element(reader, opened, Depth::top())
     }
 }

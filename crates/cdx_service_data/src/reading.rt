@@ -2,13 +2,12 @@
 
 use crate::parts::{DataPart, ServiceDataPart};
 use crate::service::{Data, DataClassification, ServiceData};
-use cdx_events::{EventReader, List, OwnedAttribute, OwnedName, Text};
+use cdx_events::{EventReader, List, Text};
 use cdx_leaf::{
-    Children, End, FromXml, Rule, Start, Taken, TextRecord, XmlRecord, attribute_or_error,
-    attribute_or_none, child_or_error, read_record, read_text_record, take_into, take_one,
+    Children, End, FromXml, Reading, Rule, Start, Taken, TextRecord, XmlRecord, attribute_or_none,
+    child_or_error, read_record, read_text_record, required_attribute, take_into, take_one,
 };
 use cdx_models::{SpecVersion, XmlReadError};
-use std::alloc::Global;
 
 impl TextRecord for DataClassification {
     ghost use Rattle.cdx_models.specs.Trees.{classification};
@@ -27,13 +26,7 @@ impl TextRecord for DataClassification {
     ghost whole = { classification_whole };
 
     fn begin(opened: &Start<'_>) -> Result<Text, XmlReadError> {
-        attribute_or_error(
-            opened.alloc,
-            opened.place,
-            opened.element,
-            opened.attributes,
-            "flow",
-        )
+        required_attribute(opened, "flow")
     }
 
     fn with_text(begun: Text, content: Text) -> DataClassification {
@@ -51,14 +44,8 @@ impl FromXml for DataClassification {
 
     ghost at_top = { refl };
 
-    fn read_xml_element(
-        alloc: Global,
-        reader: &mut EventReader<'_>,
-        v: SpecVersion,
-        element: &OwnedName,
-        attributes: &List<OwnedAttribute>,
-    ) -> Result<DataClassification, XmlReadError> {
-        read_text_record(alloc, reader, v, element, attributes)
+    fn read_from(reader: &mut EventReader<'_>, opened: &Start<'_>) -> Reading<DataClassification> {
+        read_text_record(reader, opened)
     }
 }
 
@@ -77,23 +64,9 @@ impl Children for ServiceDataPart {
         Rule::Lax
     }
 
-    fn read_child(
-        &mut self,
-        alloc: Global,
-        reader: &mut EventReader<'_>,
-        v: SpecVersion,
-        element: &OwnedName,
-        attributes: &List<OwnedAttribute>,
-    ) -> Result<Taken, XmlReadError> {
-        match element.local_name.as_str() {
-            "classification" => take_one(
-                alloc,
-                reader,
-                v,
-                element,
-                attributes,
-                &mut self.classification,
-            ),
+    fn read_child(&mut self, reader: &mut EventReader<'_>, opened: &Start<'_>) -> Reading<Taken> {
+        match opened.element.local_name.as_str() {
+            "classification" => take_one(reader, opened, &mut self.classification),
             _ => Ok(Taken::Unknown),
         }
     }
@@ -108,9 +81,7 @@ impl XmlRecord for ServiceData {
 
     ghost no_content = { content_is service_data };
 
-    ghost by_rows = { λ part. refl };
-
-    ghost same_depth = { λ part. refl };
+    ghost by_rows = { λ part. (refl, refl) };
 
     fn begin(opened: &Start<'_>) -> Result<ServiceDataPart, XmlReadError> {
         Ok(ServiceDataPart {
@@ -121,13 +92,7 @@ impl XmlRecord for ServiceData {
     }
 
     fn finish(closed: &End<'_>, part: ServiceDataPart) -> Result<ServiceData, XmlReadError> {
-        let classification = child_or_error(
-            closed.alloc,
-            closed.place,
-            closed.element,
-            part.classification,
-            "classification",
-        )?;
+        let classification = child_or_error(closed, part.classification, "classification")?;
         Ok(ServiceData {
             name: part.name,
             description: part.description,
@@ -150,28 +115,14 @@ impl Children for DataPart {
         Rule::Passing
     }
 
-    fn read_child(
-        &mut self,
-        alloc: Global,
-        reader: &mut EventReader<'_>,
-        v: SpecVersion,
-        element: &OwnedName,
-        attributes: &List<OwnedAttribute>,
-    ) -> Result<Taken, XmlReadError> {
-        match element.local_name.as_str() {
-            "classification" => take_into(
-                alloc,
-                reader,
-                v,
-                element,
-                attributes,
-                &mut self.classifications,
-            ),
+    fn read_child(&mut self, reader: &mut EventReader<'_>, opened: &Start<'_>) -> Reading<Taken> {
+        match opened.element.local_name.as_str() {
+            "classification" => take_into(reader, opened, &mut self.classifications),
             "dataflow" => {
-                if !SpecVersion::V1_5.is_known_to(v) {
+                if !SpecVersion::V1_5.is_known_to(opened.version) {
                     return Ok(Taken::Unknown);
                 }
-                take_into(alloc, reader, v, element, attributes, &mut self.flows)
+                take_into(reader, opened, &mut self.flows)
             }
             _ => Ok(Taken::Unknown),
         }
@@ -187,18 +138,12 @@ impl FromXml for Data {
 
     ghost at_top = { refl };
 
-    fn read_xml_element(
-        alloc: Global,
-        reader: &mut EventReader<'_>,
-        v: SpecVersion,
-        element: &OwnedName,
-        _attributes: &List<OwnedAttribute>,
-    ) -> Result<Data, XmlReadError> {
+    fn read_from(reader: &mut EventReader<'_>, opened: &Start<'_>) -> Reading<Data> {
         let begun = Ok(DataPart {
-            classifications: List::new(alloc),
-            flows: List::new(alloc),
+            classifications: List::new(opened.alloc),
+            flows: List::new(opened.alloc),
         });
-        let part: DataPart = read_record(alloc, reader, v, element, begun)?;
+        let part: DataPart = read_record(reader, opened, begun)?;
         if part.flows.len() == 0 {
             return Ok(Data::Classification(part.classifications));
         }

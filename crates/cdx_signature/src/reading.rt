@@ -2,13 +2,12 @@
 
 use crate::parts::{SignaturePart, SignerPart};
 use crate::signature::{Algorithm, Signature, Signer};
-use cdx_events::{EventReader, List, OwnedAttribute, OwnedName};
+use cdx_events::EventReader;
 use cdx_leaf::{
-    Children, End, FromXml, Rule, Start, Taken, XmlRecord, child_or_error, read_items, read_record,
-    take_one,
+    Children, End, FromXml, Reading, Rule, Start, Taken, XmlRecord, child_or_error, read_items,
+    read_record, take_one,
 };
-use cdx_models::{SpecVersion, XmlReadError};
-use std::alloc::Global;
+use cdx_models::XmlReadError;
 
 impl Children for SignerPart {
     ghost use Rattle.cdx_models.specs.Trees.{signer};
@@ -25,17 +24,10 @@ impl Children for SignerPart {
         Rule::Strict
     }
 
-    fn read_child(
-        &mut self,
-        alloc: Global,
-        reader: &mut EventReader<'_>,
-        v: SpecVersion,
-        element: &OwnedName,
-        attributes: &List<OwnedAttribute>,
-    ) -> Result<Taken, XmlReadError> {
-        match element.local_name.as_str() {
-            "algorithm" => take_one(alloc, reader, v, element, attributes, &mut self.algorithm),
-            "value" => take_one(alloc, reader, v, element, attributes, &mut self.value),
+    fn read_child(&mut self, reader: &mut EventReader<'_>, opened: &Start<'_>) -> Reading<Taken> {
+        match opened.element.local_name.as_str() {
+            "algorithm" => take_one(reader, opened, &mut self.algorithm),
+            "value" => take_one(reader, opened, &mut self.value),
             _ => Ok(Taken::Unknown),
         }
     }
@@ -50,9 +42,7 @@ impl XmlRecord for Signer {
 
     ghost no_content = { content_is signer };
 
-    ghost by_rows = { λ part. refl };
-
-    ghost same_depth = { λ part. refl };
+    ghost by_rows = { λ part. (refl, refl) };
 
     fn begin(_opened: &Start<'_>) -> Result<SignerPart, XmlReadError> {
         Ok(SignerPart {
@@ -62,20 +52,8 @@ impl XmlRecord for Signer {
     }
 
     fn finish(closed: &End<'_>, part: SignerPart) -> Result<Signer, XmlReadError> {
-        let algorithm = child_or_error(
-            closed.alloc,
-            closed.place,
-            closed.element,
-            part.algorithm,
-            "algorithm",
-        )?;
-        let value = child_or_error(
-            closed.alloc,
-            closed.place,
-            closed.element,
-            part.value,
-            "value",
-        )?;
+        let algorithm = child_or_error(closed, part.algorithm, "algorithm")?;
+        let value = child_or_error(closed, part.value, "value")?;
         Ok(Signer {
             algorithm: Algorithm::new_unchecked(closed.alloc, algorithm.as_str())?,
             value,
@@ -97,41 +75,20 @@ impl Children for SignaturePart {
         Rule::Strict
     }
 
-    fn read_child(
-        &mut self,
-        alloc: Global,
-        reader: &mut EventReader<'_>,
-        v: SpecVersion,
-        element: &OwnedName,
-        attributes: &List<OwnedAttribute>,
-    ) -> Result<Taken, XmlReadError> {
-        match element.local_name.as_str() {
+    fn read_child(&mut self, reader: &mut EventReader<'_>, opened: &Start<'_>) -> Reading<Taken> {
+        match opened.element.local_name.as_str() {
             "signers" => {
-                let signers = read_items(alloc, reader, v, element, "signer", Rule::Strict)?;
+                let signers = read_items(reader, opened, "signer", Rule::Strict)?;
                 self.list = Some(Signature::Signers(signers));
                 Ok(Taken::Read)
             }
             "chain" => {
-                let chain = read_items(alloc, reader, v, element, "chain", Rule::Strict)?;
+                let chain = read_items(reader, opened, "chain", Rule::Strict)?;
                 self.list = Some(Signature::Chain(chain));
                 Ok(Taken::Read)
             }
-            "algorithm" => take_one(
-                alloc,
-                reader,
-                v,
-                element,
-                attributes,
-                &mut self.signer.algorithm,
-            ),
-            "value" => take_one(
-                alloc,
-                reader,
-                v,
-                element,
-                attributes,
-                &mut self.signer.value,
-            ),
+            "algorithm" => take_one(reader, opened, &mut self.signer.algorithm),
+            "value" => take_one(reader, opened, &mut self.signer.value),
             _ => Ok(Taken::Unknown),
         }
     }
@@ -145,13 +102,7 @@ impl FromXml for Signature {
 
     ghost at_top = { refl };
 
-    fn read_xml_element(
-        alloc: Global,
-        reader: &mut EventReader<'_>,
-        v: SpecVersion,
-        element: &OwnedName,
-        _attributes: &List<OwnedAttribute>,
-    ) -> Result<Signature, XmlReadError> {
+    fn read_from(reader: &mut EventReader<'_>, opened: &Start<'_>) -> Reading<Signature> {
         let begun = Ok(SignaturePart {
             list: None,
             signer: SignerPart {
@@ -159,17 +110,17 @@ impl FromXml for Signature {
                 value: None,
             },
         });
-        let part: SignaturePart = read_record(alloc, reader, v, element, begun)?;
+        let part: SignaturePart = read_record(reader, opened, begun)?;
         let SignaturePart { list, signer } = part;
         match list {
             Some(list) => Ok(list),
             None => {
                 let single = Signer::finish(
                     &End {
-                        alloc,
+                        alloc: opened.alloc,
                         place: reader.place() - 1,
-                        version: v,
-                        element,
+                        version: opened.version,
+                        element: opened.element,
                     },
                     signer,
                 )?;

@@ -16,7 +16,7 @@ use crate::component::parts::{Contents, Marks, Origin};
 use crate::reading::parts::{ComponentPart, NamingPart, PedigreePart};
 use cdx_component_parts::MimeType;
 use cdx_events::Text;
-use cdx_leaf::{Start, attribute_or_error, attribute_or_none};
+use cdx_leaf::{Start, attribute_or_none, required_attribute};
 use cdx_models::XmlReadError;
 
 fn mime_type_of(held: Option<Text>) -> Option<MimeType>
@@ -34,13 +34,7 @@ fn begin_origin(opened: &Start<'_>) -> Result<Origin, XmlReadError>
         (attributes_read (group 0 component) opened.now.attributes.now v
         opened.now.element.now.local_name opened.now.place) result }
 {
-    let component_type = attribute_or_error(
-        opened.alloc,
-        opened.place,
-        opened.element,
-        opened.attributes,
-        "type",
-    )?;
+    let component_type = required_attribute(opened, "type")?;
     let mime_type = attribute_or_none(opened.alloc, opened.attributes, "mime-type")?;
     let bom_ref = attribute_or_none(opened.alloc, opened.attributes, "bom-ref")?;
     Ok(Origin {

@@ -11,84 +11,50 @@ ghost use Rattle.cdx_component.specs.declared.frames.ComponentKind.TheVariants a
 
 use crate::component::{Component, Components, Pedigree};
 use crate::frames::{ComponentFrame, ComponentKind, ComponentValue};
-use cdx_events::{EventReader, List, OwnedAttribute, OwnedName};
+use cdx_events::EventReader;
 use cdx_json::Depth;
-use cdx_models::{SpecVersion, XmlReadError};
+use cdx_leaf::{Reading, Start};
 use cdx_nest_machine::read_element;
-use std::alloc::Global;
 
 /// The component that the element is. One inside 32 components is `TooDeep` at its start, before anything else.
 pub(crate) fn read_component_element(
-    alloc: Global,
     reader: &mut EventReader<'_>,
-    v: SpecVersion,
-    element: &OwnedName,
-    attributes: &List<OwnedAttribute>,
+    opened: &Start<'_>,
     depth: Depth,
-) -> Result<Component, XmlReadError>
-    requires { IsIn reader.old element.now }
-    ensures { ReadsAs component_tree reader.old reader.new element.now attributes.now v
-        (a_record component) (λ _. depth_of depth) result }
+) -> Reading<Component>
+    requires { IsIn reader.old opened.now.element.now }
+    ensures { ReadsAs component_tree reader.old reader.new opened.now.element.now
+        opened.now.attributes.now opened.now.version (a_record component) (λ _. depth_of depth) result }
 {
-    let value = read_element::<ComponentFrame>(
-        alloc,
-        reader,
-        v,
-        ComponentKind::Component,
-        depth,
-        element,
-        attributes,
-    )?;
+    let value = read_element::<ComponentFrame>(reader, opened, ComponentKind::Component, depth)?;
     Ok(component_of(value))
 }
 
 /// The pedigree that the element is.
 pub(crate) fn read_pedigree_element(
-    alloc: Global,
     reader: &mut EventReader<'_>,
-    v: SpecVersion,
-    element: &OwnedName,
-    attributes: &List<OwnedAttribute>,
+    opened: &Start<'_>,
     depth: Depth,
-) -> Result<Pedigree, XmlReadError>
-    requires { IsIn reader.old element.now }
-    ensures { ReadsAs pedigree_tree reader.old reader.new element.now attributes.now v
-        (a_record pedigree) (λ _. depth_of depth) result }
+) -> Reading<Pedigree>
+    requires { IsIn reader.old opened.now.element.now }
+    ensures { ReadsAs pedigree_tree reader.old reader.new opened.now.element.now
+        opened.now.attributes.now opened.now.version (a_record pedigree) (λ _. depth_of depth) result }
 {
-    let value = read_element::<ComponentFrame>(
-        alloc,
-        reader,
-        v,
-        ComponentKind::Pedigree,
-        depth,
-        element,
-        attributes,
-    )?;
+    let value = read_element::<ComponentFrame>(reader, opened, ComponentKind::Pedigree, depth)?;
     Ok(pedigree_of(value))
 }
 
 /// The components that the element lists.
 pub(crate) fn read_components_element(
-    alloc: Global,
     reader: &mut EventReader<'_>,
-    v: SpecVersion,
-    element: &OwnedName,
-    attributes: &List<OwnedAttribute>,
+    opened: &Start<'_>,
     depth: Depth,
-) -> Result<Components, XmlReadError>
-    requires { IsIn reader.old element.now }
-    ensures { ReadsAs components_tree reader.old reader.new element.now attributes.now v
-        (a_list components) (λ _. depth_of depth) result }
+) -> Reading<Components>
+    requires { IsIn reader.old opened.now.element.now }
+    ensures { ReadsAs components_tree reader.old reader.new opened.now.element.now
+        opened.now.attributes.now opened.now.version (a_list components) (λ _. depth_of depth) result }
 {
-    let value = read_element::<ComponentFrame>(
-        alloc,
-        reader,
-        v,
-        ComponentKind::Components,
-        depth,
-        element,
-        attributes,
-    )?;
+    let value = read_element::<ComponentFrame>(reader, opened, ComponentKind::Components, depth)?;
     Ok(components_of(value))
 }
 

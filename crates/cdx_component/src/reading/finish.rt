@@ -30,13 +30,7 @@ fn first_child_or_error(
         closed.now.element.now.local_name expected.now)) result }
 {
     match closed.version {
-        SpecVersion::V1_3 => Ok(Some(child_or_error(
-            closed.alloc,
-            closed.place,
-            closed.element,
-            child,
-            expected,
-        )?)),
+        SpecVersion::V1_3 => Ok(Some(child_or_error(closed, child, expected)?)),
         SpecVersion::V1_4 => Ok(child),
         SpecVersion::V1_5 => Ok(child),
     }
@@ -49,13 +43,7 @@ fn finish_naming(closed: &End<'_>, part: NamingPart) -> Result<Naming, XmlReadEr
         (ended (group 1 component) (naming_part part) closed.now.version
         closed.now.element.now.local_name closed.now.place) result }
 {
-    let name = child_or_error(
-        closed.alloc,
-        closed.place,
-        closed.element,
-        part.name,
-        "name",
-    )?;
+    let name = child_or_error(closed, part.name, "name")?;
     let version = first_child_or_error(closed, part.version, "version")?;
     Ok(Naming {
         group: part.group,

@@ -7,11 +7,11 @@ ghost use Rattle.cdx_leaf.specs.Parts.{attached_start};
 
 use crate::attribute::last_attribute;
 use crate::content::read_exact_content;
+use crate::error::Reading;
 use crate::from_xml::FromXml;
 use crate::start::Start;
-use cdx_events::{EventReader, List, OwnedAttribute, OwnedName, Text};
-use cdx_models::{AttachedText, SpecVersion, XmlReadError};
-use std::alloc::Global;
+use cdx_events::{EventReader, Text};
+use cdx_models::{AttachedText, XmlReadError};
 
 /// What the attributes of an attached text give, its content type and its encoding. Here the last attribute of a local name
 /// counts.
@@ -32,21 +32,12 @@ impl FromXml for AttachedText {
 
     ghost at_top = { refl };
 
-    fn read_xml_element(
-        alloc: Global,
-        reader: &mut EventReader<'_>,
-        version: SpecVersion,
-        element: &OwnedName,
-        attributes: &List<OwnedAttribute>,
-    ) -> Result<AttachedText, XmlReadError> {
+    fn read_from(reader: &mut EventReader<'_>, opened: &Start<'_>) -> Reading<AttachedText> {
         let begun = begin_attached_text(&Start {
-            alloc,
             place: reader.place() - 1,
-            version,
-            element,
-            attributes,
+            ..*opened
         });
-        let (start, content) = read_exact_content(alloc, reader, element, begun)?;
+        let (start, content) = read_exact_content(reader, opened, begun)?;
         Ok(AttachedText {
             content_type: start.0,
             encoding: start.1,

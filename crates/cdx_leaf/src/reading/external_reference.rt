@@ -1,18 +1,18 @@
 //! References to what stands outside the bill.
 
-use crate::attribute::{attribute_or_error, child_or_error};
+use crate::attribute::{child_or_error, required_attribute};
 use crate::children::Children;
+use crate::error::Reading;
 use crate::from_xml::FromXml;
-use crate::lists::read_list_tag;
+use crate::lists::read_items;
 use crate::reading::parts::ReferencePart;
 use crate::record::XmlRecord;
 use crate::rule::Rule;
 use crate::start::{End, Start};
 use crate::take::take_one;
 use crate::taken::Taken;
-use cdx_events::{EventReader, List, OwnedAttribute, OwnedName};
-use cdx_models::{ExternalReference, ExternalReferences, SpecVersion, Uri, XmlReadError};
-use std::alloc::Global;
+use cdx_events::EventReader;
+use cdx_models::{ExternalReference, ExternalReferences, Uri, XmlReadError};
 
 impl Children for ReferencePart {
     ghost use Rattle.cdx_models.specs.Trees.{reference};
@@ -29,32 +29,11 @@ impl Children for ReferencePart {
         Rule::Strict
     }
 
-    fn read_child(
-        &mut self,
-        alloc: Global,
-        reader: &mut EventReader<'_>,
-        version: SpecVersion,
-        element: &OwnedName,
-        attributes: &List<OwnedAttribute>,
-    ) -> Result<Taken, XmlReadError> {
-        match element.local_name.as_str() {
-            "url" => take_one(alloc, reader, version, element, attributes, &mut self.url),
-            "comment" => take_one(
-                alloc,
-                reader,
-                version,
-                element,
-                attributes,
-                &mut self.comment,
-            ),
-            "hashes" => take_one(
-                alloc,
-                reader,
-                version,
-                element,
-                attributes,
-                &mut self.hashes,
-            ),
+    fn read_child(&mut self, reader: &mut EventReader<'_>, opened: &Start<'_>) -> Reading<Taken> {
+        match opened.element.local_name.as_str() {
+            "url" => take_one(reader, opened, &mut self.url),
+            "comment" => take_one(reader, opened, &mut self.comment),
+            "hashes" => take_one(reader, opened, &mut self.hashes),
             _ => Ok(Taken::Unknown),
         }
     }
@@ -69,19 +48,11 @@ impl XmlRecord for ExternalReference {
 
     ghost no_content = { content_is reference };
 
-    ghost by_rows = { λ part. refl };
-
-    ghost same_depth = { λ part. refl };
+    ghost by_rows = { λ part. (refl, refl) };
 
     fn begin(opened: &Start<'_>) -> Result<ReferencePart, XmlReadError> {
         Ok(ReferencePart {
-            external_reference_type: attribute_or_error(
-                opened.alloc,
-                opened.place,
-                opened.element,
-                opened.attributes,
-                "type",
-            )?,
+            external_reference_type: required_attribute(opened, "type")?,
             url: None,
             comment: None,
             hashes: None,
@@ -89,7 +60,7 @@ impl XmlRecord for ExternalReference {
     }
 
     fn finish(closed: &End<'_>, part: ReferencePart) -> Result<ExternalReference, XmlReadError> {
-        let url = child_or_error(closed.alloc, closed.place, closed.element, part.url, "url")?;
+        let url = child_or_error(closed, part.url, "url")?;
         Ok(ExternalReference {
             external_reference_type: part.external_reference_type,
             url: Uri::from_text(url),
@@ -106,13 +77,7 @@ impl FromXml for ExternalReferences {
 
     ghost at_top = { refl };
 
-    fn read_xml_element(
-        alloc: Global,
-        reader: &mut EventReader<'_>,
-        version: SpecVersion,
-        element: &OwnedName,
-        _attributes: &List<OwnedAttribute>,
-    ) -> Result<ExternalReferences, XmlReadError> {
-        Ok(ExternalReferences(read_list_tag(alloc, reader, version, element, "reference")?))
+    fn read_from(reader: &mut EventReader<'_>, opened: &Start<'_>) -> Reading<ExternalReferences> {
+        Ok(ExternalReferences(read_items(reader, opened, "reference", Rule::Strict)?))
     }
 }

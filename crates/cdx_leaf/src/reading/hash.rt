@@ -1,13 +1,14 @@
 //! Hashes of files.
 
-use crate::attribute::attribute_or_error;
+use crate::attribute::required_attribute;
+use crate::error::Reading;
 use crate::from_xml::FromXml;
-use crate::lists::read_list_tag;
+use crate::lists::read_items;
 use crate::record::{TextRecord, read_text_record};
+use crate::rule::Rule;
 use crate::start::Start;
-use cdx_events::{EventReader, List, OwnedAttribute, OwnedName, Text};
-use cdx_models::{Hash, HashValue, Hashes, SpecVersion, XmlReadError};
-use std::alloc::Global;
+use cdx_events::{EventReader, Text};
+use cdx_models::{Hash, HashValue, Hashes, XmlReadError};
 
 impl TextRecord for Hash {
     ghost use Rattle.cdx_models.specs.Trees.{hash};
@@ -26,13 +27,7 @@ impl TextRecord for Hash {
     ghost whole = { hash_whole };
 
     fn begin(opened: &Start<'_>) -> Result<Text, XmlReadError> {
-        attribute_or_error(
-            opened.alloc,
-            opened.place,
-            opened.element,
-            opened.attributes,
-            "alg",
-        )
+        required_attribute(opened, "alg")
     }
 
     fn with_text(begun: Text, content: Text) -> Hash {
@@ -50,14 +45,8 @@ impl FromXml for Hash {
 
     ghost at_top = { refl };
 
-    fn read_xml_element(
-        alloc: Global,
-        reader: &mut EventReader<'_>,
-        version: SpecVersion,
-        element: &OwnedName,
-        attributes: &List<OwnedAttribute>,
-    ) -> Result<Hash, XmlReadError> {
-        read_text_record(alloc, reader, version, element, attributes)
+    fn read_from(reader: &mut EventReader<'_>, opened: &Start<'_>) -> Reading<Hash> {
+        read_text_record(reader, opened)
     }
 }
 
@@ -68,13 +57,7 @@ impl FromXml for Hashes {
 
     ghost at_top = { refl };
 
-    fn read_xml_element(
-        alloc: Global,
-        reader: &mut EventReader<'_>,
-        version: SpecVersion,
-        element: &OwnedName,
-        _attributes: &List<OwnedAttribute>,
-    ) -> Result<Hashes, XmlReadError> {
-        Ok(Hashes(read_list_tag(alloc, reader, version, element, "hash")?))
+    fn read_from(reader: &mut EventReader<'_>, opened: &Start<'_>) -> Reading<Hashes> {
+        Ok(Hashes(read_items(reader, opened, "hash", Rule::Strict)?))
     }
 }

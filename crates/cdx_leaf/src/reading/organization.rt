@@ -2,15 +2,14 @@
 
 use crate::attribute::attribute_or_none;
 use crate::children::Children;
-use crate::from_xml::FromXml;
+use crate::error::Reading;
 use crate::record::XmlRecord;
 use crate::rule::Rule;
 use crate::start::{End, Start};
 use crate::take::{take_more, take_one};
 use crate::taken::Taken;
-use cdx_events::{EventReader, List, OwnedAttribute, OwnedName};
-use cdx_models::{OrganizationalContact, OrganizationalEntity, SpecVersion, XmlReadError};
-use std::alloc::Global;
+use cdx_events::EventReader;
+use cdx_models::{OrganizationalContact, OrganizationalEntity, XmlReadError};
 
 impl Children for OrganizationalContact {
     ghost use Rattle.cdx_models.specs.Trees.{contact};
@@ -27,18 +26,11 @@ impl Children for OrganizationalContact {
         Rule::Lax
     }
 
-    fn read_child(
-        &mut self,
-        alloc: Global,
-        reader: &mut EventReader<'_>,
-        version: SpecVersion,
-        element: &OwnedName,
-        attributes: &List<OwnedAttribute>,
-    ) -> Result<Taken, XmlReadError> {
-        match element.local_name.as_str() {
-            "name" => take_one(alloc, reader, version, element, attributes, &mut self.name),
-            "email" => take_one(alloc, reader, version, element, attributes, &mut self.email),
-            "phone" => take_one(alloc, reader, version, element, attributes, &mut self.phone),
+    fn read_child(&mut self, reader: &mut EventReader<'_>, opened: &Start<'_>) -> Reading<Taken> {
+        match opened.element.local_name.as_str() {
+            "name" => take_one(reader, opened, &mut self.name),
+            "email" => take_one(reader, opened, &mut self.email),
+            "phone" => take_one(reader, opened, &mut self.phone),
             _ => Ok(Taken::Unknown),
         }
     }
@@ -53,9 +45,7 @@ impl XmlRecord for OrganizationalContact {
 
     ghost no_content = { content_is contact };
 
-    ghost by_rows = { λ part. refl };
-
-    ghost same_depth = { λ part. refl };
+    ghost by_rows = { λ part. (refl, refl) };
 
     fn begin(opened: &Start<'_>) -> Result<OrganizationalContact, XmlReadError> {
         Ok(OrganizationalContact {
@@ -89,25 +79,11 @@ impl Children for OrganizationalEntity {
         Rule::Lax
     }
 
-    fn read_child(
-        &mut self,
-        alloc: Global,
-        reader: &mut EventReader<'_>,
-        version: SpecVersion,
-        element: &OwnedName,
-        attributes: &List<OwnedAttribute>,
-    ) -> Result<Taken, XmlReadError> {
-        match element.local_name.as_str() {
-            "name" => take_one(alloc, reader, version, element, attributes, &mut self.name),
-            "url" => take_more(alloc, reader, version, element, attributes, &mut self.url),
-            "contact" => take_more(
-                alloc,
-                reader,
-                version,
-                element,
-                attributes,
-                &mut self.contact,
-            ),
+    fn read_child(&mut self, reader: &mut EventReader<'_>, opened: &Start<'_>) -> Reading<Taken> {
+        match opened.element.local_name.as_str() {
+            "name" => take_one(reader, opened, &mut self.name),
+            "url" => take_more(reader, opened, &mut self.url),
+            "contact" => take_more(reader, opened, &mut self.contact),
             _ => Ok(Taken::Unknown),
         }
     }
@@ -122,9 +98,7 @@ impl XmlRecord for OrganizationalEntity {
 
     ghost no_content = { content_is entity };
 
-    ghost by_rows = { λ part. refl };
-
-    ghost same_depth = { λ part. refl };
+    ghost by_rows = { λ part. (refl, refl) };
 
     fn begin(opened: &Start<'_>) -> Result<OrganizationalEntity, XmlReadError> {
         Ok(OrganizationalEntity {

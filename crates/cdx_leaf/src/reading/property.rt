@@ -1,13 +1,14 @@
 //! Properties: names with values.
 
-use crate::attribute::attribute_or_error;
+use crate::attribute::required_attribute;
+use crate::error::Reading;
 use crate::from_xml::FromXml;
-use crate::lists::read_lax_validation_list_tag;
+use crate::lists::read_items;
 use crate::record::{TextRecord, read_text_record};
+use crate::rule::Rule;
 use crate::start::Start;
-use cdx_events::{EventReader, List, OwnedAttribute, OwnedName, Text};
-use cdx_models::{Properties, Property, SpecVersion, XmlReadError};
-use std::alloc::Global;
+use cdx_events::{EventReader, Text};
+use cdx_models::{Properties, Property, XmlReadError};
 
 impl TextRecord for Property {
     ghost use Rattle.cdx_models.specs.Trees.{property};
@@ -26,13 +27,7 @@ impl TextRecord for Property {
     ghost whole = { property_whole };
 
     fn begin(opened: &Start<'_>) -> Result<Text, XmlReadError> {
-        attribute_or_error(
-            opened.alloc,
-            opened.place,
-            opened.element,
-            opened.attributes,
-            "name",
-        )
+        required_attribute(opened, "name")
     }
 
     fn with_text(begun: Text, content: Text) -> Property {
@@ -50,14 +45,8 @@ impl FromXml for Property {
 
     ghost at_top = { refl };
 
-    fn read_xml_element(
-        alloc: Global,
-        reader: &mut EventReader<'_>,
-        version: SpecVersion,
-        element: &OwnedName,
-        attributes: &List<OwnedAttribute>,
-    ) -> Result<Property, XmlReadError> {
-        read_text_record(alloc, reader, version, element, attributes)
+    fn read_from(reader: &mut EventReader<'_>, opened: &Start<'_>) -> Reading<Property> {
+        read_text_record(reader, opened)
     }
 }
 
@@ -68,13 +57,7 @@ impl FromXml for Properties {
 
     ghost at_top = { refl };
 
-    fn read_xml_element(
-        alloc: Global,
-        reader: &mut EventReader<'_>,
-        version: SpecVersion,
-        element: &OwnedName,
-        _attributes: &List<OwnedAttribute>,
-    ) -> Result<Properties, XmlReadError> {
-        Ok(Properties(read_lax_validation_list_tag(alloc, reader, version, element, "property")?))
+    fn read_from(reader: &mut EventReader<'_>, opened: &Start<'_>) -> Reading<Properties> {
+        Ok(Properties(read_items(reader, opened, "property", Rule::Lax)?))
     }
 }

@@ -1,15 +1,14 @@
 //! Tools that made a bill.
 
 use crate::children::Children;
-use crate::from_xml::FromXml;
+use crate::error::Reading;
 use crate::record::XmlRecord;
 use crate::rule::Rule;
 use crate::start::{End, Start};
 use crate::take::take_one;
 use crate::taken::Taken;
-use cdx_events::{EventReader, List, OwnedAttribute, OwnedName};
+use cdx_events::EventReader;
 use cdx_models::{SpecVersion, Tool, XmlReadError};
-use std::alloc::Global;
 
 impl Children for Tool {
     ghost use Rattle.cdx_models.specs.Trees.{tool};
@@ -26,52 +25,17 @@ impl Children for Tool {
         Rule::Lax
     }
 
-    fn read_child(
-        &mut self,
-        alloc: Global,
-        reader: &mut EventReader<'_>,
-        version: SpecVersion,
-        element: &OwnedName,
-        attributes: &List<OwnedAttribute>,
-    ) -> Result<Taken, XmlReadError> {
-        match element.local_name.as_str() {
-            "vendor" => take_one(
-                alloc,
-                reader,
-                version,
-                element,
-                attributes,
-                &mut self.vendor,
-            ),
-            "name" => take_one(alloc, reader, version, element, attributes, &mut self.name),
-            "version" => take_one(
-                alloc,
-                reader,
-                version,
-                element,
-                attributes,
-                &mut self.version,
-            ),
-            "hashes" => take_one(
-                alloc,
-                reader,
-                version,
-                element,
-                attributes,
-                &mut self.hashes,
-            ),
+    fn read_child(&mut self, reader: &mut EventReader<'_>, opened: &Start<'_>) -> Reading<Taken> {
+        match opened.element.local_name.as_str() {
+            "vendor" => take_one(reader, opened, &mut self.vendor),
+            "name" => take_one(reader, opened, &mut self.name),
+            "version" => take_one(reader, opened, &mut self.version),
+            "hashes" => take_one(reader, opened, &mut self.hashes),
             "externalReferences" => {
-                if !SpecVersion::V1_4.is_known_to(version) {
+                if !SpecVersion::V1_4.is_known_to(opened.version) {
                     return Ok(Taken::Unknown);
                 }
-                take_one(
-                    alloc,
-                    reader,
-                    version,
-                    element,
-                    attributes,
-                    &mut self.external_references,
-                )
+                take_one(reader, opened, &mut self.external_references)
             }
             _ => Ok(Taken::Unknown),
         }
@@ -87,9 +51,7 @@ impl XmlRecord for Tool {
 
     ghost no_content = { content_is tool };
 
-    ghost by_rows = { λ part. refl };
-
-    ghost same_depth = { λ part. refl };
+    ghost by_rows = { λ part. (refl, refl) };
 
     fn begin(_opened: &Start<'_>) -> Result<Tool, XmlReadError> {
         Ok(Tool {

@@ -1,12 +1,11 @@
 //! Issues read from XML.
 
 use crate::{Issue, Source};
-use cdx_events::{EventReader, List, OwnedAttribute, OwnedName};
+use cdx_events::EventReader;
 use cdx_leaf::{
-    Children, End, Rule, Start, Taken, XmlRecord, attribute_or_error, take_list, take_one,
+    Children, End, Reading, Rule, Start, Taken, XmlRecord, required_attribute, take_list, take_one,
 };
-use cdx_models::{SpecVersion, XmlReadError};
-use std::alloc::Global;
+use cdx_models::XmlReadError;
 
 impl Children for Source {
     ghost use Rattle.cdx_models.specs.Trees.{source};
@@ -23,17 +22,10 @@ impl Children for Source {
         Rule::Strict
     }
 
-    fn read_child(
-        &mut self,
-        alloc: Global,
-        reader: &mut EventReader<'_>,
-        v: SpecVersion,
-        element: &OwnedName,
-        attributes: &List<OwnedAttribute>,
-    ) -> Result<Taken, XmlReadError> {
-        match element.local_name.as_str() {
-            "name" => take_one(alloc, reader, v, element, attributes, &mut self.name),
-            "url" => take_one(alloc, reader, v, element, attributes, &mut self.url),
+    fn read_child(&mut self, reader: &mut EventReader<'_>, opened: &Start<'_>) -> Reading<Taken> {
+        match opened.element.local_name.as_str() {
+            "name" => take_one(reader, opened, &mut self.name),
+            "url" => take_one(reader, opened, &mut self.url),
             _ => Ok(Taken::Unknown),
         }
     }
@@ -48,9 +40,7 @@ impl XmlRecord for Source {
 
     ghost no_content = { content_is source };
 
-    ghost by_rows = { λ part. refl };
-
-    ghost same_depth = { λ part. refl };
+    ghost by_rows = { λ part. (refl, refl) };
 
     fn begin(_opened: &Start<'_>) -> Result<Source, XmlReadError> {
         Ok(Source {
@@ -79,28 +69,13 @@ impl Children for Issue {
         Rule::Lax
     }
 
-    fn read_child(
-        &mut self,
-        alloc: Global,
-        reader: &mut EventReader<'_>,
-        v: SpecVersion,
-        element: &OwnedName,
-        attributes: &List<OwnedAttribute>,
-    ) -> Result<Taken, XmlReadError> {
-        match element.local_name.as_str() {
-            "id" => take_one(alloc, reader, v, element, attributes, &mut self.id),
-            "name" => take_one(alloc, reader, v, element, attributes, &mut self.name),
-            "description" => take_one(alloc, reader, v, element, attributes, &mut self.description),
-            "source" => take_one(alloc, reader, v, element, attributes, &mut self.source),
-            "references" => take_list(
-                alloc,
-                reader,
-                v,
-                element,
-                "url",
-                Rule::Strict,
-                &mut self.references,
-            ),
+    fn read_child(&mut self, reader: &mut EventReader<'_>, opened: &Start<'_>) -> Reading<Taken> {
+        match opened.element.local_name.as_str() {
+            "id" => take_one(reader, opened, &mut self.id),
+            "name" => take_one(reader, opened, &mut self.name),
+            "description" => take_one(reader, opened, &mut self.description),
+            "source" => take_one(reader, opened, &mut self.source),
+            "references" => take_list(reader, opened, "url", Rule::Strict, &mut self.references),
             _ => Ok(Taken::Unknown),
         }
     }
@@ -115,19 +90,11 @@ impl XmlRecord for Issue {
 
     ghost no_content = { content_is issue };
 
-    ghost by_rows = { λ part. refl };
-
-    ghost same_depth = { λ part. refl };
+    ghost by_rows = { λ part. (refl, refl) };
 
     fn begin(opened: &Start<'_>) -> Result<Issue, XmlReadError> {
         Ok(Issue {
-            issue_type: attribute_or_error(
-                opened.alloc,
-                opened.place,
-                opened.element,
-                opened.attributes,
-                "type",
-            )?,
+            issue_type: required_attribute(opened, "type")?,
             id: None,
             name: None,
             description: None,

@@ -1,13 +1,12 @@
 //! Patches read from XML.
 
 use crate::{Diff, Patch, Patches};
-use cdx_events::{EventReader, List, OwnedAttribute, OwnedName};
+use cdx_events::EventReader;
 use cdx_leaf::{
-    Children, End, FromXml, Rule, Start, Taken, XmlRecord, attribute_or_error,
-    read_lax_validation_list_tag, take_list, take_one,
+    Children, End, FromXml, Reading, Rule, Start, Taken, XmlRecord, read_items, required_attribute,
+    take_list, take_one,
 };
-use cdx_models::{SpecVersion, XmlReadError};
-use std::alloc::Global;
+use cdx_models::XmlReadError;
 
 impl Children for Diff {
     ghost use Rattle.cdx_models.specs.Trees.{diff};
@@ -24,17 +23,10 @@ impl Children for Diff {
         Rule::Lax
     }
 
-    fn read_child(
-        &mut self,
-        alloc: Global,
-        reader: &mut EventReader<'_>,
-        v: SpecVersion,
-        element: &OwnedName,
-        attributes: &List<OwnedAttribute>,
-    ) -> Result<Taken, XmlReadError> {
-        match element.local_name.as_str() {
-            "text" => take_one(alloc, reader, v, element, attributes, &mut self.text),
-            "url" => take_one(alloc, reader, v, element, attributes, &mut self.url),
+    fn read_child(&mut self, reader: &mut EventReader<'_>, opened: &Start<'_>) -> Reading<Taken> {
+        match opened.element.local_name.as_str() {
+            "text" => take_one(reader, opened, &mut self.text),
+            "url" => take_one(reader, opened, &mut self.url),
             _ => Ok(Taken::Unknown),
         }
     }
@@ -49,9 +41,7 @@ impl XmlRecord for Diff {
 
     ghost no_content = { content_is diff };
 
-    ghost by_rows = { λ part. refl };
-
-    ghost same_depth = { λ part. refl };
+    ghost by_rows = { λ part. (refl, refl) };
 
     fn begin(_opened: &Start<'_>) -> Result<Diff, XmlReadError> {
         Ok(Diff {
@@ -80,25 +70,10 @@ impl Children for Patch {
         Rule::Lax
     }
 
-    fn read_child(
-        &mut self,
-        alloc: Global,
-        reader: &mut EventReader<'_>,
-        v: SpecVersion,
-        element: &OwnedName,
-        attributes: &List<OwnedAttribute>,
-    ) -> Result<Taken, XmlReadError> {
-        match element.local_name.as_str() {
-            "diff" => take_one(alloc, reader, v, element, attributes, &mut self.diff),
-            "resolves" => take_list(
-                alloc,
-                reader,
-                v,
-                element,
-                "issue",
-                Rule::Strict,
-                &mut self.resolves,
-            ),
+    fn read_child(&mut self, reader: &mut EventReader<'_>, opened: &Start<'_>) -> Reading<Taken> {
+        match opened.element.local_name.as_str() {
+            "diff" => take_one(reader, opened, &mut self.diff),
+            "resolves" => take_list(reader, opened, "issue", Rule::Strict, &mut self.resolves),
             _ => Ok(Taken::Unknown),
         }
     }
@@ -113,19 +88,11 @@ impl XmlRecord for Patch {
 
     ghost no_content = { content_is patch };
 
-    ghost by_rows = { λ part. refl };
-
-    ghost same_depth = { λ part. refl };
+    ghost by_rows = { λ part. (refl, refl) };
 
     fn begin(opened: &Start<'_>) -> Result<Patch, XmlReadError> {
         Ok(Patch {
-            patch_type: attribute_or_error(
-                opened.alloc,
-                opened.place,
-                opened.element,
-                opened.attributes,
-                "type",
-            )?,
+            patch_type: required_attribute(opened, "type")?,
             diff: None,
             resolves: None,
         })
@@ -143,13 +110,7 @@ impl FromXml for Patches {
 
     ghost at_top = { refl };
 
-    fn read_xml_element(
-        alloc: Global,
-        reader: &mut EventReader<'_>,
-        v: SpecVersion,
-        element: &OwnedName,
-        _attributes: &List<OwnedAttribute>,
-    ) -> Result<Patches, XmlReadError> {
-        Ok(Patches(read_lax_validation_list_tag(alloc, reader, v, element, "patch")?))
+    fn read_from(reader: &mut EventReader<'_>, opened: &Start<'_>) -> Reading<Patches> {
+        Ok(Patches(read_items(reader, opened, "patch", Rule::Lax)?))
     }
 }

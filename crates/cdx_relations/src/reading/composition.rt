@@ -2,13 +2,12 @@
 
 use crate::composition::{BomReference, Composition, Compositions};
 use crate::parts::CompositionPart;
-use cdx_events::{EventReader, List, OwnedAttribute, OwnedName};
+use cdx_events::EventReader;
 use cdx_leaf::{
-    Children, End, FromXml, Rule, Start, Taken, XmlRecord, attribute_or_error, attribute_since,
-    child_or_error, closing_tag_or_error, read_lax_validation_list_tag, take_list, take_one,
+    Children, End, FromXml, Reading, Rule, Start, Taken, XmlRecord, attribute_or_error,
+    attribute_since, child_or_error, closing_tag_or_error, read_items, take_list, take_one,
 };
 use cdx_models::{SpecVersion, XmlReadError};
-use std::alloc::Global;
 
 impl FromXml for BomReference {
     ghost use Rattle.std.specs.Prelude.{refl};
@@ -17,15 +16,15 @@ impl FromXml for BomReference {
 
     ghost at_top = { refl };
 
-    fn read_xml_element(
-        alloc: Global,
-        reader: &mut EventReader<'_>,
-        _v: SpecVersion,
-        element: &OwnedName,
-        attributes: &List<OwnedAttribute>,
-    ) -> Result<BomReference, XmlReadError> {
-        let text = attribute_or_error(alloc, reader.place() - 1, element, attributes, "ref")?;
-        closing_tag_or_error(alloc, reader, element)?;
+    fn read_from(reader: &mut EventReader<'_>, opened: &Start<'_>) -> Reading<BomReference> {
+        let text = attribute_or_error(
+            opened.alloc,
+            reader.place() - 1,
+            opened.element,
+            opened.attributes,
+            "ref",
+        )?;
+        closing_tag_or_error(opened.alloc, reader, opened.element)?;
         Ok(BomReference(text))
     }
 }
@@ -45,53 +44,34 @@ impl Children for CompositionPart {
         Rule::Strict
     }
 
-    fn read_child(
-        &mut self,
-        alloc: Global,
-        reader: &mut EventReader<'_>,
-        v: SpecVersion,
-        element: &OwnedName,
-        attributes: &List<OwnedAttribute>,
-    ) -> Result<Taken, XmlReadError> {
-        match element.local_name.as_str() {
-            "aggregate" => take_one(alloc, reader, v, element, attributes, &mut self.aggregate),
-            "assemblies" => take_list(
-                alloc,
-                reader,
-                v,
-                element,
-                "assembly",
-                Rule::Lax,
-                &mut self.assemblies,
-            ),
+    fn read_child(&mut self, reader: &mut EventReader<'_>, opened: &Start<'_>) -> Reading<Taken> {
+        match opened.element.local_name.as_str() {
+            "aggregate" => take_one(reader, opened, &mut self.aggregate),
+            "assemblies" => take_list(reader, opened, "assembly", Rule::Lax, &mut self.assemblies),
             "dependencies" => take_list(
-                alloc,
                 reader,
-                v,
-                element,
+                opened,
                 "dependency",
                 Rule::Lax,
                 &mut self.dependencies,
             ),
             "vulnerabilities" => {
-                if !SpecVersion::V1_5.is_known_to(v) {
+                if !SpecVersion::V1_5.is_known_to(opened.version) {
                     return Ok(Taken::Unknown);
                 }
                 take_list(
-                    alloc,
                     reader,
-                    v,
-                    element,
+                    opened,
                     "vulnerability",
                     Rule::Lax,
                     &mut self.vulnerabilities,
                 )
             }
             "signature" => {
-                if !SpecVersion::V1_4.is_known_to(v) {
+                if !SpecVersion::V1_4.is_known_to(opened.version) {
                     return Ok(Taken::Unknown);
                 }
-                take_one(alloc, reader, v, element, attributes, &mut self.signature)
+                take_one(reader, opened, &mut self.signature)
             }
             _ => Ok(Taken::Unknown),
         }
@@ -107,19 +87,11 @@ impl XmlRecord for Composition {
 
     ghost no_content = { content_is composition };
 
-    ghost by_rows = { λ part. refl };
-
-    ghost same_depth = { λ part. refl };
+    ghost by_rows = { λ part. (refl, refl) };
 
     fn begin(opened: &Start<'_>) -> Result<CompositionPart, XmlReadError> {
         Ok(CompositionPart {
-            bom_ref: attribute_since(
-                opened.alloc,
-                SpecVersion::V1_5,
-                opened.version,
-                opened.attributes,
-                "bom-ref",
-            )?,
+            bom_ref: attribute_since(opened, SpecVersion::V1_5, "bom-ref")?,
             aggregate: None,
             assemblies: None,
             dependencies: None,
@@ -129,13 +101,7 @@ impl XmlRecord for Composition {
     }
 
     fn finish(closed: &End<'_>, part: CompositionPart) -> Result<Composition, XmlReadError> {
-        let aggregate = child_or_error(
-            closed.alloc,
-            closed.place,
-            closed.element,
-            part.aggregate,
-            "aggregate",
-        )?;
+        let aggregate = child_or_error(closed, part.aggregate, "aggregate")?;
         Ok(Composition {
             bom_ref: part.bom_ref,
             aggregate,
@@ -154,13 +120,7 @@ impl FromXml for Compositions {
 
     ghost at_top = { refl };
 
-    fn read_xml_element(
-        alloc: Global,
-        reader: &mut EventReader<'_>,
-        v: SpecVersion,
-        element: &OwnedName,
-        _attributes: &List<OwnedAttribute>,
-    ) -> Result<Compositions, XmlReadError> {
-        Ok(Compositions(read_lax_validation_list_tag(alloc, reader, v, element, "composition")?))
+    fn read_from(reader: &mut EventReader<'_>, opened: &Start<'_>) -> Reading<Compositions> {
+        Ok(Compositions(read_items(reader, opened, "composition", Rule::Lax)?))
     }
 }

@@ -8,27 +8,24 @@ ghost use Rattle.cdx_leaf.specs.Trees.{collected};
 
 use crate::composition::BomReference;
 use crate::dependency::{Dependencies, Dependency};
-use cdx_events::{EventReader, List, OwnedAttribute, OwnedName, Text};
+use cdx_events::{EventReader, List, Text};
 use cdx_leaf::{
-    Children, End, FromXml, Rule, Start, Taken, XmlRecord, attribute_or_error, read_list_tag,
+    Children, End, FromXml, Reading, Rule, Start, Taken, XmlRecord, read_items, required_attribute,
 };
-use cdx_models::{SpecVersion, XmlReadError};
-use std::alloc::Global;
+use cdx_models::XmlReadError;
 
 // Reads a reference to the end of the list of its texts.
 fn take_reference(
-    alloc: Global,
     reader: &mut EventReader<'_>,
-    v: SpecVersion,
-    element: &OwnedName,
-    attributes: &List<OwnedAttribute>,
+    opened: &Start<'_>,
     field: &mut List<Text>,
-) -> Result<Taken, XmlReadError>
-    requires { IsIn reader.old element.now }
+) -> Reading<Taken>
+    requires { IsIn reader.old opened.now.element.now }
     ensures { TakesMore (collected text field.old) (collected text field.new) reader.old reader.new
-        v a_reference (λ d. d) element.now attributes.now result }
+        opened.now.version a_reference (λ d. d) opened.now.element.now
+        opened.now.attributes.now result }
 {
-    let reference = BomReference::read_xml_element(alloc, reader, v, element, attributes)?;
+    let reference = BomReference::read_from(reader, opened)?;
     field.push(reference.0)?;
     Ok(Taken::Read)
 }
@@ -48,23 +45,9 @@ impl Children for Dependency {
         Rule::Strict
     }
 
-    fn read_child(
-        &mut self,
-        alloc: Global,
-        reader: &mut EventReader<'_>,
-        v: SpecVersion,
-        element: &OwnedName,
-        attributes: &List<OwnedAttribute>,
-    ) -> Result<Taken, XmlReadError> {
-        match element.local_name.as_str() {
-            "dependency" => take_reference(
-                alloc,
-                reader,
-                v,
-                element,
-                attributes,
-                &mut self.depends_on,
-            ),
+    fn read_child(&mut self, reader: &mut EventReader<'_>, opened: &Start<'_>) -> Reading<Taken> {
+        match opened.element.local_name.as_str() {
+            "dependency" => take_reference(reader, opened, &mut self.depends_on),
             _ => Ok(Taken::Unknown),
         }
     }
@@ -79,19 +62,11 @@ impl XmlRecord for Dependency {
 
     ghost no_content = { content_is dependency };
 
-    ghost by_rows = { λ part. refl };
-
-    ghost same_depth = { λ part. refl };
+    ghost by_rows = { λ part. (refl, refl) };
 
     fn begin(opened: &Start<'_>) -> Result<Dependency, XmlReadError> {
         Ok(Dependency {
-            dependency_ref: attribute_or_error(
-                opened.alloc,
-                opened.place,
-                opened.element,
-                opened.attributes,
-                "ref",
-            )?,
+            dependency_ref: required_attribute(opened, "ref")?,
             depends_on: List::new(opened.alloc),
         })
     }
@@ -108,13 +83,7 @@ impl FromXml for Dependencies {
 
     ghost at_top = { refl };
 
-    fn read_xml_element(
-        alloc: Global,
-        reader: &mut EventReader<'_>,
-        v: SpecVersion,
-        element: &OwnedName,
-        _attributes: &List<OwnedAttribute>,
-    ) -> Result<Dependencies, XmlReadError> {
-        Ok(Dependencies(read_list_tag(alloc, reader, v, element, "dependency")?))
+    fn read_from(reader: &mut EventReader<'_>, opened: &Start<'_>) -> Reading<Dependencies> {
+        Ok(Dependencies(read_items(reader, opened, "dependency", Rule::Strict)?))
     }
 }

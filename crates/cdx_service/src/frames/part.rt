@@ -80,13 +80,7 @@ fn finish_naming(closed: &End<'_>, part: NamingPart) -> Result<ServiceNaming, Xm
         (ended (group 0 service) (naming_part part) v closed.now.element.now.local_name
         closed.now.place) result }
 {
-    let name = child_or_error(
-        closed.alloc,
-        closed.place,
-        closed.element,
-        part.name,
-        "name",
-    )?;
+    let name = child_or_error(closed, part.name, "name")?;
     Ok(ServiceNaming {
         bom_ref: part.bom_ref,
         provider: part.provider,

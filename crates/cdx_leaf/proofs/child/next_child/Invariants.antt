@@ -6,7 +6,7 @@ use Rattle.cdx_leaf.proofs.NextChild.{PastTexts}
 use Rattle.cdx_leaf.proofs.child.next_child.Given as goal
 
 abbrev pub invariant-texts : goal.invariant-texts
-invariant-texts l = (nodes : Nodes) (rest : List XmlEvent) → At l.fn.reader l.fn.element nodes rest → PastTexts l.fn.rule l.fn.reader l.reader l.fn.element nodes rest
+invariant-texts l = (nodes : Nodes) (rest : List XmlEvent) → At l.fn.reader l.fn.opened.element.now nodes rest → PastTexts l.fn.rule l.fn.reader l.reader l.fn.opened.element.now nodes rest
 
 abbrev pub decreases-texts : goal.decreases-texts
 decreases-texts l = length l.reader.ahead

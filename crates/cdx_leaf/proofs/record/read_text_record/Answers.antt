@@ -11,8 +11,8 @@ returns-in_err-start g c = λ d ns p nodes rest st.
     let name = g.X.Record.name in
     let content = any_content name r.at g.met.X.TextRecord.content in
     let laws = g.met.X.TextRecord in
-    rw (q.1, q.2) (whole_content name r.at (λ nodes el q. simple_text nodes el q) content g.X.Record.plain r.start c.args.version c.args.element.now c.args.attributes.now c.args.reader.now c.read_content.new.reader c.place.result c.begin-begun.result (Err c.in_err-start.field-0.0)
-    (λ x s q. laws.whole x s c.args.version c.args.element.now.local_name q) (sym c.place.ensures) c.begin-begun.ensures c.in_err-start.ensures d ns p nodes rest st)
+    rw (q.1, q.2) (whole_content name r.at (λ nodes el q. simple_text nodes el q) content g.X.Record.plain r.start c.args.opened.now.version c.args.opened.now.element.now c.args.opened.now.attributes.now c.args.reader.now c.read_content.new.reader c.place.result c.begin-begun.result (Err c.in_err-start.field-0.0)
+    (λ x s q. laws.whole x s c.args.opened.now.version c.args.opened.now.element.now.local_name q) (sym c.place.ensures) c.begin-begun.ensures c.in_err-start.ensures d ns p nodes rest st)
 
 pub returns : goal.returns
 returns g c = λ d ns p nodes rest st.
@@ -20,6 +20,6 @@ returns g c = λ d ns p nodes rest st.
     let name = g.X.Record.name in
     let content = any_content name r.at g.met.X.TextRecord.content in
     let laws = g.met.X.TextRecord in
-    let read = whole_content name r.at (λ nodes el q. simple_text nodes el q) content g.X.Record.plain r.start c.args.version c.args.element.now c.args.attributes.now c.args.reader.now c.read_content.new.reader c.place.result c.begin-begun.result (Ok (c.in_ok-start.start, c.in_ok-start.content))
-    (λ x s q. laws.whole x s c.args.version c.args.element.now.local_name q) (sym c.place.ensures) c.begin-begun.ensures c.in_ok-start.ensures d ns p nodes rest st in
+    let read = whole_content name r.at (λ nodes el q. simple_text nodes el q) content g.X.Record.plain r.start c.args.opened.now.version c.args.opened.now.element.now c.args.opened.now.attributes.now c.args.reader.now c.read_content.new.reader c.place.result c.begin-begun.result (Ok (c.in_ok-start.start, c.in_ok-start.content))
+    (λ x s q. laws.whole x s c.args.opened.now.version c.args.opened.now.element.now.local_name q) (sym c.place.ensures) c.begin-begun.ensures c.in_ok-start.ensures d ns p nodes rest st in
     (read.0 ∙ ap (λ t. Ok t) (sym c.with_text.ensures), read.1)

@@ -12,15 +12,15 @@ returns-in_err-part g c = λ d ns p nodes rest st.
     let r = g.X.Record in
     let laws = g.met.X.XmlRecord in
     let slots = g.X.Part.Children.slots in
-    let read = reads_so_far slots g.X.Part.Children.plan g.X.Part.Children.depth r.name laws.by_rows laws.same_depth c.args.version c.args.element.now c.args.attributes.now c.args.reader.now c.read_record.new.reader c.place.result c.begin-begun.result (Err e) (sym c.place.ensures) c.begin-begun.ensures c.in_err-part.ensures d p nodes rest st in
-    rw (q.1, q.2) (part_fails r.name c.args.version c.args.element.now c.args.attributes.now ns d p nodes c.args.reader.now c.read_record.new.reader e (record_is r.name laws.no_content g.X.Record.plain c.args.version c.args.element.now c.args.attributes.now ns d p nodes) read)
+    let read = reads_so_far slots g.X.Part.Children.plan g.X.Part.Children.depth r.name laws.by_rows c.args.opened.now.version c.args.opened.now.element.now c.args.opened.now.attributes.now c.args.reader.now c.read_record.new.reader c.place.result c.begin-begun.result (Err e) (sym c.place.ensures) c.begin-begun.ensures c.in_err-part.ensures d p nodes rest st in
+    rw (q.1, q.2) (part_fails r.name c.args.opened.now.version c.args.opened.now.element.now c.args.opened.now.attributes.now ns d p nodes c.args.reader.now c.read_record.new.reader e (record_is r.name laws.no_content g.X.Record.plain c.args.opened.now.version c.args.opened.now.element.now c.args.opened.now.attributes.now ns d p nodes) read)
 
 pub overflow_sub-end : goal.overflow_sub-end
 overflow_sub-end g c =
     let st = c.requires in
     let r = g.X.Record in
     let laws = g.met.X.XmlRecord in
-    let read = reads_so_far g.X.Part.Children.slots g.X.Part.Children.plan g.X.Part.Children.depth r.name laws.by_rows laws.same_depth c.args.version c.args.element.now c.args.attributes.now c.args.reader.now c.read_record.new.reader c.place.result c.begin-begun.result (Ok c.in_ok-part.part) (sym c.place.ensures) c.begin-begun.ensures c.in_ok-part.ensures top st.p st.nodes st.rest st.stands in
+    let read = reads_so_far g.X.Part.Children.slots g.X.Part.Children.plan g.X.Part.Children.depth r.name laws.by_rows c.args.opened.now.version c.args.opened.now.element.now c.args.opened.now.attributes.now c.args.reader.now c.read_record.new.reader c.place.result c.begin-begun.result (Ok c.in_ok-part.part) (sym c.place.ensures) c.begin-begun.ensures c.in_ok-part.ensures top st.p st.nodes st.rest st.stands in
     past_start c.args.reader.now c.read_record.new.reader c.place-end.result st.nodes st.rest read.1 c.place-end.ensures
 
 pub returns : goal.returns
@@ -30,6 +30,6 @@ returns g c = λ d ns p nodes rest st.
     let part = c.in_ok-part.part in
     let tree = g.X.HasTree.tree in
     let slots = g.X.Part.Children.slots in
-    let read = reads_so_far slots g.X.Part.Children.plan g.X.Part.Children.depth r.name laws.by_rows laws.same_depth c.args.version c.args.element.now c.args.attributes.now c.args.reader.now c.read_record.new.reader c.place.result c.begin-begun.result (Ok part) (sym c.place.ensures) c.begin-begun.ensures c.in_ok-part.ensures d p nodes rest st in
+    let read = reads_so_far slots g.X.Part.Children.plan g.X.Part.Children.depth r.name laws.by_rows c.args.opened.now.version c.args.opened.now.element.now c.args.opened.now.attributes.now c.args.reader.now c.read_record.new.reader c.place.result c.begin-begun.result (Ok part) (sym c.place.ensures) c.begin-begun.ensures c.in_ok-part.ensures d p nodes rest st in
     seen_whole tree (λ x. fields_of (tree x)) r.name c.args.reader.now c.read_record.new.reader _ _ c.finish.result g.met.X.Record.is_record
-    (part_finishes slots (λ x. fields_of (tree x)) r.name c.args.version c.args.element.now c.args.attributes.now ns d p nodes rest c.args.reader.now c.read_record.new.reader c.place-end.result part c.finish.result (record_is r.name laws.no_content g.X.Record.plain c.args.version c.args.element.now c.args.attributes.now ns d p nodes) st read (sym c.place-end.ensures) c.finish.ensures)
+    (part_finishes slots (λ x. fields_of (tree x)) r.name c.args.opened.now.version c.args.opened.now.element.now c.args.opened.now.attributes.now ns d p nodes rest c.args.reader.now c.read_record.new.reader c.place-end.result part c.finish.result (record_is r.name laws.no_content g.X.Record.plain c.args.opened.now.version c.args.opened.now.element.now c.args.opened.now.attributes.now ns d p nodes) st read (sym c.place-end.ensures) c.finish.ensures)

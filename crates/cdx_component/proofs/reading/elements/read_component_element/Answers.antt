@@ -17,4 +17,4 @@ component_of-requires c = c.in_ok-value.ensures.sort
 
 pub returns : goal.returns
 returns c =
-    read_as value_tree component_tree c.args.reader.now c.read_element.new.reader c.args.element.now c.args.attributes.now c.args.v (a_record component) (λ _. depth_of c.args.depth) c.in_ok-value.value c.component_of.result c.component_of.ensures c.in_ok-value.ensures.reads
+    read_as value_tree component_tree c.args.reader.now c.read_element.new.reader c.args.opened.now.element.now c.args.opened.now.attributes.now c.args.opened.now.version (a_record component) (λ _. depth_of c.args.depth) c.in_ok-value.value c.component_of.result c.component_of.ensures c.in_ok-value.ensures.reads

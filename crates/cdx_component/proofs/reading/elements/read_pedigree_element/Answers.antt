@@ -17,4 +17,4 @@ pedigree_of-requires c = c.in_ok-value.ensures.sort
 
 pub returns : goal.returns
 returns c =
-    read_as value_tree pedigree_tree c.args.reader.now c.read_element.new.reader c.args.element.now c.args.attributes.now c.args.v (a_record pedigree) (λ _. depth_of c.args.depth) c.in_ok-value.value c.pedigree_of.result c.pedigree_of.ensures c.in_ok-value.ensures.reads
+    read_as value_tree pedigree_tree c.args.reader.now c.read_element.new.reader c.args.opened.now.element.now c.args.opened.now.attributes.now c.args.opened.now.version (a_record pedigree) (λ _. depth_of c.args.depth) c.in_ok-value.value c.pedigree_of.result c.pedigree_of.ensures c.in_ok-value.ensures.reads

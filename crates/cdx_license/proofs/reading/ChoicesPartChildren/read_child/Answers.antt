@@ -8,12 +8,12 @@ use Rattle.cdx_license.proofs.reading.ChoicesPartChildren.read_child.Goals as go
 
 pub returns-in-license-clause-takes : goal.returns-in-license-clause-takes
 returns-in-license-clause-takes c =
-    takes_more (choice_plan licenses) c.args.v c.args.element.now c.args.attributes.now (choices_part c.args.self.now) _ c.args.reader.now c.take_into.new.reader _ (λ d. d) _ c.take_into.result (sym c.as_str.ensures ∙ c.in-license.is) refl refl refl c.take_into.ensures
+    takes_more (choice_plan licenses) c.args.opened.now.version c.args.opened.now.element.now c.args.opened.now.attributes.now (choices_part c.args.self.now) _ c.args.reader.now c.take_into.new.reader _ (λ d. d) _ c.take_into.result (sym c.as_str.ensures ∙ c.in-license.is) refl refl refl c.take_into.ensures
 
 pub returns-in-expression-clause-takes : goal.returns-in-expression-clause-takes
 returns-in-expression-clause-takes c =
-    takes_more (choice_plan licenses) c.args.v c.args.element.now c.args.attributes.now (choices_part c.args.self.now) _ c.args.reader.now c.take_into-in-expression.new.reader _ (λ d. d) _ c.take_into-in-expression.result (sym c.as_str.ensures ∙ c.in-expression.is) refl refl refl c.take_into-in-expression.ensures
+    takes_more (choice_plan licenses) c.args.opened.now.version c.args.opened.now.element.now c.args.opened.now.attributes.now (choices_part c.args.self.now) _ c.args.reader.now c.take_into-in-expression.new.reader _ (λ d. d) _ c.take_into-in-expression.result (sym c.as_str.ensures ∙ c.in-expression.is) refl refl refl c.take_into-in-expression.ensures
 
 pub returns-in_default-clause-takes : goal.returns-in_default-clause-takes
 returns-in_default-clause-takes c =
-    takes_none (choice_plan licenses) c.args.v c.args.element.now c.args.attributes.now (choices_part c.args.self.now) c.args.reader.now (λ d. d) (rw (differs c.args.element.now.local_name (codes "license") (λ e. c.in_default.not-license (c.as_str.ensures ∙ e)), differs c.args.element.now.local_name (codes "expression") (λ e. c.in_default.not-expression (c.as_str.ensures ∙ e))) refl)
+    takes_none (choice_plan licenses) c.args.opened.now.version c.args.opened.now.element.now c.args.opened.now.attributes.now (choices_part c.args.self.now) c.args.reader.now (λ d. d) (rw (differs c.args.opened.now.element.now.local_name (codes "license") (λ e. c.in_default.not-license (c.as_str.ensures ∙ e)), differs c.args.opened.now.element.now.local_name (codes "expression") (λ e. c.in_default.not-expression (c.as_str.ensures ∙ e))) refl)

@@ -13,44 +13,44 @@ use Rattle.cdx_license.proofs.reading.LicensePartChildren.read_child.Goals as go
 pub returns-then-is_some-clause-takes : goal.returns-then-is_some-clause-takes
 unfolding rows
 returns-then-is_some-clause-takes c =
-    takes_second (record_plan license) c.args.v c.args.element.now c.args.attributes.now (license_part c.args.self.now) c.args.reader.now (λ d. d) _ (sym c.as_str.ensures ∙ c.in-id.is) refl (identifier_second c.args.self.now.license_identifier true c.if-is_some.ensures)
+    takes_second (record_plan license) c.args.opened.now.version c.args.opened.now.element.now c.args.opened.now.attributes.now (license_part c.args.self.now) c.args.reader.now (λ d. d) _ (sym c.as_str.ensures ∙ c.in-id.is) refl (identifier_second c.args.self.now.license_identifier true c.if-is_some.ensures)
 
 pub returns-else-is_some-clause-takes : goal.returns-else-is_some-clause-takes
 unfolding rows
 returns-else-is_some-clause-takes c =
-    takes_one (record_plan license) c.args.v c.args.element.now c.args.attributes.now (license_part c.args.self.now) _ c.args.reader.now c.take_one.new.reader _ (λ d. d) _ c.take_one.result (sym c.as_str.ensures ∙ c.in-id.is) refl (identifier_second c.args.self.now.license_identifier false c.if-is_some.ensures) refl c.take_one.ensures
+    takes_one (record_plan license) c.args.opened.now.version c.args.opened.now.element.now c.args.opened.now.attributes.now (license_part c.args.self.now) _ c.args.reader.now c.take_one.new.reader _ (λ d. d) _ c.take_one.result (sym c.as_str.ensures ∙ c.in-id.is) refl (identifier_second c.args.self.now.license_identifier false c.if-is_some.ensures) refl c.take_one.ensures
 
 pub returns-then-is_some-2-clause-takes : goal.returns-then-is_some-2-clause-takes
 unfolding rows
 returns-then-is_some-2-clause-takes c =
-    takes_second (record_plan license) c.args.v c.args.element.now c.args.attributes.now (license_part c.args.self.now) c.args.reader.now (λ d. d) _ (sym c.as_str.ensures ∙ c.in-name.is) refl (identifier_second c.args.self.now.license_identifier true c.if-is_some-2.ensures)
+    takes_second (record_plan license) c.args.opened.now.version c.args.opened.now.element.now c.args.opened.now.attributes.now (license_part c.args.self.now) c.args.reader.now (λ d. d) _ (sym c.as_str.ensures ∙ c.in-name.is) refl (identifier_second c.args.self.now.license_identifier true c.if-is_some-2.ensures)
 
 pub returns-else-is_some-2-clause-takes : goal.returns-else-is_some-2-clause-takes
 unfolding rows
 returns-else-is_some-2-clause-takes c =
-    takes_one (record_plan license) c.args.v c.args.element.now c.args.attributes.now (license_part c.args.self.now) _ c.args.reader.now c.take_one-in-name.new.reader _ (λ d. d) _ c.take_one-in-name.result (sym c.as_str.ensures ∙ c.in-name.is) refl (identifier_second c.args.self.now.license_identifier false c.if-is_some-2.ensures) refl c.take_one-in-name.ensures
+    takes_one (record_plan license) c.args.opened.now.version c.args.opened.now.element.now c.args.opened.now.attributes.now (license_part c.args.self.now) _ c.args.reader.now c.take_one-in-name.new.reader _ (λ d. d) _ c.take_one-in-name.result (sym c.as_str.ensures ∙ c.in-name.is) refl (identifier_second c.args.self.now.license_identifier false c.if-is_some-2.ensures) refl c.take_one-in-name.ensures
 
 pub returns-in-text-clause-takes : goal.returns-in-text-clause-takes
 unfolding rows list
 returns-in-text-clause-takes c =
-    takes_one (record_plan license) c.args.v c.args.element.now c.args.attributes.now (license_part c.args.self.now) _ c.args.reader.now c.take_one-in-text.new.reader _ (λ d. d) _ c.take_one-in-text.result (sym c.as_str.ensures ∙ c.in-text.is) refl refl refl c.take_one-in-text.ensures
+    takes_one (record_plan license) c.args.opened.now.version c.args.opened.now.element.now c.args.opened.now.attributes.now (license_part c.args.self.now) _ c.args.reader.now c.take_one-in-text.new.reader _ (λ d. d) _ c.take_one-in-text.result (sym c.as_str.ensures ∙ c.in-text.is) refl refl refl c.take_one-in-text.ensures
 
 pub returns-in-url-clause-takes : goal.returns-in-url-clause-takes
 unfolding rows list
 returns-in-url-clause-takes c =
-    takes_one (record_plan license) c.args.v c.args.element.now c.args.attributes.now (license_part c.args.self.now) _ c.args.reader.now c.take_one-in-url.new.reader _ (λ d. d) _ c.take_one-in-url.result (sym c.as_str.ensures ∙ c.in-url.is) refl refl refl c.take_one-in-url.ensures
+    takes_one (record_plan license) c.args.opened.now.version c.args.opened.now.element.now c.args.opened.now.attributes.now (license_part c.args.self.now) _ c.args.reader.now c.take_one-in-url.new.reader _ (λ d. d) _ c.take_one-in-url.result (sym c.as_str.ensures ∙ c.in-url.is) refl refl refl c.take_one-in-url.ensures
 
 pub returns-then-not-is_known_to-clause-takes : goal.returns-then-not-is_known_to-clause-takes
 unfolding rows
 returns-then-not-is_known_to-clause-takes c =
-    takes_none (record_plan license) c.args.v c.args.element.now c.args.attributes.now (license_part c.args.self.now) c.args.reader.now (λ d. d) (rw ((sym c.as_str.ensures ∙ c.in-properties.is), sym c.if-not-is_known_to.ensures) refl)
+    takes_none (record_plan license) c.args.opened.now.version c.args.opened.now.element.now c.args.opened.now.attributes.now (license_part c.args.self.now) c.args.reader.now (λ d. d) (rw ((sym c.as_str.ensures ∙ c.in-properties.is), sym c.if-not-is_known_to.ensures) refl)
 
 pub returns-else-not-is_known_to-clause-takes : goal.returns-else-not-is_known_to-clause-takes
 unfolding rows list
 returns-else-not-is_known_to-clause-takes c =
-    takes_one (record_plan license) c.args.v c.args.element.now c.args.attributes.now (license_part c.args.self.now) _ c.args.reader.now c.take_one-in-properties.new.reader (record { name = codes "properties"; since = V1_5; kind = kinds.a_list kinds.properties; field = 4; place = last }) (λ d. d) _ c.take_one-in-properties.result (sym c.as_str.ensures ∙ c.in-properties.is) (rw (sym c.if-not-is_known_to.ensures) refl) refl refl c.take_one-in-properties.ensures
+    takes_one (record_plan license) c.args.opened.now.version c.args.opened.now.element.now c.args.opened.now.attributes.now (license_part c.args.self.now) _ c.args.reader.now c.take_one-in-properties.new.reader (record { name = codes "properties"; since = V1_5; kind = kinds.a_list kinds.properties; field = 4; place = last }) (λ d. d) _ c.take_one-in-properties.result (sym c.as_str.ensures ∙ c.in-properties.is) (rw (sym c.if-not-is_known_to.ensures) refl) refl refl c.take_one-in-properties.ensures
 
 pub returns-in_default-clause-takes : goal.returns-in_default-clause-takes
 unfolding rows
 returns-in_default-clause-takes c =
-    takes_none (record_plan license) c.args.v c.args.element.now c.args.attributes.now (license_part c.args.self.now) c.args.reader.now (λ d. d) (rw (differs c.args.element.now.local_name (codes "id") (λ e. c.in_default.not-id (c.as_str.ensures ∙ e)), differs c.args.element.now.local_name (codes "name") (λ e. c.in_default.not-name (c.as_str.ensures ∙ e)), differs c.args.element.now.local_name (codes "text") (λ e. c.in_default.not-text (c.as_str.ensures ∙ e)), differs c.args.element.now.local_name (codes "url") (λ e. c.in_default.not-url (c.as_str.ensures ∙ e)), differs c.args.element.now.local_name (codes "properties") (λ e. c.in_default.not-properties (c.as_str.ensures ∙ e))) refl)
+    takes_none (record_plan license) c.args.opened.now.version c.args.opened.now.element.now c.args.opened.now.attributes.now (license_part c.args.self.now) c.args.reader.now (λ d. d) (rw (differs c.args.opened.now.element.now.local_name (codes "id") (λ e. c.in_default.not-id (c.as_str.ensures ∙ e)), differs c.args.opened.now.element.now.local_name (codes "name") (λ e. c.in_default.not-name (c.as_str.ensures ∙ e)), differs c.args.opened.now.element.now.local_name (codes "text") (λ e. c.in_default.not-text (c.as_str.ensures ∙ e)), differs c.args.opened.now.element.now.local_name (codes "url") (λ e. c.in_default.not-url (c.as_str.ensures ∙ e)), differs c.args.opened.now.element.now.local_name (codes "properties") (λ e. c.in_default.not-properties (c.as_str.ensures ∙ e))) refl)

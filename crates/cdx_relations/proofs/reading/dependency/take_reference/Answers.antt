@@ -15,7 +15,7 @@ returns-in_err-reference c = λ d ns p nodes rest st.
     let q = err_from_is_err_and c.from_residual.result c.from_residual.ensures.1 in
     let read = c.in_err-reference.ensures d ns p nodes rest st in
     let before = collected text c.args.field.now in
-    rw (q.1, q.2) (read.0, first_fails c.in_err-reference.field-0.0 c.read_xml_element.new.reader.place (xread (element c.args.element.now c.args.attributes.now ns nodes) c.args.v a_reference p d) (λ t. Ok (appended before t)) read.1)
+    rw (q.1, q.2) (read.0, first_fails c.in_err-reference.field-0.0 c.read_from.new.reader.place (xread (element c.args.opened.now.element.now c.args.opened.now.attributes.now ns nodes) c.args.opened.now.version a_reference p d) (λ t. Ok (appended before t)) read.1)
 
 pub returns : goal.returns
 returns c = λ d ns p nodes rest st.

@@ -10,9 +10,9 @@ use Rattle.cdx_service_data.proofs.reading.ServiceDataPartChildren.read_child.Go
 pub returns-in-classification-clause-takes : goal.returns-in-classification-clause-takes
 unfolding rows list
 returns-in-classification-clause-takes c =
-    takes_one (record_plan service_data) c.args.v c.args.element.now c.args.attributes.now (service_data_part c.args.self.now) _ c.args.reader.now c.take_one.new.reader _ (λ d. d) _ c.take_one.result (sym c.as_str.ensures ∙ c.in-classification.is) refl refl refl c.take_one.ensures
+    takes_one (record_plan service_data) c.args.opened.now.version c.args.opened.now.element.now c.args.opened.now.attributes.now (service_data_part c.args.self.now) _ c.args.reader.now c.take_one.new.reader _ (λ d. d) _ c.take_one.result (sym c.as_str.ensures ∙ c.in-classification.is) refl refl refl c.take_one.ensures
 
 pub returns-in_default-clause-takes : goal.returns-in_default-clause-takes
 unfolding rows
 returns-in_default-clause-takes c =
-    takes_none (record_plan service_data) c.args.v c.args.element.now c.args.attributes.now (service_data_part c.args.self.now) c.args.reader.now (λ d. d) (rw (differs c.args.element.now.local_name (codes "classification") (λ e. c.in_default.not-classification (c.as_str.ensures ∙ e))) refl)
+    takes_none (record_plan service_data) c.args.opened.now.version c.args.opened.now.element.now c.args.opened.now.attributes.now (service_data_part c.args.self.now) c.args.reader.now (λ d. d) (rw (differs c.args.opened.now.element.now.local_name (codes "classification") (λ e. c.in_default.not-classification (c.as_str.ensures ∙ e))) refl)

@@ -10,19 +10,19 @@ use Rattle.cdx_leaf.proofs.reading.organization.OrganizationalContactChildren.re
 pub returns-in-name-clause-takes : goal.returns-in-name-clause-takes
 unfolding rows list
 returns-in-name-clause-takes c =
-    takes_one (record_plan contact) c.args.version c.args.element.now c.args.attributes.now (contact_slots c.args.self.now) _ c.args.reader.now c.take_one.new.reader _ (λ d. d) _ c.take_one.result (sym c.as_str.ensures ∙ c.in-name.is) refl refl refl c.take_one.ensures
+    takes_one (record_plan contact) c.args.opened.now.version c.args.opened.now.element.now c.args.opened.now.attributes.now (contact_slots c.args.self.now) _ c.args.reader.now c.take_one.new.reader _ (λ d. d) _ c.take_one.result (sym c.as_str.ensures ∙ c.in-name.is) refl refl refl c.take_one.ensures
 
 pub returns-in-email-clause-takes : goal.returns-in-email-clause-takes
 unfolding rows list
 returns-in-email-clause-takes c =
-    takes_one (record_plan contact) c.args.version c.args.element.now c.args.attributes.now (contact_slots c.args.self.now) _ c.args.reader.now c.take_one-in-email.new.reader _ (λ d. d) _ c.take_one-in-email.result (sym c.as_str.ensures ∙ c.in-email.is) refl refl refl c.take_one-in-email.ensures
+    takes_one (record_plan contact) c.args.opened.now.version c.args.opened.now.element.now c.args.opened.now.attributes.now (contact_slots c.args.self.now) _ c.args.reader.now c.take_one-in-email.new.reader _ (λ d. d) _ c.take_one-in-email.result (sym c.as_str.ensures ∙ c.in-email.is) refl refl refl c.take_one-in-email.ensures
 
 pub returns-in-phone-clause-takes : goal.returns-in-phone-clause-takes
 unfolding rows list
 returns-in-phone-clause-takes c =
-    takes_one (record_plan contact) c.args.version c.args.element.now c.args.attributes.now (contact_slots c.args.self.now) _ c.args.reader.now c.take_one-in-phone.new.reader _ (λ d. d) _ c.take_one-in-phone.result (sym c.as_str.ensures ∙ c.in-phone.is) refl refl refl c.take_one-in-phone.ensures
+    takes_one (record_plan contact) c.args.opened.now.version c.args.opened.now.element.now c.args.opened.now.attributes.now (contact_slots c.args.self.now) _ c.args.reader.now c.take_one-in-phone.new.reader _ (λ d. d) _ c.take_one-in-phone.result (sym c.as_str.ensures ∙ c.in-phone.is) refl refl refl c.take_one-in-phone.ensures
 
 pub returns-in_default-clause-takes : goal.returns-in_default-clause-takes
 unfolding rows
 returns-in_default-clause-takes c =
-    takes_none (record_plan contact) c.args.version c.args.element.now c.args.attributes.now (contact_slots c.args.self.now) c.args.reader.now (λ d. d) (rw (differs c.args.element.now.local_name (codes "name") (λ e. c.in_default.not-name (c.as_str.ensures ∙ e)), differs c.args.element.now.local_name (codes "email") (λ e. c.in_default.not-email (c.as_str.ensures ∙ e)), differs c.args.element.now.local_name (codes "phone") (λ e. c.in_default.not-phone (c.as_str.ensures ∙ e))) refl)
+    takes_none (record_plan contact) c.args.opened.now.version c.args.opened.now.element.now c.args.opened.now.attributes.now (contact_slots c.args.self.now) c.args.reader.now (λ d. d) (rw (differs c.args.opened.now.element.now.local_name (codes "name") (λ e. c.in_default.not-name (c.as_str.ensures ∙ e)), differs c.args.opened.now.element.now.local_name (codes "email") (λ e. c.in_default.not-email (c.as_str.ensures ∙ e)), differs c.args.opened.now.element.now.local_name (codes "phone") (λ e. c.in_default.not-phone (c.as_str.ensures ∙ e))) refl)

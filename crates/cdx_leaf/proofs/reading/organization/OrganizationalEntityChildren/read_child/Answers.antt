@@ -10,19 +10,19 @@ use Rattle.cdx_leaf.proofs.reading.organization.OrganizationalEntityChildren.rea
 pub returns-in-name-clause-takes : goal.returns-in-name-clause-takes
 unfolding rows list
 returns-in-name-clause-takes c =
-    takes_one (record_plan entity) c.args.version c.args.element.now c.args.attributes.now (entity_slots c.args.self.now) _ c.args.reader.now c.take_one.new.reader _ (λ d. d) _ c.take_one.result (sym c.as_str.ensures ∙ c.in-name.is) refl refl refl c.take_one.ensures
+    takes_one (record_plan entity) c.args.opened.now.version c.args.opened.now.element.now c.args.opened.now.attributes.now (entity_slots c.args.self.now) _ c.args.reader.now c.take_one.new.reader _ (λ d. d) _ c.take_one.result (sym c.as_str.ensures ∙ c.in-name.is) refl refl refl c.take_one.ensures
 
 pub returns-in-url-clause-takes : goal.returns-in-url-clause-takes
 unfolding rows list
 returns-in-url-clause-takes c =
-    takes_more (record_plan entity) c.args.version c.args.element.now c.args.attributes.now (entity_slots c.args.self.now) _ c.args.reader.now c.take_more.new.reader _ (λ d. d) _ c.take_more.result (sym c.as_str.ensures ∙ c.in-url.is) refl refl refl c.take_more.ensures
+    takes_more (record_plan entity) c.args.opened.now.version c.args.opened.now.element.now c.args.opened.now.attributes.now (entity_slots c.args.self.now) _ c.args.reader.now c.take_more.new.reader _ (λ d. d) _ c.take_more.result (sym c.as_str.ensures ∙ c.in-url.is) refl refl refl c.take_more.ensures
 
 pub returns-in-contact-clause-takes : goal.returns-in-contact-clause-takes
 unfolding rows list
 returns-in-contact-clause-takes c =
-    takes_more (record_plan entity) c.args.version c.args.element.now c.args.attributes.now (entity_slots c.args.self.now) _ c.args.reader.now c.take_more-in-contact.new.reader _ (λ d. d) _ c.take_more-in-contact.result (sym c.as_str.ensures ∙ c.in-contact.is) refl refl refl c.take_more-in-contact.ensures
+    takes_more (record_plan entity) c.args.opened.now.version c.args.opened.now.element.now c.args.opened.now.attributes.now (entity_slots c.args.self.now) _ c.args.reader.now c.take_more-in-contact.new.reader _ (λ d. d) _ c.take_more-in-contact.result (sym c.as_str.ensures ∙ c.in-contact.is) refl refl refl c.take_more-in-contact.ensures
 
 pub returns-in_default-clause-takes : goal.returns-in_default-clause-takes
 unfolding rows
 returns-in_default-clause-takes c =
-    takes_none (record_plan entity) c.args.version c.args.element.now c.args.attributes.now (entity_slots c.args.self.now) c.args.reader.now (λ d. d) (rw (differs c.args.element.now.local_name (codes "name") (λ e. c.in_default.not-name (c.as_str.ensures ∙ e)), differs c.args.element.now.local_name (codes "url") (λ e. c.in_default.not-url (c.as_str.ensures ∙ e)), differs c.args.element.now.local_name (codes "contact") (λ e. c.in_default.not-contact (c.as_str.ensures ∙ e))) refl)
+    takes_none (record_plan entity) c.args.opened.now.version c.args.opened.now.element.now c.args.opened.now.attributes.now (entity_slots c.args.self.now) c.args.reader.now (λ d. d) (rw (differs c.args.opened.now.element.now.local_name (codes "name") (λ e. c.in_default.not-name (c.as_str.ensures ∙ e)), differs c.args.opened.now.element.now.local_name (codes "url") (λ e. c.in_default.not-url (c.as_str.ensures ∙ e)), differs c.args.opened.now.element.now.local_name (codes "contact") (λ e. c.in_default.not-contact (c.as_str.ensures ∙ e))) refl)

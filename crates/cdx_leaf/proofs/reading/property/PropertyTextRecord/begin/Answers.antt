@@ -7,4 +7,4 @@ use Rattle.cdx_leaf.proofs.reading.property.PropertyTextRecord.begin.Goals as go
 
 pub returns : goal.returns
 unfolding rows
-returns c = text_first c.args.opened.now.attributes.now c.args.opened.now.version c.args.opened.now.element.now.local_name c.args.opened.now.place (codes "name") (member (codes "name")) _ refl _ c.attribute_or_error.result c.attribute_or_error.ensures
+returns c = text_first c.args.opened.now.attributes.now c.args.opened.now.version c.args.opened.now.element.now.local_name c.args.opened.now.place (codes "name") (member (codes "name")) _ refl _ c.required_attribute.result c.required_attribute.ensures

@@ -13,29 +13,29 @@ use Rattle.cdx_patch.proofs.reading.issue.IssueChildren.read_child.Goals as goal
 pub returns-in-id-clause-takes : goal.returns-in-id-clause-takes
 unfolding rows list
 returns-in-id-clause-takes c =
-    takes_one (record_plan issue) c.args.v c.args.element.now c.args.attributes.now (issue_slots c.args.self.now) _ c.args.reader.now c.take_one.new.reader _ (λ d. d) _ c.take_one.result (sym c.as_str.ensures ∙ c.in-id.is) refl refl refl c.take_one.ensures
+    takes_one (record_plan issue) c.args.opened.now.version c.args.opened.now.element.now c.args.opened.now.attributes.now (issue_slots c.args.self.now) _ c.args.reader.now c.take_one.new.reader _ (λ d. d) _ c.take_one.result (sym c.as_str.ensures ∙ c.in-id.is) refl refl refl c.take_one.ensures
 
 pub returns-in-name-clause-takes : goal.returns-in-name-clause-takes
 unfolding rows list
 returns-in-name-clause-takes c =
-    takes_one (record_plan issue) c.args.v c.args.element.now c.args.attributes.now (issue_slots c.args.self.now) _ c.args.reader.now c.take_one-in-name.new.reader _ (λ d. d) _ c.take_one-in-name.result (sym c.as_str.ensures ∙ c.in-name.is) refl refl refl c.take_one-in-name.ensures
+    takes_one (record_plan issue) c.args.opened.now.version c.args.opened.now.element.now c.args.opened.now.attributes.now (issue_slots c.args.self.now) _ c.args.reader.now c.take_one-in-name.new.reader _ (λ d. d) _ c.take_one-in-name.result (sym c.as_str.ensures ∙ c.in-name.is) refl refl refl c.take_one-in-name.ensures
 
 pub returns-in-description-clause-takes : goal.returns-in-description-clause-takes
 unfolding rows list
 returns-in-description-clause-takes c =
-    takes_one (record_plan issue) c.args.v c.args.element.now c.args.attributes.now (issue_slots c.args.self.now) _ c.args.reader.now c.take_one-in-description.new.reader _ (λ d. d) _ c.take_one-in-description.result (sym c.as_str.ensures ∙ c.in-description.is) refl refl refl c.take_one-in-description.ensures
+    takes_one (record_plan issue) c.args.opened.now.version c.args.opened.now.element.now c.args.opened.now.attributes.now (issue_slots c.args.self.now) _ c.args.reader.now c.take_one-in-description.new.reader _ (λ d. d) _ c.take_one-in-description.result (sym c.as_str.ensures ∙ c.in-description.is) refl refl refl c.take_one-in-description.ensures
 
 pub returns-in-source-clause-takes : goal.returns-in-source-clause-takes
 unfolding rows list
 returns-in-source-clause-takes c =
-    takes_one (record_plan issue) c.args.v c.args.element.now c.args.attributes.now (issue_slots c.args.self.now) _ c.args.reader.now c.take_one-in-source.new.reader _ (λ d. d) _ c.take_one-in-source.result (sym c.as_str.ensures ∙ c.in-source.is) refl refl refl c.take_one-in-source.ensures
+    takes_one (record_plan issue) c.args.opened.now.version c.args.opened.now.element.now c.args.opened.now.attributes.now (issue_slots c.args.self.now) _ c.args.reader.now c.take_one-in-source.new.reader _ (λ d. d) _ c.take_one-in-source.result (sym c.as_str.ensures ∙ c.in-source.is) refl refl refl c.take_one-in-source.ensures
 
 pub returns-in-references-clause-takes : goal.returns-in-references-clause-takes
 unfolding rows list
 returns-in-references-clause-takes c =
-    takes_one (record_plan issue) c.args.v c.args.element.now c.args.attributes.now (issue_slots c.args.self.now) _ c.args.reader.now c.take_list.new.reader _ (λ d. d) _ c.take_list.result (sym c.as_str.ensures ∙ c.in-references.is) refl refl refl (takes_list (present (list_tree text) c.take_list.new.field) kinds.a_text (λ d. d) c.args.reader.now c.take_list.new.reader c.args.v c.args.element.now c.args.attributes.now (codes "url") Strict c.take_list.result kinds.links refl c.take_list.ensures)
+    takes_one (record_plan issue) c.args.opened.now.version c.args.opened.now.element.now c.args.opened.now.attributes.now (issue_slots c.args.self.now) _ c.args.reader.now c.take_list.new.reader _ (λ d. d) _ c.take_list.result (sym c.as_str.ensures ∙ c.in-references.is) refl refl refl (takes_list (present (list_tree text) c.take_list.new.field) kinds.a_text (λ d. d) c.args.reader.now c.take_list.new.reader c.args.opened.now.version c.args.opened.now.element.now c.args.opened.now.attributes.now (codes "url") Strict c.take_list.result kinds.links refl c.take_list.ensures)
 
 pub returns-in_default-clause-takes : goal.returns-in_default-clause-takes
 unfolding rows
 returns-in_default-clause-takes c =
-    takes_none (record_plan issue) c.args.v c.args.element.now c.args.attributes.now (issue_slots c.args.self.now) c.args.reader.now (λ d. d) (rw (differs c.args.element.now.local_name (codes "id") (λ e. c.in_default.not-id (c.as_str.ensures ∙ e)), differs c.args.element.now.local_name (codes "name") (λ e. c.in_default.not-name (c.as_str.ensures ∙ e)), differs c.args.element.now.local_name (codes "description") (λ e. c.in_default.not-description (c.as_str.ensures ∙ e)), differs c.args.element.now.local_name (codes "source") (λ e. c.in_default.not-source (c.as_str.ensures ∙ e)), differs c.args.element.now.local_name (codes "references") (λ e. c.in_default.not-references (c.as_str.ensures ∙ e))) refl)
+    takes_none (record_plan issue) c.args.opened.now.version c.args.opened.now.element.now c.args.opened.now.attributes.now (issue_slots c.args.self.now) c.args.reader.now (λ d. d) (rw (differs c.args.opened.now.element.now.local_name (codes "id") (λ e. c.in_default.not-id (c.as_str.ensures ∙ e)), differs c.args.opened.now.element.now.local_name (codes "name") (λ e. c.in_default.not-name (c.as_str.ensures ∙ e)), differs c.args.opened.now.element.now.local_name (codes "description") (λ e. c.in_default.not-description (c.as_str.ensures ∙ e)), differs c.args.opened.now.element.now.local_name (codes "source") (λ e. c.in_default.not-source (c.as_str.ensures ∙ e)), differs c.args.opened.now.element.now.local_name (codes "references") (λ e. c.in_default.not-references (c.as_str.ensures ∙ e))) refl)

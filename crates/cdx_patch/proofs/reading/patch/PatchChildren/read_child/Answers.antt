@@ -14,14 +14,14 @@ use Rattle.cdx_patch.proofs.reading.patch.PatchChildren.read_child.Goals as goal
 pub returns-in-diff-clause-takes : goal.returns-in-diff-clause-takes
 unfolding rows list
 returns-in-diff-clause-takes c =
-    takes_one (record_plan patch) c.args.v c.args.element.now c.args.attributes.now (patch_slots c.args.self.now) _ c.args.reader.now c.take_one.new.reader _ (λ d. d) _ c.take_one.result (sym c.as_str.ensures ∙ c.in-diff.is) refl refl refl c.take_one.ensures
+    takes_one (record_plan patch) c.args.opened.now.version c.args.opened.now.element.now c.args.opened.now.attributes.now (patch_slots c.args.self.now) _ c.args.reader.now c.take_one.new.reader _ (λ d. d) _ c.take_one.result (sym c.as_str.ensures ∙ c.in-diff.is) refl refl refl c.take_one.ensures
 
 pub returns-in-resolves-clause-takes : goal.returns-in-resolves-clause-takes
 unfolding rows list
 returns-in-resolves-clause-takes c =
-    takes_one (record_plan patch) c.args.v c.args.element.now c.args.attributes.now (patch_slots c.args.self.now) _ c.args.reader.now c.take_list.new.reader _ (λ d. d) _ c.take_list.result (sym c.as_str.ensures ∙ c.in-resolves.is) refl refl refl (takes_list (present (list_tree issue_tree) c.take_list.new.field) (kinds.a_record issue) (λ d. d) c.args.reader.now c.take_list.new.reader c.args.v c.args.element.now c.args.attributes.now (codes "issue") Strict c.take_list.result kinds.resolved refl c.take_list.ensures)
+    takes_one (record_plan patch) c.args.opened.now.version c.args.opened.now.element.now c.args.opened.now.attributes.now (patch_slots c.args.self.now) _ c.args.reader.now c.take_list.new.reader _ (λ d. d) _ c.take_list.result (sym c.as_str.ensures ∙ c.in-resolves.is) refl refl refl (takes_list (present (list_tree issue_tree) c.take_list.new.field) (kinds.a_record issue) (λ d. d) c.args.reader.now c.take_list.new.reader c.args.opened.now.version c.args.opened.now.element.now c.args.opened.now.attributes.now (codes "issue") Strict c.take_list.result kinds.resolved refl c.take_list.ensures)
 
 pub returns-in_default-clause-takes : goal.returns-in_default-clause-takes
 unfolding rows
 returns-in_default-clause-takes c =
-    takes_none (record_plan patch) c.args.v c.args.element.now c.args.attributes.now (patch_slots c.args.self.now) c.args.reader.now (λ d. d) (rw (differs c.args.element.now.local_name (codes "diff") (λ e. c.in_default.not-diff (c.as_str.ensures ∙ e)), differs c.args.element.now.local_name (codes "resolves") (λ e. c.in_default.not-resolves (c.as_str.ensures ∙ e))) refl)
+    takes_none (record_plan patch) c.args.opened.now.version c.args.opened.now.element.now c.args.opened.now.attributes.now (patch_slots c.args.self.now) c.args.reader.now (λ d. d) (rw (differs c.args.opened.now.element.now.local_name (codes "diff") (λ e. c.in_default.not-diff (c.as_str.ensures ∙ e)), differs c.args.opened.now.element.now.local_name (codes "resolves") (λ e. c.in_default.not-resolves (c.as_str.ensures ∙ e))) refl)

@@ -10,9 +10,9 @@ use Rattle.cdx_relations.proofs.reading.dependency.DependencyChildren.read_child
 pub returns-in-dependency-clause-takes : goal.returns-in-dependency-clause-takes
 unfolding rows list
 returns-in-dependency-clause-takes c =
-    takes_more (record_plan dependency) c.args.v c.args.element.now c.args.attributes.now (dependency_part c.args.self.now) _ c.args.reader.now c.take_reference.new.reader _ (λ d. d) _ c.take_reference.result (sym c.as_str.ensures ∙ c.in-dependency.is) refl refl refl c.take_reference.ensures
+    takes_more (record_plan dependency) c.args.opened.now.version c.args.opened.now.element.now c.args.opened.now.attributes.now (dependency_part c.args.self.now) _ c.args.reader.now c.take_reference.new.reader _ (λ d. d) _ c.take_reference.result (sym c.as_str.ensures ∙ c.in-dependency.is) refl refl refl c.take_reference.ensures
 
 pub returns-in_default-clause-takes : goal.returns-in_default-clause-takes
 unfolding rows
 returns-in_default-clause-takes c =
-    takes_none (record_plan dependency) c.args.v c.args.element.now c.args.attributes.now (dependency_part c.args.self.now) c.args.reader.now (λ d. d) (rw (differs c.args.element.now.local_name (codes "dependency") (λ e. c.in_default.not-dependency (c.as_str.ensures ∙ e))) refl)
+    takes_none (record_plan dependency) c.args.opened.now.version c.args.opened.now.element.now c.args.opened.now.attributes.now (dependency_part c.args.self.now) c.args.reader.now (λ d. d) (rw (differs c.args.opened.now.element.now.local_name (codes "dependency") (λ e. c.in_default.not-dependency (c.as_str.ensures ∙ e))) refl)

@@ -1,5 +1,0 @@
-use Rattle.cdx_leaf.proofs.Parts.{reads_text}
-use Rattle.cdx_leaf.proofs.texts.TextFromXml.read_xml_element.Goals as goal
-
-pub returns : goal.returns
-returns c = reads_text (λ t. t) c.args._version c.args.element.now c.args._attributes.now c.args.reader.now c.read_simple_tag.new.reader c.read_simple_tag.result c.read_simple_tag.ensures
