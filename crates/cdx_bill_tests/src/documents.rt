@@ -26,22 +26,22 @@ use std::process::Abort;
 use std::test::Fail;
 
 // The label of events is the version that reads them, and that of JSON is the one that was read.
-fn labelled(alloc: Global, text: &str, v: SpecVersion) -> Result<String, Fail> {
+fn labelled(alloc: Global, text: &str, version: SpecVersion) -> Result<String, Fail> {
     if !text.starts_with("start|") {
         let value = Value::from_str(alloc, text)?;
-        return Ok(label(alloc, &Bom::parse_json(alloc, &value, v)?)?);
+        return Ok(label(alloc, &Bom::parse_json(alloc, &value, version)?)?);
     }
     let events = document(alloc, text)?;
-    let found = label(alloc, &parse_xml(alloc, &events, v)?)?;
-    if label(alloc, &Bom::read_xml_document(alloc, &events, v)?)? != found {
+    let found = label(alloc, &parse_xml(alloc, &events, version)?)?;
+    if label(alloc, &Bom::read_xml_document(alloc, &events, version)?)? != found {
         return Err(Fail::new("another label"));
     }
     Ok(found)
 }
 
-fn passed(alloc: Global, text: &str, v: SpecVersion) -> Result<String, Fail> {
+fn passed(alloc: Global, text: &str, version: SpecVersion) -> Result<String, Fail> {
     let value = Value::from_str(alloc, text)?;
-    match Bom::from_json(alloc, &value, v) {
+    match Bom::from_json(alloc, &value, version) {
         Ok(bill) => Ok(shown(alloc, &bill)?),
         Err(error) => Ok(of_json(alloc, &error)?),
     }
@@ -53,37 +53,37 @@ const LINE: &str =
 
 // The budget and the call that fails, and other events where they aren't the line's. Calls are counted from 1, so none
 // fails where that is 0.
-fn gathered(alloc: Global, words: &str, v: SpecVersion) -> Result<String, Fail> {
+fn gathered(alloc: Global, words: &str, version: SpecVersion) -> Result<String, Fail> {
     let (budget, words) = parted(words);
     let (fails, events) = parted(words);
     let fails = only(alloc, fails.parse::<u64>()?)?;
     let events = list_of(alloc, if events.is_empty() { LINE } else { events })?;
     let mut source = MemoryEventSource::new(events, fails);
-    Ok(told_source(alloc, &mut source, v, budget.parse::<usize>()?)?)
+    Ok(told_source(alloc, &mut source, version, budget.parse::<usize>()?)?)
 }
 
 fn told_source(
     alloc: Global,
     source: &mut MemoryEventSource,
-    v: SpecVersion,
+    version: SpecVersion,
     budget: usize,
 ) -> Result<String, AllocError> {
-    match Bom::parse_from_xml_source(alloc, source, v, budget) {
+    match Bom::parse_from_xml_source(alloc, source, version, budget) {
         Ok(bill) => shown(alloc, &bill),
         Err(error) => of_xml(alloc, &error),
     }
 }
 
-fn fitting(alloc: Global, short: &str, w: SpecVersion) -> Result<String, Fail> {
+fn fitting(alloc: Global, short: &str, version: SpecVersion) -> Result<String, Fail> {
     let bill = bill(alloc, short)?;
-    let found = if bill.fits(w) { "fits" } else { "lacks" };
+    let found = if bill.fits(version) { "fits" } else { "lacks" };
     Ok(String::from_str(alloc, found)?)
 }
 
 // The label of what is kept is the version.
-fn kept(alloc: Global, short: &str, w: SpecVersion) -> Result<String, Fail> {
-    let kept = bill(alloc, short)?.kept(alloc, w)?;
-    if label(alloc, &kept)? != format!(in alloc; "{} 1", w.as_str())? {
+fn kept(alloc: Global, short: &str, version: SpecVersion) -> Result<String, Fail> {
+    let kept = bill(alloc, short)?.kept(alloc, version)?;
+    if label(alloc, &kept)? != format!(in alloc; "{} 1", version.as_str())? {
         return Err(Fail::new("another label"));
     }
     Ok(shown(alloc, &kept)?)
@@ -136,8 +136,8 @@ fn told_road(alloc: Global, answer: Result<List<Doc>, RoadError>) -> Result<Stri
 }
 
 // The same of the road of one hop.
-fn recoded(alloc: Global, doc: &Doc, v: SpecVersion, hop: Hop) -> Result<String, AllocError> {
-    match recode(alloc, doc, v, hop.form, hop.version) {
+fn recoded(alloc: Global, doc: &Doc, version: SpecVersion, hop: Hop) -> Result<String, AllocError> {
+    match recode(alloc, doc, version, hop.form, hop.version) {
         Ok(doc) => format!(in alloc; " {}", text_of(alloc, &doc)?.as_str()),
         Err(error) => of_road(alloc, &error),
     }

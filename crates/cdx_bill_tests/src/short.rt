@@ -41,32 +41,40 @@ pub fn hop_of(short: &str) -> Option<Hop> {
     Some(Hop { form, version })
 }
 
-pub fn parse_json(alloc: Global, value: &Value, v: SpecVersion) -> Result<Bom, JsonReadError> {
-    match v {
+pub fn parse_json(
+    alloc: Global,
+    value: &Value,
+    version: SpecVersion,
+) -> Result<Bom, JsonReadError> {
+    match version {
         SpecVersion::V1_3 => Bom::parse_from_json_v1_3(alloc, value),
         SpecVersion::V1_4 => Bom::parse_from_json_v1_4(alloc, value),
         SpecVersion::V1_5 => Bom::parse_from_json_v1_5(alloc, value),
     }
 }
 
-pub fn parse_xml(alloc: Global, events: &Events, v: SpecVersion) -> Result<Bom, XmlReadError> {
-    match v {
+pub fn parse_xml(
+    alloc: Global,
+    events: &Events,
+    version: SpecVersion,
+) -> Result<Bom, XmlReadError> {
+    match version {
         SpecVersion::V1_3 => Bom::parse_from_xml_v1_3(alloc, events),
         SpecVersion::V1_4 => Bom::parse_from_xml_v1_4(alloc, events),
         SpecVersion::V1_5 => Bom::parse_from_xml_v1_5(alloc, events),
     }
 }
 
-fn output_json(alloc: Global, bill: &Bom, w: SpecVersion) -> Result<Value, JsonWriteError> {
-    match w {
+fn output_json(alloc: Global, bill: &Bom, version: SpecVersion) -> Result<Value, JsonWriteError> {
+    match version {
         SpecVersion::V1_3 => bill.output_as_json_v1_3(alloc),
         SpecVersion::V1_4 => bill.output_as_json_v1_4(alloc),
         SpecVersion::V1_5 => bill.output_as_json_v1_5(alloc),
     }
 }
 
-fn output_xml(alloc: Global, bill: &Bom, w: SpecVersion) -> Result<Events, XmlWriteError> {
-    match w {
+fn output_xml(alloc: Global, bill: &Bom, version: SpecVersion) -> Result<Events, XmlWriteError> {
+    match version {
         SpecVersion::V1_3 => bill.output_as_xml_v1_3(alloc),
         SpecVersion::V1_4 => bill.output_as_xml_v1_4(alloc),
         SpecVersion::V1_5 => bill.output_as_xml_v1_5(alloc),
@@ -100,28 +108,28 @@ pub fn shown(alloc: Global, bill: &Bom) -> Result<String, AllocError> {
     written(alloc, bill, Hop { form, version })
 }
 
-fn read_xml(alloc: Global, line: &str, v: SpecVersion) -> Result<String, Fail> {
+fn read_xml(alloc: Global, line: &str, version: SpecVersion) -> Result<String, Fail> {
     let events = document(alloc, line)?;
-    match parse_xml(alloc, &events, v) {
+    match parse_xml(alloc, &events, version) {
         Ok(bill) => Ok(shown(alloc, &bill)?),
         Err(error) => Ok(of_xml(alloc, &error)?),
     }
 }
 
-fn read_json(alloc: Global, text: &str, v: SpecVersion) -> Result<String, Fail> {
+fn read_json(alloc: Global, text: &str, version: SpecVersion) -> Result<String, Fail> {
     let value = Value::from_str(alloc, text)?;
-    match parse_json(alloc, &value, v) {
+    match parse_json(alloc, &value, version) {
         Ok(bill) => Ok(shown(alloc, &bill)?),
         Err(error) => Ok(of_json(alloc, &error)?),
     }
 }
 
 /// What a version reads of the document, as JSON of 1.5, or the fault.
-pub fn read(alloc: Global, text: &str, v: SpecVersion) -> Result<String, Fail> {
+pub fn read(alloc: Global, text: &str, version: SpecVersion) -> Result<String, Fail> {
     if text.starts_with("start|") {
-        return read_xml(alloc, text, v);
+        return read_xml(alloc, text, version);
     }
-    read_json(alloc, text, v)
+    read_json(alloc, text, version)
 }
 
 /// What 1.5 reads of the short document.

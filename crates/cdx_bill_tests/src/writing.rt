@@ -45,9 +45,9 @@ fn every_field(rt: HostRuntime) -> Result<(), Fail> {
 }
 
 // The events that a bill appends to a writer.
-fn appended(alloc: Global, bill: &Bom, w: SpecVersion) -> Result<String, Fail> {
+fn appended(alloc: Global, bill: &Bom, version: SpecVersion) -> Result<String, Fail> {
     let mut writer = EventWriter::new(alloc);
-    bill.write_xml_element(alloc, &mut writer, w)?;
+    bill.write_xml_element(alloc, &mut writer, version)?;
     Ok(line_of(alloc, writer.finish()?.into_list().as_slice())?)
 }
 
@@ -67,10 +67,10 @@ fn into_writers(rt: HostRuntime) -> Result<(), Fail> {
 fn put_json(
     alloc: Global,
     bill: &Bom,
-    w: SpecVersion,
+    version: SpecVersion,
     sink: &mut MemorySink,
 ) -> Result<String, AllocError> {
-    match bill.write_json(alloc, w, sink) {
+    match bill.write_json(alloc, version, sink) {
         Ok(()) => String::from_str(alloc, "whole"),
         Err(error) => of_json_writing(alloc, &error),
     }
@@ -80,10 +80,10 @@ fn put_json(
 fn put_xml(
     alloc: Global,
     bill: &Bom,
-    w: SpecVersion,
+    version: SpecVersion,
     sink: &mut MemoryEventSink,
 ) -> Result<String, AllocError> {
-    match bill.write_xml_events(alloc, w, sink) {
+    match bill.write_xml_events(alloc, version, sink) {
         Ok(()) => String::from_str(alloc, "whole"),
         Err(error) => of_xml_writing(alloc, &error),
     }

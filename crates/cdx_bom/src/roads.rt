@@ -37,12 +37,12 @@ pub fn one_document()
 {}
 
 // The bill that the document denotes, or its first fault.
-fn bill_of(alloc: Global, doc: &Doc, v: SpecVersion) -> Result<Bom, RoadError>
-    ensures { (x : roads.Doc) → IsDoc doc.now x → Denotes (roads.denotes x v) result }
+fn bill_of(alloc: Global, doc: &Doc, version: SpecVersion) -> Result<Bom, RoadError>
+    ensures { (x : roads.Doc) → IsDoc doc.now x → Denotes (roads.denotes x version) result }
 {
     match doc {
-        Doc::Json(value) => Ok(Bom::parse_json(alloc, value, v)?),
-        Doc::Xml(events) => Ok(Bom::read_xml_document(alloc, events, v)?),
+        Doc::Json(value) => Ok(Bom::parse_json(alloc, value, version)?),
+        Doc::Xml(events) => Ok(Bom::read_xml_document(alloc, events, version)?),
     }
 }
 
@@ -72,10 +72,11 @@ fn spell_freed(alloc: Global, bill: Bom, hop: Hop) -> Result<Doc, AllocError>
 }
 
 // The document that a hop makes of the one before it, which stands in the version.
-fn rewrite(alloc: Global, doc: &Doc, v: SpecVersion, hop: Hop) -> Result<Doc, RoadError>
-    ensures { (x : roads.Doc) → IsDoc doc.now x → AnswersDoc (rewritten x v (hop_of hop)) result }
+fn rewrite(alloc: Global, doc: &Doc, version: SpecVersion, hop: Hop) -> Result<Doc, RoadError>
+    ensures { (x : roads.Doc) → IsDoc doc.now x
+        → AnswersDoc (rewritten x version (hop_of hop)) result }
 {
-    let before = bill_of(alloc, doc, v)?;
+    let before = bill_of(alloc, doc, version)?;
     Ok(spell_freed(alloc, before, hop)?)
 }
 

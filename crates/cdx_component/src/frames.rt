@@ -121,9 +121,9 @@ impl Nested for ComponentFrame {
         }
     }
 
-    fn find(&self, v: SpecVersion, name: &OwnedName) -> Found {
+    fn find(&self, version: SpecVersion, name: &OwnedName) -> Found {
         match self {
-            ComponentFrame::Component(_) => find_in_component(v, name),
+            ComponentFrame::Component(_) => find_in_component(version, name),
             ComponentFrame::Components(_) => find_in_list(name),
             ComponentFrame::Pedigree(_) => find_in_pedigree(name),
         }

@@ -84,8 +84,9 @@ pub trait Frame: Drop {
             opened.now.place) result };
 
     /// The child that `v` knows by the name.
-    fn find(&self, v: SpecVersion, name: &OwnedName) -> Found
-        ensures { result ≡ found_from 0 plan.children (slots self.now) v name.now.local_name };
+    fn find(&self, version: SpecVersion, name: &OwnedName) -> Found
+        ensures { result
+            ≡ found_from 0 plan.children (slots self.now) version name.now.local_name };
 
     /// Puts what a child was read as into its field.
     fn put(
@@ -136,7 +137,7 @@ pub fn boxed<T: Drop>(alloc: Global, value: T) -> Result<Box<T>, AllocError>
 // Takes the start of a child of the element of this local name, at this place.
 fn enter<F: Frame>(
     alloc: Global,
-    v: SpecVersion,
+    version: SpecVersion,
     element: &Text,
     part: &F,
     place: usize,
@@ -145,16 +146,16 @@ fn enter<F: Frame>(
     attributes: &List<OwnedAttribute>,
 ) -> Result<Inside<Box<F::Child>>, XmlReadError>
     ensures { Enters (reads_boxed F.plan F.Child.position_of F.Child.holds) F.plan
-        (F.slots part.now) v element.now place event.now name.now attributes.now result }
+        (F.slots part.now) version element.now place event.now name.now attributes.now result }
 {
-    match part.find(v, name) {
+    match part.find(version, name) {
         Found::At(position) => {
             let child = F::Child::start(
                 position,
                 &Start {
                     alloc,
                     place,
-                    version: v,
+                    version,
                     element: name,
                     attributes,
                 },

@@ -83,7 +83,7 @@ impl<L: ListOf> Frame for Items<L> {
         })
     }
 
-    fn find(&self, _v: SpecVersion, name: &OwnedName) -> Found {
+    fn find(&self, _version: SpecVersion, name: &OwnedName) -> Found {
         if name.local_name.is(L::inner()) {
             return Found::At(0);
         }

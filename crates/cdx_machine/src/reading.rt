@@ -13,19 +13,19 @@ use std::alloc::Global;
 pub fn read_by_machine<M: Machine>(
     alloc: Global,
     reader: &mut EventReader<'_>,
-    v: SpecVersion,
+    version: SpecVersion,
     element: &OwnedName,
     attributes: &List<OwnedAttribute>,
 ) -> Result<M::Value, XmlReadError>
     requires inside { IsIn reader.old element.now }
     requires kind { IsNoBill M.kind }
-    ensures { ReadsAs M.tree reader.old reader.new element.now attributes.now v M.kind
+    ensures { ReadsAs M.tree reader.old reader.new element.now attributes.now version M.kind
         (λ d. d) result }
 {
     let mut machine = M::start(&Start {
         alloc,
         place: reader.place() - 1,
-        version: v,
+        version,
         element,
         attributes,
     })?;

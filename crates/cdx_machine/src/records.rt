@@ -20,9 +20,13 @@ pub trait PushRecord {
     type Child: Machines;
 
     /// The child that `v` knows by the name.
-    fn find(part: &<Self::Record as XmlRecord>::Part, v: SpecVersion, name: &OwnedName) -> Found
+    fn find(
+        part: &<Self::Record as XmlRecord>::Part,
+        version: SpecVersion,
+        name: &OwnedName,
+    ) -> Found
         ensures { result ≡ found_from 0 (record_plan Self.Record.name).children
-            (Self.Record.Part.slots part.now) v name.now.local_name };
+            (Self.Record.Part.slots part.now) version name.now.local_name };
 
     /// Puts what a child was read as into its field.
     fn put(
@@ -83,8 +87,8 @@ impl<K: PushRecord> Frame for BegunRecord<K> {
         })
     }
 
-    fn find(&self, v: SpecVersion, name: &OwnedName) -> Found {
-        K::find(&self.part, v, name)
+    fn find(&self, version: SpecVersion, name: &OwnedName) -> Found {
+        K::find(&self.part, version, name)
     }
 
     fn put(

@@ -165,11 +165,11 @@ impl Nested for NestFrame {
         }
     }
 
-    fn find(&self, v: SpecVersion, name: &OwnedName) -> Found {
+    fn find(&self, version: SpecVersion, name: &OwnedName) -> Found {
         match self {
-            NestFrame::Component(frame) => frame.find(v, name),
-            NestFrame::Service(frame) => frame.find(v, name),
-            NestFrame::Tools(_) => find_in_tools(v, name),
+            NestFrame::Component(frame) => frame.find(version, name),
+            NestFrame::Service(frame) => frame.find(version, name),
+            NestFrame::Tools(_) => find_in_tools(version, name),
             NestFrame::Metadata(_) => find_in_metadata(name),
         }
     }

@@ -58,15 +58,15 @@ impl NestMachine {
     pub fn open(
         alloc: Global,
         kind: NestKind,
-        v: SpecVersion,
+        version: SpecVersion,
         place: usize,
         depth: Depth,
         element: &OwnedName,
         attributes: &List<OwnedAttribute>,
     ) -> Result<NestMachine, XmlReadError>
-        ensures made { IfOk result (λ m. (m.kind ≡ kind) × (m.v ≡ v) × (m.place ≡ place)
+        ensures made { IfOk result (λ m. (m.kind ≡ kind) × (m.v ≡ version) × (m.place ≡ place)
             × (m.depth ≡ depth) × IsListening m.machine) }
-        ensures opens { (s : Namespace) → OpensAs ⟦<NestMachine as Listener>⟧.heard v
+        ensures opens { (s : Namespace) → OpensAs ⟦<NestMachine as Listener>⟧.heard version
             (nest_kind kind) place (depth_of depth)
             (StartElement element.now attributes.now s ∷ []) result }
     {
@@ -76,7 +76,7 @@ impl NestMachine {
             &Start {
                 alloc,
                 place,
-                version: v,
+                version,
                 element,
                 attributes,
             },
@@ -84,7 +84,7 @@ impl NestMachine {
         Ok(NestMachine {
             kind,
             place,
-            v,
+            v: version,
             depth,
             machine: Some(machine),
         })

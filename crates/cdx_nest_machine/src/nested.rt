@@ -74,9 +74,9 @@ pub trait Nested: Drop {
             opened.now.version opened.now.place) result };
 
     /// The child that `v` knows by the name.
-    fn find(&self, v: SpecVersion, name: &OwnedName) -> Found
+    fn find(&self, version: SpecVersion, name: &OwnedName) -> Found
         ensures { result ≡ found_from 0 (plan_of (as_kind (sort_of self.now))).children
-            (fields self.now) v name.now.local_name };
+            (fields self.now) version name.now.local_name };
 
     /// What reads the child of the position.
     fn child(&self, position: usize) -> Reads<<Self::Leaf as Leaves>::Sort, Self::Sort>

@@ -12,16 +12,16 @@ pub fn read(
     alloc: Global,
     events: &Events,
     kind: NestKind,
-    v: SpecVersion,
+    version: SpecVersion,
 ) -> Result<NestValue, XmlReadError> {
     match kind {
-        NestKind::Tools => Ok(NestValue::Tools(read_root(alloc, events, v)?)),
-        NestKind::Component => Ok(NestValue::Component(read_root(alloc, events, v)?)),
-        NestKind::Components => Ok(NestValue::Components(read_root(alloc, events, v)?)),
-        NestKind::Pedigree => Ok(NestValue::Pedigree(read_root(alloc, events, v)?)),
-        NestKind::Service => Ok(NestValue::Service(read_root(alloc, events, v)?)),
-        NestKind::Services => Ok(NestValue::Services(read_root(alloc, events, v)?)),
-        NestKind::Metadata => Ok(NestValue::Metadata(read_root(alloc, events, v)?)),
+        NestKind::Tools => Ok(NestValue::Tools(read_root(alloc, events, version)?)),
+        NestKind::Component => Ok(NestValue::Component(read_root(alloc, events, version)?)),
+        NestKind::Components => Ok(NestValue::Components(read_root(alloc, events, version)?)),
+        NestKind::Pedigree => Ok(NestValue::Pedigree(read_root(alloc, events, version)?)),
+        NestKind::Service => Ok(NestValue::Service(read_root(alloc, events, version)?)),
+        NestKind::Services => Ok(NestValue::Services(read_root(alloc, events, version)?)),
+        NestKind::Metadata => Ok(NestValue::Metadata(read_root(alloc, events, version)?)),
     }
 }
 
@@ -30,9 +30,9 @@ pub fn answered(
     alloc: Global,
     events: &Events,
     kind: NestKind,
-    v: SpecVersion,
+    version: SpecVersion,
 ) -> Result<String, AllocError> {
-    match read(alloc, events, kind, v) {
+    match read(alloc, events, kind, version) {
         Ok(_) => String::from_str(alloc, "done"),
         Err(fault) => of_xml(alloc, &fault),
     }

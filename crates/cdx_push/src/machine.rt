@@ -52,22 +52,22 @@ impl LeafMachine {
     pub fn open(
         alloc: Global,
         kind: LeafKind,
-        v: SpecVersion,
+        version: SpecVersion,
         place: usize,
         element: &OwnedName,
         attributes: &List<OwnedAttribute>,
     ) -> Result<LeafMachine, XmlReadError>
-        ensures made { IfOk result (λ m. (m.kind ≡ kind) × (m.v ≡ v) × (m.place ≡ place)
+        ensures made { IfOk result (λ m. (m.kind ≡ kind) × (m.v ≡ version) × (m.place ≡ place)
             × IsListening m.machine) }
-        ensures opens { (s : Namespace) → OpensAs ⟦<LeafMachine as Listener>⟧.heard v (kind_of kind)
-            place top (StartElement element.now attributes.now s ∷ []) result }
+        ensures opens { (s : Namespace) → OpensAs ⟦<LeafMachine as Listener>⟧.heard version
+            (kind_of kind) place top (StartElement element.now attributes.now s ∷ []) result }
     {
         let machine = Leaf::start(
             kind,
             &Start {
                 alloc,
                 place,
-                version: v,
+                version,
                 element,
                 attributes,
             },
@@ -75,7 +75,7 @@ impl LeafMachine {
         Ok(LeafMachine {
             kind,
             place,
-            v,
+            v: version,
             machine: Some(machine),
         })
     }

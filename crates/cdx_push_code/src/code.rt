@@ -56,7 +56,7 @@ impl PushRecord for IdentifiableActionChildren {
 
     ghost kinds = { action_kinds };
 
-    fn find(_part: &IdentifiableAction, _v: SpecVersion, name: &OwnedName) -> Found {
+    fn find(_part: &IdentifiableAction, _version: SpecVersion, name: &OwnedName) -> Found {
         match name.local_name.as_str() {
             "timestamp" => Found::At(0),
             "name" => Found::At(1),
@@ -132,7 +132,7 @@ impl PushRecord for CommitChildren {
 
     ghost kinds = { commit_kinds };
 
-    fn find(_part: &Commit, _v: SpecVersion, name: &OwnedName) -> Found {
+    fn find(_part: &Commit, _version: SpecVersion, name: &OwnedName) -> Found {
         match name.local_name.as_str() {
             "uid" => Found::At(0),
             "url" => Found::At(1),

@@ -57,7 +57,7 @@ impl PushRecord for DiffChildren {
 
     ghost kinds = { diff_kinds };
 
-    fn find(_part: &Diff, _v: SpecVersion, name: &OwnedName) -> Found {
+    fn find(_part: &Diff, _version: SpecVersion, name: &OwnedName) -> Found {
         match name.local_name.as_str() {
             "text" => Found::At(0),
             "url" => Found::At(1),
@@ -125,7 +125,7 @@ impl PushRecord for SourceChildren {
 
     ghost kinds = { source_kinds };
 
-    fn find(_part: &Source, _v: SpecVersion, name: &OwnedName) -> Found {
+    fn find(_part: &Source, _version: SpecVersion, name: &OwnedName) -> Found {
         match name.local_name.as_str() {
             "name" => Found::At(0),
             "url" => Found::At(1),
@@ -192,7 +192,7 @@ impl PushRecord for IssueChildren {
 
     ghost kinds = { issue_kinds };
 
-    fn find(_part: &Issue, _v: SpecVersion, name: &OwnedName) -> Found {
+    fn find(_part: &Issue, _version: SpecVersion, name: &OwnedName) -> Found {
         match name.local_name.as_str() {
             "id" => Found::At(0),
             "name" => Found::At(1),
@@ -327,7 +327,7 @@ impl PushRecord for PatchChildren {
 
     ghost kinds = { patch_kinds };
 
-    fn find(_part: &Patch, _v: SpecVersion, name: &OwnedName) -> Found {
+    fn find(_part: &Patch, _version: SpecVersion, name: &OwnedName) -> Found {
         match name.local_name.as_str() {
             "diff" => Found::At(0),
             "resolves" => Found::At(1),

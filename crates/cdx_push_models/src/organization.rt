@@ -55,7 +55,7 @@ impl PushRecord for ContactChildren {
 
     ghost kinds = { contact_kinds };
 
-    fn find(_part: &OrganizationalContact, _v: SpecVersion, name: &OwnedName) -> Found {
+    fn find(_part: &OrganizationalContact, _version: SpecVersion, name: &OwnedName) -> Found {
         match name.local_name.as_str() {
             "name" => Found::At(0),
             "email" => Found::At(1),
@@ -131,7 +131,7 @@ impl PushRecord for EntityChildren {
 
     ghost kinds = { entity_kinds };
 
-    fn find(_part: &OrganizationalEntity, _v: SpecVersion, name: &OwnedName) -> Found {
+    fn find(_part: &OrganizationalEntity, _version: SpecVersion, name: &OwnedName) -> Found {
         match name.local_name.as_str() {
             "name" => Found::At(0),
             "url" => Found::At(1),

@@ -58,7 +58,7 @@ impl PushRecord for ReferenceChildren {
 
     fn find(
         _part: &<ExternalReference as XmlRecord>::Part,
-        _v: SpecVersion,
+        _version: SpecVersion,
         name: &OwnedName,
     ) -> Found {
         match name.local_name.as_str() {
@@ -203,14 +203,14 @@ impl PushRecord for ToolChildren {
 
     ghost kinds = { tool_kinds };
 
-    fn find(_part: &Tool, v: SpecVersion, name: &OwnedName) -> Found {
+    fn find(_part: &Tool, version: SpecVersion, name: &OwnedName) -> Found {
         match name.local_name.as_str() {
             "vendor" => Found::At(0),
             "name" => Found::At(1),
             "version" => Found::At(2),
             "hashes" => Found::At(3),
             "externalReferences" => {
-                if !SpecVersion::V1_4.is_known_to(v) {
+                if !SpecVersion::V1_4.is_known_to(version) {
                     return Found::Unknown;
                 }
                 Found::At(4)

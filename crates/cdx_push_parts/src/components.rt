@@ -66,7 +66,7 @@ impl PushRecord for SwidChildren {
 
     ghost kinds = { swid_kinds };
 
-    fn find(_part: &Swid, _v: SpecVersion, name: &OwnedName) -> Found {
+    fn find(_part: &Swid, _version: SpecVersion, name: &OwnedName) -> Found {
         match name.local_name.as_str() {
             "text" => Found::At(0),
             "url" => Found::At(1),
@@ -198,7 +198,7 @@ impl PushRecord for ComponentEvidenceChildren {
 
     ghost kinds = { evidence_kinds };
 
-    fn find(_part: &ComponentEvidence, _v: SpecVersion, name: &OwnedName) -> Found {
+    fn find(_part: &ComponentEvidence, _version: SpecVersion, name: &OwnedName) -> Found {
         match name.local_name.as_str() {
             "licenses" => Found::At(0),
             "copyright" => Found::At(1),

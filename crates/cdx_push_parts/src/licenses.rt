@@ -217,7 +217,7 @@ impl PushRecord for LicenseChildren {
 
     ghost kinds = { license_kinds };
 
-    fn find(part: &LicensePart, v: SpecVersion, name: &OwnedName) -> Found {
+    fn find(part: &LicensePart, version: SpecVersion, name: &OwnedName) -> Found {
         match name.local_name.as_str() {
             "id" => {
                 if part.license_identifier.is_some() {
@@ -234,7 +234,7 @@ impl PushRecord for LicenseChildren {
             "text" => Found::At(2),
             "url" => Found::At(3),
             "properties" => {
-                if !SpecVersion::V1_5.is_known_to(v) {
+                if !SpecVersion::V1_5.is_known_to(version) {
                     return Found::Unknown;
                 }
                 Found::At(4)
@@ -429,7 +429,7 @@ impl Frame for BegunLicenses {
         })
     }
 
-    fn find(&self, _v: SpecVersion, name: &OwnedName) -> Found {
+    fn find(&self, _version: SpecVersion, name: &OwnedName) -> Found {
         match name.local_name.as_str() {
             "license" => Found::At(0),
             "expression" => Found::At(1),

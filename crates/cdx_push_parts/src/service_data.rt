@@ -28,7 +28,7 @@ impl PushRecord for ServiceDataChildren {
 
     ghost kinds = { service_data_kinds };
 
-    fn find(_part: &ServiceDataPart, _v: SpecVersion, name: &OwnedName) -> Found {
+    fn find(_part: &ServiceDataPart, _version: SpecVersion, name: &OwnedName) -> Found {
         match name.local_name.as_str() {
             "classification" => Found::At(0),
             _ => Found::Unknown,
@@ -124,8 +124,8 @@ impl Frame for BegunEntry {
         })
     }
 
-    fn find(&self, v: SpecVersion, name: &OwnedName) -> Found {
-        ServiceDataChildren::find(&self.part, v, name)
+    fn find(&self, version: SpecVersion, name: &OwnedName) -> Found {
+        ServiceDataChildren::find(&self.part, version, name)
     }
 
     fn put(&mut self, alloc: Global, value: DataClassification) -> Result<(), AllocError> {
@@ -224,11 +224,11 @@ impl Frame for BegunData {
         })
     }
 
-    fn find(&self, v: SpecVersion, name: &OwnedName) -> Found {
+    fn find(&self, version: SpecVersion, name: &OwnedName) -> Found {
         match name.local_name.as_str() {
             "classification" => Found::At(0),
             "dataflow" => {
-                if !SpecVersion::V1_5.is_known_to(v) {
+                if !SpecVersion::V1_5.is_known_to(version) {
                     return Found::Unknown;
                 }
                 Found::At(1)

@@ -56,12 +56,12 @@ fn is_end(event: &XmlEvent) -> bool
 }
 
 impl<M: RootMachine> Gathering<M> {
-    fn new(alloc: Global, v: SpecVersion) -> Gathering<M>
+    fn new(alloc: Global, version: SpecVersion) -> Gathering<M>
         ensures gathered { Gathered M.holds M.tree result [] }
-        ensures version { result.hearing.version ≡ v }
+        ensures version { result.hearing.version ≡ version }
     {
         Gathering {
-            hearing: Hearing::new(alloc, v),
+            hearing: Hearing::new(alloc, version),
             found: Found::Nothing,
         }
     }

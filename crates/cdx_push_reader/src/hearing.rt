@@ -48,13 +48,13 @@ impl<M: RootMachine> Drop for Hearing<M> {
 }
 
 impl<M: RootMachine> Hearing<M> {
-    pub(crate) fn new(alloc: Global, v: SpecVersion) -> Hearing<M>
+    pub(crate) fn new(alloc: Global, version: SpecVersion) -> Hearing<M>
         ensures hears { Hears M.holds M.tree result [] }
-        ensures version { result.version ≡ v }
+        ensures version { result.version ≡ version }
     {
         Hearing {
             alloc,
-            version: v,
+            version,
             balance: Balance::new(alloc),
             stage: Stage::Before,
         }

@@ -45,15 +45,15 @@ impl<M: RootMachine> Drop for DocumentReader<M> {
 
 impl<M: RootMachine> DocumentReader<M> {
     /// A reader of documents of version `v` that was fed nothing yet. It takes no memory.
-    pub fn new(alloc: Global, v: SpecVersion) -> DocumentReader<M>
+    pub fn new(alloc: Global, version: SpecVersion) -> DocumentReader<M>
         ensures heard { heard M.holds M.tree result [] }
-        ensures version { version_of result ≡ v }
+        ensures version { version_of result ≡ version }
         ensures sound { is_spent result ≡ false }
         ensures fault { fault_of result ≡ None }
     {
         DocumentReader {
             fed: 0,
-            hearing: Hearing::new(alloc, v),
+            hearing: Hearing::new(alloc, version),
             refused: None,
             spent: None,
         }

@@ -30,12 +30,12 @@ fn check_name(alloc: Global, name: &OwnedName) -> Result<(), XmlReadError>
 // Goes on from before the root. Its name is asked first, then its default namespace, then the rest of its start.
 pub(crate) fn begin<M: RootMachine>(
     alloc: Global,
-    v: SpecVersion,
+    version: SpecVersion,
     place: usize,
     event: &XmlEvent,
 ) -> Result<Stage<M, M::Value>, XmlReadError>
-    ensures { Moves M.holds M.tree v Stage.Before place event.now
-        (λ events stage. Stands M.holds M.tree v stage events) result }
+    ensures { Moves M.holds M.tree version Stage.Before place event.now
+        (λ events stage. Stands M.holds M.tree version stage events) result }
 {
     match event {
         XmlEvent::StartElement {
@@ -44,11 +44,11 @@ pub(crate) fn begin<M: RootMachine>(
             namespace,
         } => {
             check_name(alloc, name)?;
-            expected_namespace_or_error(alloc, v, namespace)?;
+            expected_namespace_or_error(alloc, version, namespace)?;
             let machine = M::start(&Start {
                 alloc,
                 place,
-                version: v,
+                version,
                 element: name,
                 attributes,
             })?;

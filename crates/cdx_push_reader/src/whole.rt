@@ -15,13 +15,13 @@ use std::alloc::Global;
 pub fn read_fed<M: RootMachine>(
     alloc: Global,
     events: &Events,
-    v: SpecVersion,
+    version: SpecVersion,
 ) -> Result<M::Value, XmlReadError>
-    ensures reads { ReadsDocument M.tree events.now.list v result }
+    ensures reads { ReadsDocument M.tree events.now.list version result }
     ensures shallow { IfOk result (λ b. IsShallow (M.tree b)) }
     ensures faults { IfErr result IsRefusal }
 {
-    let mut reader: DocumentReader<M> = DocumentReader::new(alloc, v);
+    let mut reader: DocumentReader<M> = DocumentReader::new(alloc, version);
     let _ = reader.feed(events.as_slice());
     reader.finish()
 }

@@ -15,8 +15,8 @@ pub struct Fed {
 }
 
 /// Feeds the pieces to a new reader of bills of version `v`, whatever it answers to the ones before.
-pub fn feed_each(alloc: Global, v: SpecVersion, pieces: &[&[XmlEvent]]) -> Result<Fed, Fail> {
-    let mut reader = PushReader::new(alloc, v);
+pub fn feed_each(alloc: Global, version: SpecVersion, pieces: &[&[XmlEvent]]) -> Result<Fed, Fail> {
+    let mut reader = PushReader::new(alloc, version);
     let mut answers = Vec::new(alloc);
     let mut count = 0usize;
     'pieces: for piece in pieces {

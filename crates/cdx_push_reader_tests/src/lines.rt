@@ -27,8 +27,12 @@ fn finished(alloc: Global, fed: Fed) -> Result<String, Fail> {
 
 /// What a reader of bills of version `v` answers to each of the pieces, each with ` / ` after it, and what it comes to
 /// then: the bill as JSON of 1.5, or the fault.
-pub fn answered(alloc: Global, v: SpecVersion, pieces: &[&[XmlEvent]]) -> Result<String, Fail> {
-    let fed = feed_each(alloc, v, pieces)?;
+pub fn answered(
+    alloc: Global,
+    version: SpecVersion,
+    pieces: &[&[XmlEvent]],
+) -> Result<String, Fail> {
+    let fed = feed_each(alloc, version, pieces)?;
     let mut line = String::new(alloc);
     for answer in &fed.answers {
         line.push_str(answer.as_str())?;

@@ -84,7 +84,7 @@ impl Frame for BegunReference {
         })
     }
 
-    fn find(&self, _v: SpecVersion, _name: &OwnedName) -> Found {
+    fn find(&self, _version: SpecVersion, _name: &OwnedName) -> Found {
         Found::Unknown
     }
 

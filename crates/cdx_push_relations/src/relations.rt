@@ -60,7 +60,7 @@ impl PushRecord for DependencyChildren {
 
     ghost kinds = { dependency_kinds };
 
-    fn find(_part: &Dependency, _v: SpecVersion, name: &OwnedName) -> Found {
+    fn find(_part: &Dependency, _version: SpecVersion, name: &OwnedName) -> Found {
         match name.local_name.as_str() {
             "dependency" => Found::At(0),
             _ => Found::Unknown,
@@ -373,19 +373,23 @@ impl PushRecord for CompositionChildren {
 
     ghost kinds = { composition_kinds };
 
-    fn find(_part: &<Composition as XmlRecord>::Part, v: SpecVersion, name: &OwnedName) -> Found {
+    fn find(
+        _part: &<Composition as XmlRecord>::Part,
+        version: SpecVersion,
+        name: &OwnedName,
+    ) -> Found {
         match name.local_name.as_str() {
             "aggregate" => Found::At(0),
             "assemblies" => Found::At(1),
             "dependencies" => Found::At(2),
             "vulnerabilities" => {
-                if !SpecVersion::V1_5.is_known_to(v) {
+                if !SpecVersion::V1_5.is_known_to(version) {
                     return Found::Unknown;
                 }
                 Found::At(3)
             }
             "signature" => {
-                if !SpecVersion::V1_4.is_known_to(v) {
+                if !SpecVersion::V1_4.is_known_to(version) {
                     return Found::Unknown;
                 }
                 Found::At(4)

@@ -57,7 +57,7 @@ impl PushRecord for SignerChildren {
 
     ghost kinds = { signer_kinds };
 
-    fn find(_part: &SignerPart, _v: SpecVersion, name: &OwnedName) -> Found {
+    fn find(_part: &SignerPart, _version: SpecVersion, name: &OwnedName) -> Found {
         match name.local_name.as_str() {
             "algorithm" => Found::At(0),
             "value" => Found::At(1),
@@ -156,7 +156,7 @@ impl Frame for BegunSigners {
         })
     }
 
-    fn find(&self, _v: SpecVersion, name: &OwnedName) -> Found {
+    fn find(&self, _version: SpecVersion, name: &OwnedName) -> Found {
         match name.local_name.as_str() {
             "signer" => Found::At(0),
             _ => Found::Unknown,
@@ -257,7 +257,7 @@ impl Frame for BegunChain {
         })
     }
 
-    fn find(&self, _v: SpecVersion, name: &OwnedName) -> Found {
+    fn find(&self, _version: SpecVersion, name: &OwnedName) -> Found {
         match name.local_name.as_str() {
             "chain" => Found::At(0),
             _ => Found::Unknown,
@@ -366,7 +366,7 @@ impl Frame for BegunSignature {
         })
     }
 
-    fn find(&self, _v: SpecVersion, name: &OwnedName) -> Found {
+    fn find(&self, _version: SpecVersion, name: &OwnedName) -> Found {
         match name.local_name.as_str() {
             "signers" => Found::At(0),
             "chain" => Found::At(1),

@@ -24,7 +24,7 @@ pub fn feed(
     alloc: Global,
     reader: &mut EventReader<'_>,
     kind: LeafKind,
-    v: SpecVersion,
+    version: SpecVersion,
     element: &OwnedName,
     attributes: &List<OwnedAttribute>,
     count: usize,
@@ -32,7 +32,7 @@ pub fn feed(
     requires inside { IsIn reader.old element.now }
 {
     let start = reader.place() - 1;
-    let mut machine = match LeafMachine::open(alloc, kind, v, start, element, attributes) {
+    let mut machine = match LeafMachine::open(alloc, kind, version, start, element, attributes) {
         Ok(machine) => machine,
         Err(error) => return Heard::Refused(error),
     };

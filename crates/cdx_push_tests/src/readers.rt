@@ -10,7 +10,7 @@ use std::alloc::Global;
 fn read_items<X: FromXml>(
     alloc: Global,
     events: &Events,
-    v: SpecVersion,
+    version: SpecVersion,
     inner: &str,
 ) -> Result<List<X>, XmlReadError> {
     let Root {
@@ -18,7 +18,7 @@ fn read_items<X: FromXml>(
         name,
         ..
     } = root_of(events);
-    read_list_tag(alloc, &mut reader, v, name, inner)
+    read_list_tag(alloc, &mut reader, version, name, inner)
 }
 
 // What the root is read as, as a kind of the first half.
@@ -26,25 +26,25 @@ fn read_first(
     alloc: Global,
     events: &Events,
     kind: LeafKind,
-    v: SpecVersion,
+    version: SpecVersion,
 ) -> Result<LeafValue, XmlReadError> {
     match kind {
-        LeafKind::Text => Ok(LeafValue::Text(read_root(alloc, events, v)?)),
-        LeafKind::Flag => Ok(LeafValue::Flag(read_root(alloc, events, v)?)),
-        LeafKind::AttachedText => Ok(LeafValue::AttachedText(read_root(alloc, events, v)?)),
+        LeafKind::Text => Ok(LeafValue::Text(read_root(alloc, events, version)?)),
+        LeafKind::Flag => Ok(LeafValue::Flag(read_root(alloc, events, version)?)),
+        LeafKind::AttachedText => Ok(LeafValue::AttachedText(read_root(alloc, events, version)?)),
         LeafKind::Endpoints => {
-            let endpoints = read_items(alloc, events, v, "endpoint")?;
+            let endpoints = read_items(alloc, events, version, "endpoint")?;
             Ok(LeafValue::Endpoints(endpoints))
         }
         LeafKind::Authors => {
-            let authors = read_items(alloc, events, v, "author")?;
+            let authors = read_items(alloc, events, version, "author")?;
             Ok(LeafValue::Authors(authors))
         }
-        LeafKind::Entity => Ok(LeafValue::Entity(read_root(alloc, events, v)?)),
-        LeafKind::Hashes => Ok(LeafValue::Hashes(read_root(alloc, events, v)?)),
-        LeafKind::Properties => Ok(LeafValue::Properties(read_root(alloc, events, v)?)),
-        LeafKind::Commits => Ok(LeafValue::Commits(read_root(alloc, events, v)?)),
-        _ => Ok(LeafValue::Patches(read_root(alloc, events, v)?)),
+        LeafKind::Entity => Ok(LeafValue::Entity(read_root(alloc, events, version)?)),
+        LeafKind::Hashes => Ok(LeafValue::Hashes(read_root(alloc, events, version)?)),
+        LeafKind::Properties => Ok(LeafValue::Properties(read_root(alloc, events, version)?)),
+        LeafKind::Commits => Ok(LeafValue::Commits(read_root(alloc, events, version)?)),
+        _ => Ok(LeafValue::Patches(read_root(alloc, events, version)?)),
     }
 }
 
@@ -53,21 +53,21 @@ pub fn read(
     alloc: Global,
     events: &Events,
     kind: LeafKind,
-    v: SpecVersion,
+    version: SpecVersion,
 ) -> Result<LeafValue, XmlReadError> {
     match kind {
         LeafKind::ExternalReferences => {
-            let references = read_root(alloc, events, v)?;
+            let references = read_root(alloc, events, version)?;
             Ok(LeafValue::ExternalReferences(references))
         }
-        LeafKind::Dependencies => Ok(LeafValue::Dependencies(read_root(alloc, events, v)?)),
-        LeafKind::Compositions => Ok(LeafValue::Compositions(read_root(alloc, events, v)?)),
-        LeafKind::Licenses => Ok(LeafValue::Licenses(read_root(alloc, events, v)?)),
-        LeafKind::Signature => Ok(LeafValue::Signature(read_root(alloc, events, v)?)),
-        LeafKind::Tool => Ok(LeafValue::Tool(read_root(alloc, events, v)?)),
-        LeafKind::Swid => Ok(LeafValue::Swid(read_root(alloc, events, v)?)),
-        LeafKind::Evidence => Ok(LeafValue::Evidence(read_root(alloc, events, v)?)),
-        LeafKind::Data => Ok(LeafValue::Data(read_root(alloc, events, v)?)),
-        _ => read_first(alloc, events, kind, v),
+        LeafKind::Dependencies => Ok(LeafValue::Dependencies(read_root(alloc, events, version)?)),
+        LeafKind::Compositions => Ok(LeafValue::Compositions(read_root(alloc, events, version)?)),
+        LeafKind::Licenses => Ok(LeafValue::Licenses(read_root(alloc, events, version)?)),
+        LeafKind::Signature => Ok(LeafValue::Signature(read_root(alloc, events, version)?)),
+        LeafKind::Tool => Ok(LeafValue::Tool(read_root(alloc, events, version)?)),
+        LeafKind::Swid => Ok(LeafValue::Swid(read_root(alloc, events, version)?)),
+        LeafKind::Evidence => Ok(LeafValue::Evidence(read_root(alloc, events, version)?)),
+        LeafKind::Data => Ok(LeafValue::Data(read_root(alloc, events, version)?)),
+        _ => read_first(alloc, events, kind, version),
     }
 }

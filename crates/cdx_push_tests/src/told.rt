@@ -19,14 +19,20 @@ pub fn kind_of(name: &str) -> Result<LeafKind, Fail> {
 }
 
 /// What a machine makes of the first `count` events of the document's root.
-pub fn fed(alloc: Global, events: &Events, kind: LeafKind, v: SpecVersion, count: usize) -> Heard {
+pub fn fed(
+    alloc: Global,
+    events: &Events,
+    kind: LeafKind,
+    version: SpecVersion,
+    count: usize,
+) -> Heard {
     let Root {
         mut reader,
         name,
         attributes,
         ..
     } = root_of(events);
-    feed(alloc, &mut reader, kind, v, name, attributes, count)
+    feed(alloc, &mut reader, kind, version, name, attributes, count)
 }
 
 /// `more`, `done`, or the fault in one line.

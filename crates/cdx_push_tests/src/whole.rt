@@ -80,12 +80,12 @@ fn read_alike(
     alloc: Global,
     events: &Events,
     kind: LeafKind,
-    v: SpecVersion,
+    version: SpecVersion,
 ) -> Result<&'static str, Fail> {
-    let Heard::Done(value) = fed(alloc, events, kind, v, usize::MAX) else {
+    let Heard::Done(value) = fed(alloc, events, kind, version, usize::MAX) else {
         return Ok("not read by the machine");
     };
-    let wanted = read(alloc, events, kind, v)?;
+    let wanted = read(alloc, events, kind, version)?;
     if !same(&value, &wanted) {
         return Ok("another than the reader's");
     }
@@ -113,9 +113,9 @@ fn answered(
     alloc: Global,
     events: &Events,
     kind: LeafKind,
-    v: SpecVersion,
+    version: SpecVersion,
 ) -> Result<String, Fail> {
-    match read(alloc, events, kind, v) {
+    match read(alloc, events, kind, version) {
         Ok(_) => Ok(String::from_str(alloc, "done")?),
         Err(fault) => Ok(of_xml(alloc, &fault)?),
     }

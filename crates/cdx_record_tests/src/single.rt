@@ -21,12 +21,17 @@ use std::test::Fail;
 fn reads<T: FromXml + ToJson>(
     rt: &impl Abort,
     alloc: Global,
-    v: SpecVersion,
+    version: SpecVersion,
     rows: &str,
 ) -> Result<(), Fail> {
     for line in rows.lines() {
         if let Some((element, wanted)) = row(line) {
-            row_is(rt, line, read::<T>(alloc, element, v)?.as_str(), wanted);
+            row_is(
+                rt,
+                line,
+                read::<T>(alloc, element, version)?.as_str(),
+                wanted,
+            );
         }
     }
     Ok(())
@@ -36,12 +41,12 @@ fn reads<T: FromXml + ToJson>(
 fn takes<T: FromJson + ToJson + Drop>(
     rt: &impl Abort,
     alloc: Global,
-    v: SpecVersion,
+    version: SpecVersion,
     rows: &str,
 ) -> Result<(), Fail> {
     for line in rows.lines() {
         if let Some((text, wanted)) = row(line) {
-            row_is(rt, line, again::<T>(alloc, text, v)?.as_str(), wanted);
+            row_is(rt, line, again::<T>(alloc, text, version)?.as_str(), wanted);
         }
     }
     Ok(())

@@ -76,13 +76,13 @@ impl Varied for Data {
 fn settled<T: Kept + Varied + Drop>(
     alloc: Global,
     held: &T,
-    v: SpecVersion,
+    version: SpecVersion,
 ) -> Result<&'static str, Fail> {
     let variant = held.variant();
     if held.copy(alloc)?.variant() != variant {
         return Ok("another in a copy");
     }
-    if held.kept(alloc, v)?.variant() != variant {
+    if held.kept(alloc, version)?.variant() != variant {
         return Ok("another where it is kept");
     }
     Ok(variant)

@@ -110,9 +110,9 @@ impl Nested for ServiceFrame {
         }
     }
 
-    fn find(&self, v: SpecVersion, name: &OwnedName) -> Found {
+    fn find(&self, version: SpecVersion, name: &OwnedName) -> Found {
         match self {
-            ServiceFrame::Service(_) => find_in_service(v, name),
+            ServiceFrame::Service(_) => find_in_service(version, name),
             ServiceFrame::Services(_) => {
                 if !name.local_name.is("service") {
                     return Found::Unknown;

@@ -21,7 +21,8 @@ fn read_service_element(
 ) -> Reading<Service>
     requires { IsIn reader.old opened.now.element.now }
     ensures { ReadsAs service_tree reader.old reader.new opened.now.element.now
-        opened.now.attributes.now opened.now.version (a_record service) (λ _. depth_of depth) result }
+        opened.now.attributes.now opened.now.version (a_record service)
+        (λ _. depth_of depth) result }
 {
     match read_element::<ServiceFrame>(reader, opened, ServiceKind::Service, depth)? {
         ServiceValue::Service(service) => Ok(service),
@@ -37,7 +38,8 @@ fn read_services_element(
 ) -> Reading<Services>
     requires { IsIn reader.old opened.now.element.now }
     ensures { ReadsAs services_tree reader.old reader.new opened.now.element.now
-        opened.now.attributes.now opened.now.version (a_list services) (λ _. depth_of depth) result }
+        opened.now.attributes.now opened.now.version (a_list services)
+        (λ _. depth_of depth) result }
 {
     match read_element::<ServiceFrame>(reader, opened, ServiceKind::Services, depth)? {
         ServiceValue::Services(services) => Ok(services),

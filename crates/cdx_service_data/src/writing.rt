@@ -97,11 +97,11 @@ fn any_flow(held: &List<ServiceData>) -> bool
 }
 
 /// Whether the version writes them as flows: it knows flows, and there is one. It takes no memory.
-fn has_flow(held: &List<ServiceData>, w: SpecVersion) -> bool
+fn has_flow(held: &List<ServiceData>, version: SpecVersion) -> bool
     ensures { result
-        ≡ (knows V1_5 w && list_any (λ x. is_some x.name || is_some x.description) held.now) }
+        ≡ (knows V1_5 version && list_any (λ x. is_some x.name || is_some x.description) held.now) }
 {
-    SpecVersion::V1_5.is_known_to(w) && any_flow(held)
+    SpecVersion::V1_5.is_known_to(version) && any_flow(held)
 }
 
 /// Appends the entries of what the version keeps. Only want of memory is refused; the writer then has a prefix of that.
@@ -146,9 +146,9 @@ impl ToXml for Data {
         &self,
         alloc: Global,
         writer: &mut EventWriter,
-        w: SpecVersion,
+        version: SpecVersion,
     ) -> Result<(), XmlWriteError> {
-        write_entries(writer, self, Target { alloc, version: w })
+        write_entries(writer, self, Target { alloc, version })
     }
 
     fn will_write(&self) -> bool {

@@ -68,9 +68,9 @@ impl ToXml for Signer {
         &self,
         alloc: Global,
         writer: &mut EventWriter,
-        w: SpecVersion,
+        version: SpecVersion,
     ) -> Result<(), XmlWriteError> {
-        self.write_rows(writer, Target { alloc, version: w })
+        self.write_rows(writer, Target { alloc, version })
     }
 
     fn will_write(&self) -> bool {

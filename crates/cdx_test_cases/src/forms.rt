@@ -40,24 +40,28 @@ pub fn chain(
 }
 
 /// What the text denotes in a version.
-pub fn held<T: FromJson + Drop>(alloc: Global, text: &str, v: SpecVersion) -> Result<T, Fail> {
+pub fn held<T: FromJson + Drop>(
+    alloc: Global,
+    text: &str,
+    version: SpecVersion,
+) -> Result<T, Fail> {
     let value = Value::from_str(alloc, text)?;
-    Ok(T::from_json(alloc, &value, v)?)
+    Ok(T::from_json(alloc, &value, version)?)
 }
 
-fn as_text<T: ToJson>(alloc: Global, held: &T, v: SpecVersion) -> Result<String, Fail> {
-    Ok(held.to_json(alloc, v)?.to_string(alloc)?)
+fn as_text<T: ToJson>(alloc: Global, held: &T, version: SpecVersion) -> Result<String, Fail> {
+    Ok(held.to_json(alloc, version)?.to_string(alloc)?)
 }
 
 /// What the text denotes in a version, written in it, or the fault.
 pub fn again<T: FromJson + ToJson + Drop>(
     alloc: Global,
     text: &str,
-    v: SpecVersion,
+    version: SpecVersion,
 ) -> Result<String, Fail> {
     let value = Value::from_str(alloc, text)?;
-    match T::from_json(alloc, &value, v) {
-        Ok(held) => as_text(alloc, &held, v),
+    match T::from_json(alloc, &value, version) {
+        Ok(held) => as_text(alloc, &held, version),
         Err(error) => Ok(of_json(alloc, &error)?),
     }
 }
@@ -66,10 +70,10 @@ pub fn again<T: FromJson + ToJson + Drop>(
 pub fn kept<T: FromJson + ToJson + Drop>(
     alloc: Global,
     text: &str,
-    v: SpecVersion,
+    version: SpecVersion,
 ) -> Result<String, Fail> {
     let held = held::<T>(alloc, text, V5)?;
-    as_text(alloc, &held.kept(alloc, v)?, V5)
+    as_text(alloc, &held.kept(alloc, version)?, V5)
 }
 
 // The document of one element, without its start and its end.
@@ -79,9 +83,9 @@ fn around(alloc: Global, line: &str) -> Result<Events, Fail> {
 }
 
 /// What the document denotes in a version.
-pub fn denoted<T: FromXml>(alloc: Global, line: &str, v: SpecVersion) -> Result<T, Fail> {
+pub fn denoted<T: FromXml>(alloc: Global, line: &str, version: SpecVersion) -> Result<T, Fail> {
     let events = around(alloc, line)?;
-    match read_root::<T>(alloc, &events, v) {
+    match read_root::<T>(alloc, &events, version) {
         Ok(held) => Ok(held),
         Err(error) => Err(Fail::from(error)),
     }
@@ -91,9 +95,9 @@ pub fn denoted<T: FromXml>(alloc: Global, line: &str, v: SpecVersion) -> Result<
 pub fn read<T: FromXml + ToJson>(
     alloc: Global,
     line: &str,
-    v: SpecVersion,
+    version: SpecVersion,
 ) -> Result<String, Fail> {
-    match read_root::<T>(alloc, &around(alloc, line)?, v) {
+    match read_root::<T>(alloc, &around(alloc, line)?, version) {
         Ok(held) => as_text(alloc, &held, V5),
         Err(error) => Ok(of_xml(alloc, &error)?),
     }
@@ -123,9 +127,9 @@ fn inside(line: &str) -> &str {
 }
 
 /// The line that a version writes of the value by itself.
-pub fn shown<T: ToXml>(alloc: Global, held: &T, v: SpecVersion) -> Result<String, Fail> {
+pub fn shown<T: ToXml>(alloc: Global, held: &T, version: SpecVersion) -> Result<String, Fail> {
     let mut writer = opened(alloc)?;
-    held.write_xml_element(alloc, &mut writer, v)?;
+    held.write_xml_element(alloc, &mut writer, version)?;
     closed(alloc, writer)
 }
 
@@ -133,11 +137,11 @@ pub fn shown<T: ToXml>(alloc: Global, held: &T, v: SpecVersion) -> Result<String
 pub fn named<T: ToInnerXml>(
     alloc: Global,
     held: &T,
-    v: SpecVersion,
+    version: SpecVersion,
     tag: &str,
 ) -> Result<String, Fail> {
     let mut writer = opened(alloc)?;
-    held.write_xml_named_element(alloc, &mut writer, v, tag)?;
+    held.write_xml_named_element(alloc, &mut writer, version, tag)?;
     closed(alloc, writer)
 }
 
@@ -145,11 +149,11 @@ pub fn named<T: ToInnerXml>(
 pub fn placed<T: Element>(
     alloc: Global,
     held: &T,
-    v: SpecVersion,
+    version: SpecVersion,
     tag: &str,
 ) -> Result<String, Fail> {
     let mut writer = opened(alloc)?;
-    held.write_as(&mut writer, tag, Target { alloc, version: v })?;
+    held.write_as(&mut writer, tag, Target { alloc, version })?;
     closed(alloc, writer)
 }
 
@@ -157,9 +161,9 @@ pub fn placed<T: Element>(
 pub fn spelled<T: FromJson + Element + Drop>(
     alloc: Global,
     text: &str,
-    v: SpecVersion,
+    version: SpecVersion,
     tag: &str,
 ) -> Result<String, Fail> {
     let held = held::<T>(alloc, text, V5)?;
-    placed(alloc, &held, v, tag)
+    placed(alloc, &held, version, tag)
 }

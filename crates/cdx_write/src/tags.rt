@@ -103,16 +103,16 @@ pub fn write_simple_option_tag(
 pub fn write_list_tag<X: ToXml>(
     alloc: Global,
     writer: &mut EventWriter,
-    w: SpecVersion,
+    version: SpecVersion,
     tag: &str,
     list: &List<X>,
 ) -> Result<(), XmlWriteError>
     ensures { Appends writer.old writer.new
-        (list_tag tag.now (λ x. spelling X.tag (X.shown x) w X.shown_kind) list.now) result }
+        (list_tag tag.now (λ x. spelling X.tag (X.shown x) version X.shown_kind) list.now) result }
 {
     write_start_tag(alloc, writer, tag)?;
     for item in list.as_slice() {
-        item.write_xml_element(alloc, writer, w)?;
+        item.write_xml_element(alloc, writer, version)?;
     }
     write_close_tag(alloc, writer, tag)
 }

@@ -55,10 +55,10 @@ pub trait ToXml: Shown {
         &self,
         alloc: Global,
         writer: &mut EventWriter,
-        w: SpecVersion,
+        version: SpecVersion,
     ) -> Result<(), XmlWriteError>
         ensures { Appends writer.old writer.new
-            (spelling tag (Self.shown self.now) w Self.shown_kind) result };
+            (spelling tag (Self.shown self.now) version Self.shown_kind) result };
 
     /// Whether there is something to write. It takes no memory.
     fn will_write(&self) -> bool
@@ -73,11 +73,11 @@ pub trait ToInnerXml: Shown {
         &self,
         alloc: Global,
         writer: &mut EventWriter,
-        w: SpecVersion,
+        version: SpecVersion,
         tag: &str,
     ) -> Result<(), XmlWriteError>
         ensures { Appends writer.old writer.new
-            (spelling (tagged tag.now) (Self.shown self.now) w Self.shown_kind) result };
+            (spelling (tagged tag.now) (Self.shown self.now) version Self.shown_kind) result };
 
     /// Whether there is something to write. It takes no memory.
     fn will_write(&self) -> bool
@@ -92,9 +92,9 @@ impl<T: Tagged> ToXml for T {
         &self,
         alloc: Global,
         writer: &mut EventWriter,
-        w: SpecVersion,
+        version: SpecVersion,
     ) -> Result<(), XmlWriteError> {
-        self.write_as(writer, T::own_name(), Target { alloc, version: w })
+        self.write_as(writer, T::own_name(), Target { alloc, version })
     }
 
     fn will_write(&self) -> bool {
@@ -108,10 +108,10 @@ impl<T: Element + HasContent> ToInnerXml for T {
         &self,
         alloc: Global,
         writer: &mut EventWriter,
-        w: SpecVersion,
+        version: SpecVersion,
         tag: &str,
     ) -> Result<(), XmlWriteError> {
-        self.write_as(writer, tag, Target { alloc, version: w })
+        self.write_as(writer, tag, Target { alloc, version })
     }
 
     fn will_write(&self) -> bool {
@@ -127,11 +127,11 @@ impl<T: ToXml> ToXml for Option<T> {
         &self,
         alloc: Global,
         writer: &mut EventWriter,
-        w: SpecVersion,
+        version: SpecVersion,
     ) -> Result<(), XmlWriteError> {
         match self {
             None => Ok(()),
-            Some(held) => held.write_xml_element(alloc, writer, w),
+            Some(held) => held.write_xml_element(alloc, writer, version),
         }
     }
 
@@ -146,12 +146,12 @@ impl<T: ToInnerXml> ToInnerXml for Option<T> {
         &self,
         alloc: Global,
         writer: &mut EventWriter,
-        w: SpecVersion,
+        version: SpecVersion,
         tag: &str,
     ) -> Result<(), XmlWriteError> {
         match self {
             None => Ok(()),
-            Some(held) => held.write_xml_named_element(alloc, writer, w, tag),
+            Some(held) => held.write_xml_named_element(alloc, writer, version, tag),
         }
     }
 

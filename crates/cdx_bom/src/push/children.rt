@@ -18,36 +18,37 @@ use cdx_push::LeafKind;
 
 /// The child of a bill that has the name, where `v` knows it. The last of several counts, so none is a second one.
 #[tactic(auto, unfolding(cdx_machine::proofs::OnRows::on_rows), using(cdx_machine::proofs::OnRows::by_rows))]
-pub(crate) fn find_in_bill(v: SpecVersion, name: &OwnedName) -> Found
+pub(crate) fn find_in_bill(version: SpecVersion, name: &OwnedName) -> Found
     ensures { (ts : Trees)
-        → result ≡ found_from 0 (record_plan bill).children ts v name.now.local_name }
+        → result ≡ found_from 0 (record_plan bill).children ts version name.now.local_name }
 {
     match name.local_name.as_str() {
         "metadata" => Found::At(0),
         "components" => Found::At(1),
         "services" => Found::At(2),
-        _ => find_relation(v, name),
+        _ => find_relation(version, name),
     }
 }
 
 // The same among the children of the rows from the references on.
 #[tactic(auto, unfolding(cdx_machine::proofs::OnRows::on_rows), using(cdx_machine::proofs::OnRows::by_rows))]
-fn find_relation(v: SpecVersion, name: &OwnedName) -> Found
+fn find_relation(version: SpecVersion, name: &OwnedName) -> Found
     ensures { (ts : Trees)
-        → result ≡ found_from 3 (children_from 6 (drop 6 (rows bill))) ts v name.now.local_name }
+        → result
+        ≡ found_from 3 (children_from 6 (drop 6 (rows bill))) ts version name.now.local_name }
 {
     match name.local_name.as_str() {
         "externalReferences" => Found::At(3),
         "dependencies" => Found::At(4),
         "compositions" => Found::At(5),
         "properties" => {
-            if !SpecVersion::V1_5.is_known_to(v) {
+            if !SpecVersion::V1_5.is_known_to(version) {
                 return Found::Unknown;
             }
             Found::At(6)
         }
         "signature" => {
-            if !SpecVersion::V1_4.is_known_to(v) {
+            if !SpecVersion::V1_4.is_known_to(version) {
                 return Found::Unknown;
             }
             Found::At(7)

@@ -119,10 +119,10 @@ impl Nested for BillFrame {
         }
     }
 
-    fn find(&self, v: SpecVersion, name: &OwnedName) -> Found {
+    fn find(&self, version: SpecVersion, name: &OwnedName) -> Found {
         match self {
-            BillFrame::Nest(frame) => frame.find(v, name),
-            BillFrame::Bill(_) => find_in_bill(v, name),
+            BillFrame::Nest(frame) => frame.find(version, name),
+            BillFrame::Bill(_) => find_in_bill(version, name),
         }
     }
 

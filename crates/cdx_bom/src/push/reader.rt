@@ -33,14 +33,14 @@ impl fmt::Debug for PushReader {
 
 impl PushReader {
     /// A reader of bills of version `v` that was fed nothing yet. It takes no memory.
-    pub fn new(alloc: Global, v: SpecVersion) -> PushReader
+    pub fn new(alloc: Global, version: SpecVersion) -> PushReader
         ensures heard { heard ⟦<BillMachine as RootMachine>⟧.holds bom_tree result.fed [] }
-        ensures version { version_of result.fed ≡ v }
+        ensures version { version_of result.fed ≡ version }
         ensures sound { is_spent result.fed ≡ false }
         ensures fault { fault_of result.fed ≡ None }
     {
         PushReader {
-            fed: DocumentReader::new(alloc, v),
+            fed: DocumentReader::new(alloc, version),
         }
     }
 

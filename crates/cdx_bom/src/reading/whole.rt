@@ -17,13 +17,13 @@ use std::alloc::Global;
 pub(crate) fn read_document(
     alloc: Global,
     events: &Events,
-    v: SpecVersion,
+    version: SpecVersion,
 ) -> Result<Bom, XmlReadError>
-    ensures bill { ReadsBill events.now.list v result }
+    ensures bill { ReadsBill events.now.list version result }
     ensures shallow { IfOk result (λ b. IsShallow (bom_tree b)) }
     ensures faults { IfErr result IsRefusal }
 {
-    read_fed::<BillMachine>(alloc, events, v)
+    read_fed::<BillMachine>(alloc, events, version)
 }
 
 impl FromXmlDocument for Bom {
@@ -32,8 +32,8 @@ impl FromXmlDocument for Bom {
     fn read_xml_document(
         alloc: Global,
         events: &Events,
-        v: SpecVersion,
+        version: SpecVersion,
     ) -> Result<Bom, XmlReadError> {
-        read_document(alloc, events, v)
+        read_document(alloc, events, version)
     }
 }

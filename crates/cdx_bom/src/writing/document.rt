@@ -90,9 +90,9 @@ impl ToXml for Bom {
         &self,
         alloc: Global,
         writer: &mut EventWriter,
-        w: SpecVersion,
+        version: SpecVersion,
     ) -> Result<(), XmlWriteError> {
-        write_document(self, writer, Target { alloc, version: w })
+        write_document(self, writer, Target { alloc, version })
     }
 
     fn will_write(&self) -> bool {

@@ -14,23 +14,23 @@ use cdx_models::SpecVersion;
 
 /// The child of a component that has the name, where `v` knows it. The last of several counts, so none is a second one.
 #[tactic(auto, unfolding(cdx_machine::proofs::OnRows::on_rows), using(cdx_machine::proofs::OnRows::by_rows))]
-pub(crate) fn find_in_component(v: SpecVersion, name: &OwnedName) -> Found
+pub(crate) fn find_in_component(version: SpecVersion, name: &OwnedName) -> Found
     ensures { (ts : Trees)
-        → result ≡ found_from 0 (record_plan component).children ts v name.now.local_name }
+        → result ≡ found_from 0 (record_plan component).children ts version name.now.local_name }
 {
     match name.local_name.as_str() {
         "supplier" => Found::At(0),
         "author" => Found::At(1),
         "publisher" => Found::At(2),
-        _ => find_naming(v, name),
+        _ => find_naming(version, name),
     }
 }
 
 // The same among the children of the rows from the group on.
 #[tactic(auto, unfolding(cdx_machine::proofs::OnRows::on_rows), using(cdx_machine::proofs::OnRows::by_rows))]
-fn find_naming(v: SpecVersion, name: &OwnedName) -> Found
+fn find_naming(version: SpecVersion, name: &OwnedName) -> Found
     ensures { (ts : Trees) → result
-        ≡ found_from 3 (children_from 6 (drop 6 (rows component))) ts v
+        ≡ found_from 3 (children_from 6 (drop 6 (rows component))) ts version
         name.now.local_name }
 {
     match name.local_name.as_str() {
@@ -40,15 +40,15 @@ fn find_naming(v: SpecVersion, name: &OwnedName) -> Found
         "description" => Found::At(6),
         "scope" => Found::At(7),
         "hashes" => Found::At(8),
-        _ => find_marks(v, name),
+        _ => find_marks(version, name),
     }
 }
 
 // The same among the children of the rows from the licenses on.
 #[tactic(auto, unfolding(cdx_machine::proofs::OnRows::on_rows), using(cdx_machine::proofs::OnRows::by_rows))]
-fn find_marks(v: SpecVersion, name: &OwnedName) -> Found
+fn find_marks(version: SpecVersion, name: &OwnedName) -> Found
     ensures { (ts : Trees) → result
-        ≡ found_from 9 (children_from 12 (drop 12 (rows component))) ts v
+        ≡ found_from 9 (children_from 12 (drop 12 (rows component))) ts version
         name.now.local_name }
 {
     match name.local_name.as_str() {
@@ -58,15 +58,15 @@ fn find_marks(v: SpecVersion, name: &OwnedName) -> Found
         "purl" => Found::At(12),
         "swid" => Found::At(13),
         "modified" => Found::At(14),
-        _ => find_contents(v, name),
+        _ => find_contents(version, name),
     }
 }
 
 // The same among the children of the rows from the pedigree on.
 #[tactic(auto, unfolding(cdx_machine::proofs::OnRows::on_rows), using(cdx_machine::proofs::OnRows::by_rows))]
-fn find_contents(v: SpecVersion, name: &OwnedName) -> Found
+fn find_contents(version: SpecVersion, name: &OwnedName) -> Found
     ensures { (ts : Trees) → result
-        ≡ found_from 15 (children_from 18 (drop 18 (rows component))) ts v
+        ≡ found_from 15 (children_from 18 (drop 18 (rows component))) ts version
         name.now.local_name }
 {
     match name.local_name.as_str() {
@@ -76,7 +76,7 @@ fn find_contents(v: SpecVersion, name: &OwnedName) -> Found
         "components" => Found::At(18),
         "evidence" => Found::At(19),
         "signature" => {
-            if !SpecVersion::V1_4.is_known_to(v) {
+            if !SpecVersion::V1_4.is_known_to(version) {
                 return Found::Unknown;
             }
             Found::At(20)

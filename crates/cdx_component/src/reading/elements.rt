@@ -24,7 +24,8 @@ pub(crate) fn read_component_element(
 ) -> Reading<Component>
     requires { IsIn reader.old opened.now.element.now }
     ensures { ReadsAs component_tree reader.old reader.new opened.now.element.now
-        opened.now.attributes.now opened.now.version (a_record component) (λ _. depth_of depth) result }
+        opened.now.attributes.now opened.now.version (a_record component)
+        (λ _. depth_of depth) result }
 {
     let value = read_element::<ComponentFrame>(reader, opened, ComponentKind::Component, depth)?;
     Ok(component_of(value))
@@ -38,7 +39,8 @@ pub(crate) fn read_pedigree_element(
 ) -> Reading<Pedigree>
     requires { IsIn reader.old opened.now.element.now }
     ensures { ReadsAs pedigree_tree reader.old reader.new opened.now.element.now
-        opened.now.attributes.now opened.now.version (a_record pedigree) (λ _. depth_of depth) result }
+        opened.now.attributes.now opened.now.version (a_record pedigree)
+        (λ _. depth_of depth) result }
 {
     let value = read_element::<ComponentFrame>(reader, opened, ComponentKind::Pedigree, depth)?;
     Ok(pedigree_of(value))
@@ -52,7 +54,8 @@ pub(crate) fn read_components_element(
 ) -> Reading<Components>
     requires { IsIn reader.old opened.now.element.now }
     ensures { ReadsAs components_tree reader.old reader.new opened.now.element.now
-        opened.now.attributes.now opened.now.version (a_list components) (λ _. depth_of depth) result }
+        opened.now.attributes.now opened.now.version (a_list components)
+        (λ _. depth_of depth) result }
 {
     let value = read_element::<ComponentFrame>(reader, opened, ComponentKind::Components, depth)?;
     Ok(components_of(value))

@@ -49,19 +49,20 @@ pub(crate) fn begin_tools(alloc: Global) -> ToolsPart
 
 /// The child of tools that `v` knows by the name: services and components are known from 1.5 on.
 #[tactic(auto, unfolding(cdx_machine::proofs::OnRows::on_rows), using(cdx_machine::proofs::OnRows::by_rows))]
-pub(crate) fn find_in_tools(v: SpecVersion, name: &OwnedName) -> Found
-    ensures { (ts : Trees) → result ≡ found_from 0 tools_plan.children ts v name.now.local_name }
+pub(crate) fn find_in_tools(version: SpecVersion, name: &OwnedName) -> Found
+    ensures { (ts : Trees)
+        → result ≡ found_from 0 tools_plan.children ts version name.now.local_name }
 {
     match name.local_name.as_str() {
         "tool" => Found::At(0),
         "services" => {
-            if !SpecVersion::V1_5.is_known_to(v) {
+            if !SpecVersion::V1_5.is_known_to(version) {
                 return Found::Unknown;
             }
             Found::At(1)
         }
         "components" => {
-            if !SpecVersion::V1_5.is_known_to(v) {
+            if !SpecVersion::V1_5.is_known_to(version) {
                 return Found::Unknown;
             }
             Found::At(2)
@@ -115,13 +116,13 @@ pub(crate) fn put_tools_part(part: &mut ToolsPart, position: usize, value: NestV
 // The services and components, and before 1.5 the empty list.
 fn object_in(
     alloc: Global,
-    v: SpecVersion,
+    version: SpecVersion,
     services: Option<Services>,
     components: Option<Components>,
 ) -> Tools
-    ensures { tools_tree result ≡ tools_object_of v (object_slots services components) }
+    ensures { tools_tree result ≡ tools_object_of version (object_slots services components) }
 {
-    match v {
+    match version {
         SpecVersion::V1_3 => Tools::List(List::new(alloc)),
         SpecVersion::V1_4 => Tools::List(List::new(alloc)),
         SpecVersion::V1_5 => Tools::Object {

@@ -43,21 +43,21 @@ fn find_access(name: &OwnedName) -> Found
 }
 
 #[tactic(auto, unfolding(cdx_machine::proofs::OnRows::on_rows), using(cdx_machine::proofs::OnRows::by_rows))]
-fn find_contents(v: SpecVersion, name: &OwnedName) -> Found
+fn find_contents(version: SpecVersion, name: &OwnedName) -> Found
     ensures { (ts : Trees) → result ≡
-        found_from 11 (children_from 12 (group 2 service)) ts v name.now.local_name }
+        found_from 11 (children_from 12 (group 2 service)) ts version name.now.local_name }
 {
     match name.local_name.as_str() {
         "properties" => Found::At(11),
         "services" => Found::At(12),
         "signature" => {
-            if !SpecVersion::V1_4.is_known_to(v) {
+            if !SpecVersion::V1_4.is_known_to(version) {
                 return Found::Unknown;
             }
             Found::At(13)
         }
         "trustZone" => {
-            if !SpecVersion::V1_5.is_known_to(v) {
+            if !SpecVersion::V1_5.is_known_to(version) {
                 return Found::Unknown;
             }
             Found::At(14)
@@ -67,13 +67,13 @@ fn find_contents(v: SpecVersion, name: &OwnedName) -> Found
 }
 
 /// The child of a service that has the name, where `v` knows it. The last of several counts, so none is a second one.
-pub(crate) fn find_in_service(v: SpecVersion, name: &OwnedName) -> Found
+pub(crate) fn find_in_service(version: SpecVersion, name: &OwnedName) -> Found
     ensures { (ts : Trees) → result ≡
-        found_from 0 (record_plan service).children ts v name.now.local_name }
+        found_from 0 (record_plan service).children ts version name.now.local_name }
 {
     match find_naming(name) {
         Found::Unknown => match find_access(name) {
-            Found::Unknown => find_contents(v, name),
+            Found::Unknown => find_contents(version, name),
             found => found,
         },
         found => found,

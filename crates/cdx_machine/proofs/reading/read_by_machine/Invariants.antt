@@ -9,7 +9,7 @@ use Rattle.cdx_machine.proofs.reading.read_by_machine.Given as goal
 
 abbrev pub invariant-events : goal.invariant-events
 invariant-events g l = record {
-  fed : (d : Depth) (s : Namespace) (p : ℕ) (nodes : Nodes) (rest : List XmlEvent) → Stands l.fn.reader l.fn.element p nodes rest → Feeding g.M.Machine.holds l.fn.v l.fn.element l.fn.attributes s p nodes rest d l.reader l.machine;
+  fed : (d : Depth) (s : Namespace) (p : ℕ) (nodes : Nodes) (rest : List XmlEvent) → Stands l.fn.reader l.fn.element p nodes rest → Feeding g.M.Machine.holds l.fn.version l.fn.element l.fn.attributes s p nodes rest d l.reader l.machine;
 }
 
 abbrev pub decreases-events : goal.decreases-events

@@ -11,7 +11,7 @@ pub returns-in_err-write_start_tag : goal.returns-in_err-write_start_tag
 returns-in_err-write_start_tag g c =
     let p = err_from_is_err_and c.from_residual.result c.from_residual.ensures.1 in
     let tag = c.args.tag.now in
-    rw (p.1, p.2) (first_fails c.args.writer.now c.write_start_tag.new.writer (start_tag tag ∷ []) (flat_map (λ x. spelling (g.X.ToXml.tag) (g.X.Shown.shown x) c.args.w (g.X.Shown.shown_kind)) c.args.list.now ++ end_tag tag ∷ []) _ c.in_err-write_start_tag.ensures)
+    rw (p.1, p.2) (first_fails c.args.writer.now c.write_start_tag.new.writer (start_tag tag ∷ []) (flat_map (λ x. spelling (g.X.ToXml.tag) (g.X.Shown.shown x) c.args.version (g.X.Shown.shown_kind)) c.args.list.now ++ end_tag tag ∷ []) _ c.in_err-write_start_tag.ensures)
 
 pub loop-item-init : goal.loop-item-init
 loop-item-init g c = c.in_ok-write_start_tag.ensures ∙ sym (append-nil (c.args.writer.now ++ start_tag c.args.tag.now ∷ []))
@@ -22,14 +22,14 @@ returns-in_err-write_xml_element g c =
     let tag = c.args.tag.now in
     let begun = c.args.writer.now ++ start_tag tag ∷ [] in
     let new = c.write_xml_element.new.writer in
-    rw (p.1, p.2) (then_all c.args.writer.now begun new (start_tag tag ∷ []) (flat_map (λ x. spelling (g.X.ToXml.tag) (g.X.Shown.shown x) c.args.w (g.X.Shown.shown_kind)) c.args.list.now ++ end_tag tag ∷ []) (Err _) refl
-    (item_fails (λ x. spelling (g.X.ToXml.tag) (g.X.Shown.shown x) c.args.w (g.X.Shown.shown_kind)) begun c.loop-item.writer new (end_tag tag ∷ []) c.as_slice-item-items.result.now c.args.list.now c.loop-item.item-index c.item-item.result _ c.as_slice-item-items.ensures c.loop-item-test.true c.item-item.is c.loop-item.invariant c.in_err-write_xml_element.ensures))
+    rw (p.1, p.2) (then_all c.args.writer.now begun new (start_tag tag ∷ []) (flat_map (λ x. spelling (g.X.ToXml.tag) (g.X.Shown.shown x) c.args.version (g.X.Shown.shown_kind)) c.args.list.now ++ end_tag tag ∷ []) (Err _) refl
+    (item_fails (λ x. spelling (g.X.ToXml.tag) (g.X.Shown.shown x) c.args.version (g.X.Shown.shown_kind)) begun c.loop-item.writer new (end_tag tag ∷ []) c.as_slice-item-items.result.now c.args.list.now c.loop-item.item-index c.item-item.result _ c.as_slice-item-items.ensures c.loop-item-test.true c.item-item.is c.loop-item.invariant c.in_err-write_xml_element.ensures))
 
 pub returns : goal.returns
 returns g c =
     let tag = c.args.tag.now in
     let begun = c.args.writer.now ++ start_tag tag ∷ [] in
     let new = c.write_close_tag.new.writer in
-    let all = items_end (λ x. spelling (g.X.ToXml.tag) (g.X.Shown.shown x) c.args.w (g.X.Shown.shown_kind)) begun c.loop-item.writer c.as_slice-item-items.result.now c.args.list.now c.loop-item.item-index c.as_slice-item-items.ensures c.loop-item-test.false c.loop-item.invariant in
-    then_all c.args.writer.now begun new (start_tag tag ∷ []) (flat_map (λ x. spelling (g.X.ToXml.tag) (g.X.Shown.shown x) c.args.w (g.X.Shown.shown_kind)) c.args.list.now ++ end_tag tag ∷ []) c.write_close_tag.result refl
-    (then_all begun c.loop-item.writer new (flat_map (λ x. spelling (g.X.ToXml.tag) (g.X.Shown.shown x) c.args.w (g.X.Shown.shown_kind)) c.args.list.now) (end_tag tag ∷ []) c.write_close_tag.result all c.write_close_tag.ensures)
+    let all = items_end (λ x. spelling (g.X.ToXml.tag) (g.X.Shown.shown x) c.args.version (g.X.Shown.shown_kind)) begun c.loop-item.writer c.as_slice-item-items.result.now c.args.list.now c.loop-item.item-index c.as_slice-item-items.ensures c.loop-item-test.false c.loop-item.invariant in
+    then_all c.args.writer.now begun new (start_tag tag ∷ []) (flat_map (λ x. spelling (g.X.ToXml.tag) (g.X.Shown.shown x) c.args.version (g.X.Shown.shown_kind)) c.args.list.now ++ end_tag tag ∷ []) c.write_close_tag.result refl
+    (then_all begun c.loop-item.writer new (flat_map (λ x. spelling (g.X.ToXml.tag) (g.X.Shown.shown x) c.args.version (g.X.Shown.shown_kind)) c.args.list.now) (end_tag tag ∷ []) c.write_close_tag.result all c.write_close_tag.ensures)

@@ -5,4 +5,4 @@ use Rattle.cdx_component.proofs.frames.ComponentFrameNested.find.Goals as goal
 
 pub returns-in-Components : goal.returns-in-Components
 unfolding list
-returns-in-Components c = rw c.in-Components.is (c.find_in_list.ensures c.args.v (listing_slots component_tree (listed c.in-Components.field-0)))
+returns-in-Components c = rw c.in-Components.is (c.find_in_list.ensures c.args.version (listing_slots component_tree (listed c.in-Components.field-0)))

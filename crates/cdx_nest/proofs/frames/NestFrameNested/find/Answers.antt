@@ -10,15 +10,15 @@ use Rattle.cdx_nest.proofs.frames.NestFrameNested.find.Goals as goal
 pub returns-in-Component : goal.returns-in-Component
 returns-in-Component c =
     let x = c.in-Component.frame in
-    rw c.in-Component.is (component_here (λ k. c.find.result ≡ found_from 0 (plan_of k).children (component_fields x) c.args.v c.args.name.now.local_name) (component_frame_kind x) c.find.ensures)
+    rw c.in-Component.is (component_here (λ k. c.find.result ≡ found_from 0 (plan_of k).children (component_fields x) c.args.version c.args.name.now.local_name) (component_frame_kind x) c.find.ensures)
 
 pub returns-in-Service : goal.returns-in-Service
 returns-in-Service c =
     let x = c.in-Service.frame in
-    rw c.in-Service.is (service_here (λ k. c.find-in-Service.result ≡ found_from 0 (plan_of k).children (service_fields x) c.args.v c.args.name.now.local_name) (service_frame_kind x) c.find-in-Service.ensures)
+    rw c.in-Service.is (service_here (λ k. c.find-in-Service.result ≡ found_from 0 (plan_of k).children (service_fields x) c.args.version c.args.name.now.local_name) (service_frame_kind x) c.find-in-Service.ensures)
 
 pub returns-in-Tools : goal.returns-in-Tools
 returns-in-Tools c = rw c.in-Tools.is (c.find_in_tools.ensures (tools_part c.in-Tools.field-0))
 
 pub returns-in-Metadata : goal.returns-in-Metadata
-returns-in-Metadata c = rw c.in-Metadata.is (c.find_in_metadata.ensures c.args.v (metadata_part c.in-Metadata.field-0))
+returns-in-Metadata c = rw c.in-Metadata.is (c.find_in_metadata.ensures c.args.version (metadata_part c.in-Metadata.field-0))

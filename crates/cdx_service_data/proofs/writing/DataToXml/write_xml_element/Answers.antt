@@ -7,4 +7,4 @@ use Rattle.cdx_service_data.proofs.writing.DataToXml.write_xml_element.Goals as 
 pub returns : goal.returns
 returns c =
     let held = c.args.self.now in
-    appends_same c.args.writer.now c.write_entries.new.writer _ _ c.write_entries.result (there_spelling untagged (data_tree held) c.args.w a_data (data_there held)) c.write_entries.ensures
+    appends_same c.args.writer.now c.write_entries.new.writer _ _ c.write_entries.result (there_spelling untagged (data_tree held) c.args.version a_data (data_there held)) c.write_entries.ensures

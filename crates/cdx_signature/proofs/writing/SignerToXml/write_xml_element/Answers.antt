@@ -6,4 +6,4 @@ use Rattle.cdx_write.proofs.RowsLaws.{record_inner}
 use Rattle.cdx_signature.proofs.writing.SignerToXml.write_xml_element.Goals as goal
 
 pub returns : goal.returns
-returns c = appends_same c.args.writer.now c.write_rows.new.writer _ _ c.write_rows.result (sym (record_inner signer (fields_of (signer_tree c.args.self.now)) c.args.w)) c.write_rows.ensures
+returns c = appends_same c.args.writer.now c.write_rows.new.writer _ _ c.write_rows.result (sym (record_inner signer (fields_of (signer_tree c.args.self.now)) c.args.version)) c.write_rows.ensures
