@@ -97,7 +97,7 @@ pub trait Frame: Drop {
         ensures { OnOk result (Puts plan.children (Self.Child.source value)
             (Self.Child.tree value) (slots self.old) (slots self.new)) };
 
-    /// The value, or the fault of the first required child that is missing, at the element's end.
+    /// The value, or the fault of the first required child that is missing, at the element's end; or want of memory.
     fn finish(self, closed: &End<'_>) -> Result<Self::Value, XmlReadError>
         ensures { Gives tree (closed.now.place + 1)
             (last closed.now.element.now.local_name closed.now.version closed.now.place

@@ -26,19 +26,19 @@ pub trait Machine: Drop {
     /// What the machine keeps of the events so far: in a version, with the element's start at a place, at a depth.
     ghost holds: { Self → SpecVersion → ℕ → Depth → Begun → Type 0 };
 
-    /// Takes the element's start. A refusal is the fault of the start alone.
+    /// Takes the element's start. A refusal is the fault of the start alone, or want of memory.
     fn start(opened: &Start<'_>) -> Result<Self, XmlReadError>
         ensures { StartsAs holds kind opened.now.version opened.now.place opened.now.element.now
             opened.now.attributes.now result };
 
     /// Takes the next event, at `place`, and says whether it is the element's end, of which the machine keeps nothing. A
     /// refusal comes with the first event through which the element has a fault; that is the fault, and it stands at this
-    /// event.
+    /// event. Or else memory ran out.
     fn step(&mut self, place: usize, event: &XmlEvent) -> Result<bool, XmlReadError>
         requires { CanStep holds self.old place event.now }
         ensures { ProceedsAs holds kind self.old self.new place event.now result };
 
-    /// What the element is read as that this event ends, at `place`. A refusal is its fault, which stands at its end.
+    /// What the element is read as that this event ends, at `place`. A refusal is its fault, at its end, or want of memory.
     fn finish(self, place: usize, event: &XmlEvent) -> Result<Self::Value, XmlReadError>
         requires { CanYield holds self place event.now }
         ensures { YieldsAs holds tree kind self place event.now result };

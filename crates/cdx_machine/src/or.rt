@@ -34,7 +34,8 @@ pub trait Machines: Drop {
     /// The tree of the value.
     ghost tree: { Self.Value → Tree };
 
-    /// Takes the element's start, by the machine at the position. A refusal is the fault of the start alone.
+    /// Takes the element's start, by the machine at the position. A refusal is the fault of the start alone, or want of
+    /// memory.
     fn start(position: usize, opened: &Start<'_>) -> Result<Self, XmlReadError>
         ensures runs { IsThere kinds position → IfOk result (λ m. position_of m ≡ position) }
         ensures starts { (k : Kind) → at_position kinds position ≡ Some k → StartsAs holds k

@@ -102,7 +102,7 @@ pub trait Nested: Drop {
         ensures puts { OnOk result (Puts (plan_of (as_kind (sort_of self.old))).children position
             (Self.Leaf.tree value) (fields self.old) (fields self.new)) };
 
-    /// The value, or the fault of the first required child that is missing, at the element's end.
+    /// The value, or the fault of the first required child that is missing, at the element's end; or want of memory.
     fn finish(self, closed: &End<'_>) -> Result<Self::Value, XmlReadError>
         ensures sort { IfOk result (λ x. value_sort x ≡ sort_of self) }
         ensures gives { Gives tree (closed.now.place + 1)

@@ -236,7 +236,7 @@ impl<F: Nested> StackMachine<F> {
 
     /// Takes the next event, at `place`, and says whether it is the element's end, of which the machine keeps nothing. A
     /// refusal comes with the first event through which the element has a fault; that is the fault, and it stands at this
-    /// event. Only the top frame is touched, or the one below it.
+    /// event. Or else memory ran out. Only the top frame is touched, or the one below it.
     pub fn step(&mut self, place: usize, event: &XmlEvent) -> Result<bool, XmlReadError>
         requires { CanStepStack ⟦<StackMachine<F> as Keeps>⟧.holds self.old place event.now }
         ensures { ProceedsStack ⟦<StackMachine<F> as Keeps>⟧.holds F.as_kind self.old self.new
@@ -268,7 +268,7 @@ impl<F: Nested> StackMachine<F> {
         }
     }
 
-    /// What the element is read as that this event ends, at `place`. A refusal is its fault, which stands at its end.
+    /// What the element is read as that this event ends, at `place`. A refusal is its fault, at its end, or want of memory.
     pub fn finish(self, place: usize, event: &XmlEvent) -> Result<F::Value, XmlReadError>
         requires { CanYieldStack ⟦<StackMachine<F> as Keeps>⟧.holds self place event.now }
         ensures { YieldsStack ⟦<StackMachine<F> as Keeps>⟧.holds F.as_kind F.tree F.value_sort

@@ -26,7 +26,7 @@ pub trait RootMachine: Drop {
     /// What the machine keeps of the events so far: in a version, with the root's start at a place, at a depth.
     ghost holds: { Self → SpecVersion → ℕ → Depth → Begun → Type 0 };
 
-    /// Takes the root's start. A refusal is the fault of the start alone.
+    /// Takes the root's start. A refusal is the fault of the start alone, or want of memory.
     fn start(opened: &Start<'_>) -> Result<Self, XmlReadError>
         ensures { (z : Namespace) → Opens (λ m o. holds m opened.now.version opened.now.place top o)
             (λ x. xread x opened.now.version (a_record bill) opened.now.place top) opened.now.place
@@ -34,6 +34,7 @@ pub trait RootMachine: Drop {
 
     /// Takes the next event, at `place`, and says whether it is the root's end, of which the machine keeps nothing. A refusal
     /// comes with the first event through which the root has a fault; that is the fault, and it stands at this event.
+    /// Or else memory ran out.
     fn step(&mut self, place: usize, event: &XmlEvent) -> Result<bool, XmlReadError>
         requires { CanStep holds self.old place event.now }
         ensures { ProceedsAs holds (a_record bill) self.old self.new place event.now result };
