@@ -1,5 +1,11 @@
 //! Commits, and who made them, read from XML.
 
+ghost use Rattle.cdx_models.specs.Trees.{action, commit};
+ghost use Rattle.cdx_schema.specs.XmlReading.{record_plan};
+ghost use Rattle.cdx_code.specs.Slots.{action_slots, commit_slots};
+ghost use Rattle.std.specs.Prelude.{refl};
+ghost use Rattle.cdx_leaf.specs.RowContents.{content_is};
+
 use crate::{Commit, Commits, IdentifiableAction};
 use cdx_events::EventReader;
 use cdx_leaf::{
@@ -8,10 +14,6 @@ use cdx_leaf::{
 use cdx_models::XmlReadError;
 
 impl Children for IdentifiableAction {
-    ghost use Rattle.cdx_models.specs.Trees.{action};
-    ghost use Rattle.cdx_schema.specs.XmlReading.{record_plan};
-    ghost use Rattle.cdx_code.specs.Slots.{action_slots};
-
     ghost slots = { action_slots };
 
     ghost plan = { λ r. record_plan action };
@@ -33,10 +35,6 @@ impl Children for IdentifiableAction {
 }
 
 impl XmlRecord for IdentifiableAction {
-    ghost use Rattle.std.specs.Prelude.{refl};
-    ghost use Rattle.cdx_models.specs.Trees.{action};
-    ghost use Rattle.cdx_leaf.specs.RowContents.{content_is};
-
     type Part = IdentifiableAction;
 
     ghost no_content = { content_is action };
@@ -60,10 +58,6 @@ impl XmlRecord for IdentifiableAction {
 }
 
 impl Children for Commit {
-    ghost use Rattle.cdx_models.specs.Trees.{commit};
-    ghost use Rattle.cdx_schema.specs.XmlReading.{record_plan};
-    ghost use Rattle.cdx_code.specs.Slots.{commit_slots};
-
     ghost slots = { commit_slots };
 
     ghost plan = { λ r. record_plan commit };
@@ -87,10 +81,6 @@ impl Children for Commit {
 }
 
 impl XmlRecord for Commit {
-    ghost use Rattle.std.specs.Prelude.{refl};
-    ghost use Rattle.cdx_models.specs.Trees.{commit};
-    ghost use Rattle.cdx_leaf.specs.RowContents.{content_is};
-
     type Part = Commit;
 
     ghost no_content = { content_is commit };
@@ -113,8 +103,6 @@ impl XmlRecord for Commit {
 }
 
 impl FromXml for Commits {
-    ghost use Rattle.std.specs.Prelude.{refl};
-
     ghost depth = { λ d. d };
 
     ghost at_top = { refl };

@@ -1,5 +1,8 @@
 //! Components, pedigrees and lists of components from XML.
 
+ghost use Rattle.std.specs.Prelude.{refl};
+ghost use Rattle.cdx_schema.specs.Depth.{top};
+
 pub(crate) mod begin;
 mod elements;
 pub(crate) mod finish;
@@ -15,9 +18,6 @@ use cdx_leaf::{FromXml, Reading, Start};
 
 /// A component outside all components. Its parts count their depth from here on.
 impl FromXml for Component {
-    ghost use Rattle.std.specs.Prelude.{refl};
-    ghost use Rattle.cdx_schema.specs.Depth.{top};
-
     ghost depth = { λ d. top };
 
     ghost at_top = { refl };
@@ -29,9 +29,6 @@ impl FromXml for Component {
 
 /// A list of components outside all components.
 impl FromXml for Components {
-    ghost use Rattle.std.specs.Prelude.{refl};
-    ghost use Rattle.cdx_schema.specs.Depth.{top};
-
     ghost depth = { λ d. top };
 
     ghost at_top = { refl };
@@ -43,9 +40,6 @@ impl FromXml for Components {
 
 /// A pedigree outside all components.
 impl FromXml for Pedigree {
-    ghost use Rattle.std.specs.Prelude.{refl};
-    ghost use Rattle.cdx_schema.specs.Depth.{top};
-
     ghost depth = { λ d. top };
 
     ghost at_top = { refl };

@@ -1,5 +1,12 @@
 //! Software tags, platform names and evidence.
 
+ghost use Rattle.cdx_models.specs.Trees.{swid, evidence, copyright};
+ghost use Rattle.cdx_schema.specs.XmlReading.{record_plan};
+ghost use Rattle.cdx_component_parts.specs.Parts.{swid_slots, evidence_slots, no_fields};
+ghost use Rattle.std.specs.Prelude.{refl};
+ghost use Rattle.cdx_leaf.specs.RowContents.{content_is};
+ghost use Rattle.cdx_component_parts.specs.Whole.{copyright_whole};
+
 use crate::component::{ComponentEvidence, Copyright, CopyrightTexts, Cpe, Swid};
 use cdx_events::{EventReader, Text};
 use cdx_leaf::{
@@ -9,10 +16,6 @@ use cdx_leaf::{
 use cdx_models::XmlReadError;
 
 impl Children for Swid {
-    ghost use Rattle.cdx_models.specs.Trees.{swid};
-    ghost use Rattle.cdx_schema.specs.XmlReading.{record_plan};
-    ghost use Rattle.cdx_component_parts.specs.Parts.{swid_slots};
-
     ghost slots = { swid_slots };
 
     ghost plan = { λ r. record_plan swid };
@@ -33,10 +36,6 @@ impl Children for Swid {
 }
 
 impl XmlRecord for Swid {
-    ghost use Rattle.std.specs.Prelude.{refl};
-    ghost use Rattle.cdx_models.specs.Trees.{swid};
-    ghost use Rattle.cdx_leaf.specs.RowContents.{content_is};
-
     type Part = Swid;
 
     ghost no_content = { content_is swid };
@@ -61,8 +60,6 @@ impl XmlRecord for Swid {
 }
 
 impl FromXml for Cpe {
-    ghost use Rattle.std.specs.Prelude.{refl};
-
     ghost depth = { λ d. d };
 
     ghost at_top = { refl };
@@ -73,10 +70,6 @@ impl FromXml for Cpe {
 }
 
 impl Children for ComponentEvidence {
-    ghost use Rattle.cdx_models.specs.Trees.{evidence};
-    ghost use Rattle.cdx_schema.specs.XmlReading.{record_plan};
-    ghost use Rattle.cdx_component_parts.specs.Parts.{evidence_slots};
-
     ghost slots = { evidence_slots };
 
     ghost plan = { λ r. record_plan evidence };
@@ -97,10 +90,6 @@ impl Children for ComponentEvidence {
 }
 
 impl XmlRecord for ComponentEvidence {
-    ghost use Rattle.std.specs.Prelude.{refl};
-    ghost use Rattle.cdx_models.specs.Trees.{evidence};
-    ghost use Rattle.cdx_leaf.specs.RowContents.{content_is};
-
     type Part = ComponentEvidence;
 
     ghost no_content = { content_is evidence };
@@ -123,11 +112,6 @@ impl XmlRecord for ComponentEvidence {
 }
 
 impl TextRecord for Copyright {
-    ghost use Rattle.cdx_models.specs.Trees.{copyright};
-    ghost use Rattle.cdx_leaf.specs.RowContents.{content_is};
-    ghost use Rattle.cdx_component_parts.specs.Whole.{copyright_whole};
-    ghost use Rattle.cdx_component_parts.specs.Parts.{no_fields};
-
     type Start = ();
 
     ghost start = { no_fields };
@@ -148,8 +132,6 @@ impl TextRecord for Copyright {
 }
 
 impl FromXml for Copyright {
-    ghost use Rattle.std.specs.Prelude.{refl};
-
     ghost depth = { λ d. d };
 
     ghost at_top = { refl };
@@ -160,8 +142,6 @@ impl FromXml for Copyright {
 }
 
 impl FromXml for CopyrightTexts {
-    ghost use Rattle.std.specs.Prelude.{refl};
-
     ghost depth = { λ d. d };
 
     ghost at_top = { refl };

@@ -1,5 +1,13 @@
 //! Licenses.
 
+ghost use Rattle.std.specs.Prelude.{refl};
+ghost use Rattle.cdx_models.specs.Trees.{license, expression};
+ghost use Rattle.cdx_schema.specs.XmlReading.{record_plan, choice_plan};
+ghost use Rattle.cdx_license.specs.Parts.{license_part, reference_alone, choices_part};
+ghost use Rattle.cdx_leaf.specs.RowContents.{content_is};
+ghost use Rattle.cdx_license.specs.Whole.{expression_whole};
+ghost use Rattle.cdx_schema.specs.Kinds.{licenses};
+
 use crate::license::{Expression, License, LicenseChoice, LicenseIdentifier, Licenses};
 use crate::parts::{ChoicesPart, LicensePart};
 use cdx_events::{EventReader, List, Text};
@@ -12,8 +20,6 @@ use cdx_models::{SpecVersion, XmlReadError};
 
 /// An `id` or a `name`. An element of another name lacks `id or name`, at its start.
 impl FromXml for LicenseIdentifier {
-    ghost use Rattle.std.specs.Prelude.{refl};
-
     ghost depth = { λ d. d };
 
     ghost at_top = { refl };
@@ -37,10 +43,6 @@ impl FromXml for LicenseIdentifier {
 }
 
 impl Children for LicensePart {
-    ghost use Rattle.cdx_models.specs.Trees.{license};
-    ghost use Rattle.cdx_schema.specs.XmlReading.{record_plan};
-    ghost use Rattle.cdx_license.specs.Parts.{license_part};
-
     ghost slots = { license_part };
 
     ghost plan = { λ r. record_plan license };
@@ -79,10 +81,6 @@ impl Children for LicensePart {
 }
 
 impl XmlRecord for License {
-    ghost use Rattle.std.specs.Prelude.{refl};
-    ghost use Rattle.cdx_models.specs.Trees.{license};
-    ghost use Rattle.cdx_leaf.specs.RowContents.{content_is};
-
     type Part = LicensePart;
 
     ghost no_content = { content_is license };
@@ -112,12 +110,6 @@ impl XmlRecord for License {
 }
 
 impl TextRecord for Expression {
-    ghost use Rattle.std.specs.Prelude.{refl};
-    ghost use Rattle.cdx_models.specs.Trees.{expression};
-    ghost use Rattle.cdx_leaf.specs.RowContents.{content_is};
-    ghost use Rattle.cdx_license.specs.Whole.{expression_whole};
-    ghost use Rattle.cdx_license.specs.Parts.{reference_alone};
-
     type Start = Option<Text>;
 
     ghost start = { reference_alone };
@@ -141,9 +133,6 @@ impl TextRecord for Expression {
 }
 
 impl FromXml for Expression {
-    ghost use Rattle.std.specs.Prelude.{refl};
-    ghost use Rattle.cdx_models.specs.Trees.{expression};
-
     ghost depth = { λ d. d };
 
     ghost at_top = { refl };
@@ -155,8 +144,6 @@ impl FromXml for Expression {
 
 /// A `license` or an `expression`. An element of another name lacks `license or expression`, at its start.
 impl FromXml for LicenseChoice {
-    ghost use Rattle.std.specs.Prelude.{refl};
-
     ghost depth = { λ d. d };
 
     ghost at_top = { refl };
@@ -180,10 +167,6 @@ impl FromXml for LicenseChoice {
 }
 
 impl Children for ChoicesPart {
-    ghost use Rattle.cdx_schema.specs.Kinds.{licenses};
-    ghost use Rattle.cdx_schema.specs.XmlReading.{choice_plan};
-    ghost use Rattle.cdx_license.specs.Parts.{choices_part};
-
     ghost slots = { choices_part };
 
     ghost plan = { λ r. choice_plan licenses };
@@ -204,8 +187,6 @@ impl Children for ChoicesPart {
 }
 
 impl FromXml for Licenses {
-    ghost use Rattle.std.specs.Prelude.{refl};
-
     ghost depth = { λ d. d };
 
     ghost at_top = { refl };

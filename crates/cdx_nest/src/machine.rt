@@ -6,7 +6,7 @@ ghost use Rattle.cdx_events.specs.declared.event.XmlEvent.TheVariants.{StartElem
 ghost use Rattle.cdx_events.specs.declared.name.Namespace.{Namespace};
 ghost use Rattle.cdx_schema.specs.Soon.{BeginsElement};
 ghost use Rattle.cdx_json.specs.Depths.{depth_of};
-ghost use Rattle.cdx_machine.specs.Heard.{OpensAs, Answers, IsListening, Listens};
+ghost use Rattle.cdx_machine.specs.Heard.{OpensAs, Answers, IsListening, Listens, heard_by};
 ghost use Rattle.cdx_nest.specs.Frames.{nest_kind, value_tree};
 ghost use Rattle.cdx_nest.specs.NestSteps.{IsOfKind, IsMore, IsMemory, as_steps};
 
@@ -44,9 +44,6 @@ impl Drop for NestMachine {
 }
 
 impl Listener for NestMachine {
-    ghost use Rattle.cdx_json.specs.Depths.{depth_of};
-    ghost use Rattle.cdx_machine.specs.Heard.{heard_by};
-
     ghost heard = { λ m. heard_by (⟦<StackMachine<NestFrame> as Keeps>⟧.holds m.kind) (λ _. m.kind)
         m.kind m.v m.place (depth_of m.depth) m.machine };
 }

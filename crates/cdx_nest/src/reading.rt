@@ -1,5 +1,8 @@
 //! Tools and metadata, read from XML by the machine with a stack.
 
+ghost use Rattle.std.specs.Prelude.{refl};
+ghost use Rattle.cdx_schema.specs.Depth.{top};
+
 use crate::frames::{NestFrame, NestKind, NestValue};
 use crate::metadata::Metadata;
 use crate::tools::Tools;
@@ -13,9 +16,6 @@ use cdx_nest_machine::read_element;
 /// are too. Where services or components stand beside a tool, `tool array or services & components` is missing at the
 /// element's end.
 impl FromXml for Tools {
-    ghost use Rattle.std.specs.Prelude.{refl};
-    ghost use Rattle.cdx_schema.specs.Depth.{top};
-
     ghost depth = { λ d. top };
 
     ghost at_top = { refl };
@@ -32,9 +32,6 @@ impl FromXml for Tools {
 /// Each child that CycloneDX names, in any order; a repeated one is read each time, and the last counts. Other elements
 /// are skipped whole, and a text is unexpected at its place.
 impl FromXml for Metadata {
-    ghost use Rattle.std.specs.Prelude.{refl};
-    ghost use Rattle.cdx_schema.specs.Depth.{top};
-
     ghost depth = { λ d. top };
 
     ghost at_top = { refl };

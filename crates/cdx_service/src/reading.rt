@@ -5,6 +5,8 @@ ghost use Rattle.cdx_schema.specs.Kinds.{services, a_list, a_record};
 ghost use Rattle.cdx_json.specs.Depths.{depth_of};
 ghost use Rattle.cdx_leaf.specs.Reading.{IsIn, ReadsAs};
 ghost use Rattle.cdx_service.specs.Trees.{service_tree, services_tree};
+ghost use Rattle.std.specs.Prelude.{refl};
+ghost use Rattle.cdx_schema.specs.Depth.{top};
 
 use crate::frames::{ServiceFrame, ServiceKind, ServiceValue};
 use crate::service::{Service, Services};
@@ -50,9 +52,6 @@ fn read_services_element(
 /// The rows in the schema's order; elements that no row has are skipped, and texts are unexpected. The services that stand
 /// in it are counted from itself on.
 impl FromXml for Service {
-    ghost use Rattle.std.specs.Prelude.{refl};
-    ghost use Rattle.cdx_schema.specs.Depth.{top};
-
     ghost depth = { λ d. top };
 
     ghost at_top = { refl };
@@ -64,9 +63,6 @@ impl FromXml for Service {
 
 /// The services that stand in it are counted from itself on.
 impl FromXml for Services {
-    ghost use Rattle.std.specs.Prelude.{refl};
-    ghost use Rattle.cdx_schema.specs.Depth.{top};
-
     ghost depth = { λ d. top };
 
     ghost at_top = { refl };

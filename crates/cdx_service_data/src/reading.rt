@@ -1,5 +1,13 @@
 //! The data of services.
 
+ghost use Rattle.cdx_models.specs.Trees.{classification, service_data};
+ghost use Rattle.cdx_leaf.specs.RowContents.{content_is};
+ghost use Rattle.cdx_service_data.specs.Whole.{classification_whole};
+ghost use Rattle.cdx_leaf.specs.Parts.{text_alone};
+ghost use Rattle.std.specs.Prelude.{refl};
+ghost use Rattle.cdx_schema.specs.XmlReading.{record_plan, data_plan};
+ghost use Rattle.cdx_service_data.specs.Parts.{service_data_part, data_part};
+
 use crate::parts::{DataPart, ServiceDataPart};
 use crate::service::{Data, DataClassification, ServiceData};
 use cdx_events::{EventReader, List, Text};
@@ -10,11 +18,6 @@ use cdx_leaf::{
 use cdx_models::{SpecVersion, XmlReadError};
 
 impl TextRecord for DataClassification {
-    ghost use Rattle.cdx_models.specs.Trees.{classification};
-    ghost use Rattle.cdx_leaf.specs.RowContents.{content_is};
-    ghost use Rattle.cdx_service_data.specs.Whole.{classification_whole};
-    ghost use Rattle.cdx_leaf.specs.Parts.{text_alone};
-
     type Start = Text;
 
     ghost start = { text_alone };
@@ -38,8 +41,6 @@ impl TextRecord for DataClassification {
 }
 
 impl FromXml for DataClassification {
-    ghost use Rattle.std.specs.Prelude.{refl};
-
     ghost depth = { λ d. d };
 
     ghost at_top = { refl };
@@ -50,10 +51,6 @@ impl FromXml for DataClassification {
 }
 
 impl Children for ServiceDataPart {
-    ghost use Rattle.cdx_models.specs.Trees.{service_data};
-    ghost use Rattle.cdx_schema.specs.XmlReading.{record_plan};
-    ghost use Rattle.cdx_service_data.specs.Parts.{service_data_part};
-
     ghost slots = { service_data_part };
 
     ghost plan = { λ r. record_plan service_data };
@@ -73,10 +70,6 @@ impl Children for ServiceDataPart {
 }
 
 impl XmlRecord for ServiceData {
-    ghost use Rattle.std.specs.Prelude.{refl};
-    ghost use Rattle.cdx_models.specs.Trees.{service_data};
-    ghost use Rattle.cdx_leaf.specs.RowContents.{content_is};
-
     type Part = ServiceDataPart;
 
     ghost no_content = { content_is service_data };
@@ -102,9 +95,6 @@ impl XmlRecord for ServiceData {
 }
 
 impl Children for DataPart {
-    ghost use Rattle.cdx_schema.specs.XmlReading.{data_plan};
-    ghost use Rattle.cdx_service_data.specs.Parts.{data_part};
-
     ghost slots = { data_part };
 
     ghost plan = { λ r. data_plan };
@@ -132,8 +122,6 @@ impl Children for DataPart {
 /// The flows where there is one, which only 1.5 knows; classifications that stand beside them are read and dropped. Else
 /// the classifications. Unknown elements are skipped, and texts are passed over.
 impl FromXml for Data {
-    ghost use Rattle.std.specs.Prelude.{refl};
-
     ghost depth = { λ d. d };
 
     ghost at_top = { refl };

@@ -1,5 +1,11 @@
 //! Signatures.
 
+ghost use Rattle.cdx_models.specs.Trees.{signer};
+ghost use Rattle.cdx_schema.specs.XmlReading.{record_plan, signature_plan};
+ghost use Rattle.cdx_signature.specs.Parts.{signer_part, signature_part};
+ghost use Rattle.std.specs.Prelude.{refl};
+ghost use Rattle.cdx_leaf.specs.RowContents.{content_is};
+
 use crate::parts::{SignaturePart, SignerPart};
 use crate::signature::{Algorithm, Signature, Signer};
 use cdx_events::EventReader;
@@ -10,10 +16,6 @@ use cdx_leaf::{
 use cdx_models::XmlReadError;
 
 impl Children for SignerPart {
-    ghost use Rattle.cdx_models.specs.Trees.{signer};
-    ghost use Rattle.cdx_schema.specs.XmlReading.{record_plan};
-    ghost use Rattle.cdx_signature.specs.Parts.{signer_part};
-
     ghost slots = { signer_part };
 
     ghost plan = { λ r. record_plan signer };
@@ -34,10 +36,6 @@ impl Children for SignerPart {
 }
 
 impl XmlRecord for Signer {
-    ghost use Rattle.std.specs.Prelude.{refl};
-    ghost use Rattle.cdx_models.specs.Trees.{signer};
-    ghost use Rattle.cdx_leaf.specs.RowContents.{content_is};
-
     type Part = SignerPart;
 
     ghost no_content = { content_is signer };
@@ -62,9 +60,6 @@ impl XmlRecord for Signer {
 }
 
 impl Children for SignaturePart {
-    ghost use Rattle.cdx_schema.specs.XmlReading.{signature_plan};
-    ghost use Rattle.cdx_signature.specs.Parts.{signature_part};
-
     ghost slots = { signature_part };
 
     ghost plan = { λ r. signature_plan };
@@ -96,8 +91,6 @@ impl Children for SignaturePart {
 
 /// The signers or the chain that stands last in the element, or else the single signer.
 impl FromXml for Signature {
-    ghost use Rattle.std.specs.Prelude.{refl};
-
     ghost depth = { λ d. d };
 
     ghost at_top = { refl };

@@ -1,5 +1,11 @@
 //! Issues read from XML.
 
+ghost use Rattle.cdx_models.specs.Trees.{source, issue};
+ghost use Rattle.cdx_schema.specs.XmlReading.{record_plan};
+ghost use Rattle.cdx_patch.specs.Slots.{source_slots, issue_slots};
+ghost use Rattle.std.specs.Prelude.{refl};
+ghost use Rattle.cdx_leaf.specs.RowContents.{content_is};
+
 use crate::{Issue, Source};
 use cdx_events::EventReader;
 use cdx_leaf::{
@@ -8,10 +14,6 @@ use cdx_leaf::{
 use cdx_models::XmlReadError;
 
 impl Children for Source {
-    ghost use Rattle.cdx_models.specs.Trees.{source};
-    ghost use Rattle.cdx_schema.specs.XmlReading.{record_plan};
-    ghost use Rattle.cdx_patch.specs.Slots.{source_slots};
-
     ghost slots = { source_slots };
 
     ghost plan = { λ r. record_plan source };
@@ -32,10 +34,6 @@ impl Children for Source {
 }
 
 impl XmlRecord for Source {
-    ghost use Rattle.std.specs.Prelude.{refl};
-    ghost use Rattle.cdx_models.specs.Trees.{source};
-    ghost use Rattle.cdx_leaf.specs.RowContents.{content_is};
-
     type Part = Source;
 
     ghost no_content = { content_is source };
@@ -55,10 +53,6 @@ impl XmlRecord for Source {
 }
 
 impl Children for Issue {
-    ghost use Rattle.cdx_models.specs.Trees.{issue};
-    ghost use Rattle.cdx_schema.specs.XmlReading.{record_plan};
-    ghost use Rattle.cdx_patch.specs.Slots.{issue_slots};
-
     ghost slots = { issue_slots };
 
     ghost plan = { λ r. record_plan issue };
@@ -82,10 +76,6 @@ impl Children for Issue {
 }
 
 impl XmlRecord for Issue {
-    ghost use Rattle.std.specs.Prelude.{refl};
-    ghost use Rattle.cdx_models.specs.Trees.{issue};
-    ghost use Rattle.cdx_leaf.specs.RowContents.{content_is};
-
     type Part = Issue;
 
     ghost no_content = { content_is issue };

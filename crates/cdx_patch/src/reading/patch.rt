@@ -1,5 +1,11 @@
 //! Patches read from XML.
 
+ghost use Rattle.cdx_models.specs.Trees.{diff, patch};
+ghost use Rattle.cdx_schema.specs.XmlReading.{record_plan};
+ghost use Rattle.cdx_patch.specs.Slots.{diff_slots, patch_slots};
+ghost use Rattle.std.specs.Prelude.{refl};
+ghost use Rattle.cdx_leaf.specs.RowContents.{content_is};
+
 use crate::{Diff, Patch, Patches};
 use cdx_events::EventReader;
 use cdx_leaf::{
@@ -9,10 +15,6 @@ use cdx_leaf::{
 use cdx_models::XmlReadError;
 
 impl Children for Diff {
-    ghost use Rattle.cdx_models.specs.Trees.{diff};
-    ghost use Rattle.cdx_schema.specs.XmlReading.{record_plan};
-    ghost use Rattle.cdx_patch.specs.Slots.{diff_slots};
-
     ghost slots = { diff_slots };
 
     ghost plan = { λ r. record_plan diff };
@@ -33,10 +35,6 @@ impl Children for Diff {
 }
 
 impl XmlRecord for Diff {
-    ghost use Rattle.std.specs.Prelude.{refl};
-    ghost use Rattle.cdx_models.specs.Trees.{diff};
-    ghost use Rattle.cdx_leaf.specs.RowContents.{content_is};
-
     type Part = Diff;
 
     ghost no_content = { content_is diff };
@@ -56,10 +54,6 @@ impl XmlRecord for Diff {
 }
 
 impl Children for Patch {
-    ghost use Rattle.cdx_models.specs.Trees.{patch};
-    ghost use Rattle.cdx_schema.specs.XmlReading.{record_plan};
-    ghost use Rattle.cdx_patch.specs.Slots.{patch_slots};
-
     ghost slots = { patch_slots };
 
     ghost plan = { λ r. record_plan patch };
@@ -80,10 +74,6 @@ impl Children for Patch {
 }
 
 impl XmlRecord for Patch {
-    ghost use Rattle.std.specs.Prelude.{refl};
-    ghost use Rattle.cdx_models.specs.Trees.{patch};
-    ghost use Rattle.cdx_leaf.specs.RowContents.{content_is};
-
     type Part = Patch;
 
     ghost no_content = { content_is patch };
@@ -104,8 +94,6 @@ impl XmlRecord for Patch {
 }
 
 impl FromXml for Patches {
-    ghost use Rattle.std.specs.Prelude.{refl};
-
     ghost depth = { λ d. d };
 
     ghost at_top = { refl };

@@ -1,5 +1,11 @@
 //! How complete the parts of a bill are known.
 
+ghost use Rattle.std.specs.Prelude.{refl};
+ghost use Rattle.cdx_models.specs.Trees.{composition};
+ghost use Rattle.cdx_schema.specs.XmlReading.{record_plan};
+ghost use Rattle.cdx_relations.specs.Parts.{composition_part};
+ghost use Rattle.cdx_leaf.specs.RowContents.{content_is};
+
 use crate::composition::{BomReference, Composition, Compositions};
 use crate::parts::CompositionPart;
 use cdx_events::EventReader;
@@ -10,8 +16,6 @@ use cdx_leaf::{
 use cdx_models::{SpecVersion, XmlReadError};
 
 impl FromXml for BomReference {
-    ghost use Rattle.std.specs.Prelude.{refl};
-
     ghost depth = { λ d. d };
 
     ghost at_top = { refl };
@@ -30,10 +34,6 @@ impl FromXml for BomReference {
 }
 
 impl Children for CompositionPart {
-    ghost use Rattle.cdx_models.specs.Trees.{composition};
-    ghost use Rattle.cdx_schema.specs.XmlReading.{record_plan};
-    ghost use Rattle.cdx_relations.specs.Parts.{composition_part};
-
     ghost slots = { composition_part };
 
     ghost plan = { λ r. record_plan composition };
@@ -79,10 +79,6 @@ impl Children for CompositionPart {
 }
 
 impl XmlRecord for Composition {
-    ghost use Rattle.std.specs.Prelude.{refl};
-    ghost use Rattle.cdx_models.specs.Trees.{composition};
-    ghost use Rattle.cdx_leaf.specs.RowContents.{content_is};
-
     type Part = CompositionPart;
 
     ghost no_content = { content_is composition };
@@ -114,8 +110,6 @@ impl XmlRecord for Composition {
 }
 
 impl FromXml for Compositions {
-    ghost use Rattle.std.specs.Prelude.{refl};
-
     ghost depth = { λ d. d };
 
     ghost at_top = { refl };

@@ -1,10 +1,14 @@
 //! Which component or service depends on which.
 
-ghost use Rattle.cdx_models.specs.Trees.{text};
+ghost use Rattle.cdx_models.specs.Trees.{text, dependency};
 ghost use Rattle.cdx_schema.specs.Kinds.{a_reference};
 ghost use Rattle.cdx_leaf.specs.Reading.{IsIn};
 ghost use Rattle.cdx_leaf.specs.Children.{TakesMore};
 ghost use Rattle.cdx_leaf.specs.Trees.{collected};
+ghost use Rattle.cdx_schema.specs.XmlReading.{record_plan};
+ghost use Rattle.cdx_relations.specs.Parts.{dependency_part};
+ghost use Rattle.std.specs.Prelude.{refl};
+ghost use Rattle.cdx_leaf.specs.RowContents.{content_is};
 
 use crate::composition::BomReference;
 use crate::dependency::{Dependencies, Dependency};
@@ -31,10 +35,6 @@ fn take_reference(
 }
 
 impl Children for Dependency {
-    ghost use Rattle.cdx_models.specs.Trees.{dependency};
-    ghost use Rattle.cdx_schema.specs.XmlReading.{record_plan};
-    ghost use Rattle.cdx_relations.specs.Parts.{dependency_part};
-
     ghost slots = { dependency_part };
 
     ghost plan = { λ r. record_plan dependency };
@@ -54,10 +54,6 @@ impl Children for Dependency {
 }
 
 impl XmlRecord for Dependency {
-    ghost use Rattle.std.specs.Prelude.{refl};
-    ghost use Rattle.cdx_models.specs.Trees.{dependency};
-    ghost use Rattle.cdx_leaf.specs.RowContents.{content_is};
-
     type Part = Dependency;
 
     ghost no_content = { content_is dependency };
@@ -77,8 +73,6 @@ impl XmlRecord for Dependency {
 }
 
 impl FromXml for Dependencies {
-    ghost use Rattle.std.specs.Prelude.{refl};
-
     ghost depth = { λ d. d };
 
     ghost at_top = { refl };
