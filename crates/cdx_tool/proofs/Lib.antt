@@ -7,3 +7,4 @@ pub mod Settling
 pub mod MadeRoads
 pub mod MadeBills
 pub mod Printing
+pub mod LoneMember

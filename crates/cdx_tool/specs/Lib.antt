@@ -5,3 +5,4 @@ pub mod Words
 pub mod Commands
 pub mod Run
 pub mod Owed
+pub mod LoneMember

@@ -1,9 +1,10 @@
 //! Parts of a JSON value.
 
-ghost use Rattle.std.specs.Prelude.{◌≡◌, List, Option, option_map, option_and_then, IfOk};
+ghost use Rattle.std.specs.Prelude.{◌≡◌, List, Option, option_map, option_and_then, IfOk, string_bytes};
 ghost use Rattle.serde_json.specs.Data.{Data};
 ghost use Rattle.serde_json.specs.Find.{get, as_array};
 ghost use Rattle.serde_json.specs.View.{view, items_view};
+ghost use Rattle.cdx_tool.specs.LoneMember.{lone_member};
 ghost use Rattle.cdx_request.specs.Parts.{member_count, has, how_many, text_at as text_in, version_at as version_in, if_text, all_in};
 
 use cdx_events::{List as Items, Text};
@@ -19,6 +20,18 @@ pub fn count_members(value: &Value) -> usize
         Some(map) => map.len(),
         None => 0,
     }
+}
+
+/// The name and the value of the only member, where the value is an object of one.
+pub(crate) fn lone_member<'v>(value: &'v Value) -> Option<(&'v String, &'v Value)>
+    ensures { option_map (λ m. (string_bytes m.0.now, view m.1.now)) result
+        ≡ lone_member (view value.now) }
+{
+    let map = value.as_object()?;
+    if map.len() != 1 {
+        return None;
+    }
+    map.first_key_value()
 }
 
 pub(crate) fn has_member(value: &Value, name: &str) -> bool

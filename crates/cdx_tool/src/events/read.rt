@@ -1,12 +1,13 @@
 //! Events out of JSON values.
 
-ghost use Rattle.std.specs.Prelude.{◌≡◌, ◌+◌, ℕ, List, map, option_map, IfOk};
+ghost use Rattle.std.specs.Prelude.{◌≡◌, ◌+◌, option_map, IfOk, IsNone, None};
+ghost use Rattle.serde_json.specs.Data.{object, member, no_members, string};
 ghost use Rattle.serde_json.specs.View.{view};
-ghost use Rattle.cdx_events.specs.declared.event.XmlEvent.{XmlEvent};
-ghost use Rattle.cdx_request.specs.EventReading.{name_at, name_count, attribute_of, if_attributes, mark_of, mark_event, start_count, start_parts, start_event, end_event, text_event, event_of, events_of};
+ghost use Rattle.cdx_tool.specs.LoneMember.{lone_member};
+ghost use Rattle.cdx_request.specs.EventReading.{name_at, name_count, attribute_of, if_attributes, mark_of, start_count, start_parts, start_event, end_event, event_of, events_of};
 
 use crate::part::{
-    Part, count_members, count_named, has_member, read_items, read_text_if, text_at,
+    Part, count_members, count_named, has_member, lone_member, read_items, read_text_if, text_at,
 };
 use cdx_events::{List as Items, Namespace, OwnedAttribute, OwnedName, Text, XmlEvent as Event};
 use serde_json::Value;
@@ -82,15 +83,6 @@ fn mark(text: &str) -> Option<Event>
     }
 }
 
-fn read_mark(value: &Value) -> Option<Event>
-    ensures { result ≡ mark_event (view value.now) }
-{
-    if count_members(value) != 1 {
-        return None;
-    }
-    mark(text_at(value, "document")?)
-}
-
 fn count_start(value: &Value) -> usize
     ensures { result ≡ start_count (view value.now) }
 {
@@ -137,17 +129,51 @@ fn read_end(alloc: Global, value: &Value) -> Result<Option<Event>, AllocError>
     }
 }
 
-// The only member of an object, which is a text.
-fn read_only_text(alloc: Global, value: &Value, name: &str) -> Result<Option<Text>, AllocError>
-    ensures { IfOk result (λ o. (event : List ℕ → XmlEvent)
-        → option_map event o ≡ text_event name.now event (view value.now)) }
+fn lone_name(alloc: Global, local_name: &str) -> Result<OwnedName, AllocError>
+    ensures { IfOk result (λ n. n
+        ≡ record { local_name = local_name.now; namespace = None; prefix = None }) }
 {
-    if count_members(value) != 1 {
-        return Ok(None);
+    Ok(OwnedName {
+        local_name: Text::new(alloc, local_name)?,
+        namespace: None,
+        prefix: None,
+    })
+}
+
+// The event of an object with this member alone, which is a text.
+fn read_lone_text(alloc: Global, name: &str, text: &str) -> Result<Option<Event>, AllocError>
+    ensures { IfOk result
+        (λ o. o ≡ event_of (object (member name.now (string text.now) no_members))) }
+{
+    match name {
+        "document" => Ok(mark(text)),
+        "element" => Ok(Some(Event::StartElement {
+            name: lone_name(alloc, text)?,
+            attributes: Items::new(alloc),
+            namespace: Namespace { default: None },
+        })),
+        "end" => Ok(Some(Event::EndElement {
+            name: lone_name(alloc, text)?,
+        })),
+        "text" => Ok(Some(Event::Characters(Text::new(alloc, text)?))),
+        "cdata" => Ok(Some(Event::CData(Text::new(alloc, text)?))),
+        _ => Ok(None),
     }
-    match text_at(value, name) {
-        None => Ok(None),
-        Some(text) => Ok(Some(Text::new(alloc, text)?)),
+}
+
+// The event of an object of no member or several: the start of an element or its end.
+fn read_several(alloc: Global, value: &Value) -> Result<Option<Event>, AllocError>
+    requires { IsNone (lone_member (view value.now)) }
+    ensures { IfOk result (λ o. o ≡ event_of (view value.now)) }
+{
+    if has_member(value, "document") {
+        Ok(None)
+    } else if has_member(value, "element") {
+        read_start(alloc, value)
+    } else if has_member(value, "end") {
+        read_end(alloc, value)
+    } else {
+        Ok(None)
     }
 }
 
@@ -155,18 +181,12 @@ impl Part for Event {
     ghost part_of = { event_of };
 
     fn from_value(alloc: Global, value: &Value) -> Result<Option<Event>, AllocError> {
-        if has_member(value, "document") {
-            Ok(read_mark(value))
-        } else if has_member(value, "element") {
-            read_start(alloc, value)
-        } else if has_member(value, "end") {
-            read_end(alloc, value)
-        } else if has_member(value, "text") {
-            Ok(read_only_text(alloc, value, "text")?.map(Event::Characters))
-        } else if has_member(value, "cdata") {
-            Ok(read_only_text(alloc, value, "cdata")?.map(Event::CData))
-        } else {
-            Ok(None)
+        match lone_member(value) {
+            None => read_several(alloc, value),
+            Some((name, member)) => match member.as_str() {
+                None => Ok(None),
+                Some(text) => read_lone_text(alloc, name.as_str(), text),
+            },
         }
     }
 }
