@@ -1,6 +1,6 @@
 -- What is read of an object of one member.
 use Rattle.std.specs.Prelude.{ℕ, List, Option, Some, None}
-use Rattle.serde_json.specs.Data.{Data, object, Members, no_members, member}
+use Rattle.serde_json.specs.Data.{Data, object, no_members, member}
 
 -- the name and the value of the only member of an object
 abbrev pub lone_member : Data → Option (List ℕ × Data)
