@@ -42,11 +42,11 @@ asked_of d = if member_count d == 2 then asked_parts (version_at (codes "from") 
 -- why there is none
 pub data Lack : Type 0 where
   misread : Misread → Lack
-  refused : Refusal → Lack
+  bill_refused : Refusal → Lack
 
 abbrev pub billed : Result Tree Refusal → Result Tree Lack
 billed (Ok b) = Ok b
-billed (Err r) = Err (refused r)
+billed (Err r) = Err (bill_refused r)
 
 abbrev pub bill_of : Result Asked Misread → Result Tree Lack
 bill_of (Ok a) = billed (denotes a.doc a.from)
@@ -64,7 +64,7 @@ AsksFor bytes b = (d : Data) × (json_of bytes ≡ Some d) × (bill_in d ≡ Ok 
 
 abbrev pub reply_to_lack : Lack → Reply
 reply_to_lack (misread e) = reply_to_misread e
-reply_to_lack (refused r) = reply 1 (refused_answer r)
+reply_to_lack (bill_refused r) = reply 1 (refused_answer r)
 
 -- f is what is answered to a bill
 abbrev pub reply_to_bill : (Tree → Data) → Result Tree Lack → Reply
@@ -90,7 +90,7 @@ Lacks owed (lack.Misread (misreading.Memory m)) = Unit {0}
 Lacks owed (lack.Misread misreading.Shape) = owed ≡ Err (misread shape)
 Lacks owed (lack.Misread (misreading.Unbalanced place)) = owed ≡ Err (misread (unbalanced place))
 Lacks owed (lack.Refused (error.Memory m)) = Unit {0}
-Lacks owed (lack.Refused e) = (r : Refusal) × (refusal_of e ≡ Some r) × (owed ≡ Err (refused r))
+Lacks owed (lack.Refused e) = (r : Refusal) × (refusal_of e ≡ Some r) × (owed ≡ Err (bill_refused r))
 
 -- The answer is what is owed: the bill, or why there is none.
 abbrev pub GivesBill : Result Tree Lack → Result Bom NoBill → Type 0

@@ -4,7 +4,7 @@
 ghost use Rattle.std.specs.Prelude.{◌≡◌, Some, IfOk, IsSome, Result as Owed};
 ghost use Rattle.cdx_models.specs.Trees.{Tree};
 ghost use Rattle.serde_json.specs.Data.{Data};
-ghost use Rattle.cdx_tool.specs.Reads.{Reads};
+ghost use Rattle.cdx_tool.specs.Reads.{ReadsOwed};
 ghost use Rattle.cdx_tool.specs.Shows.{reply_of};
 ghost use Rattle.serde_json.specs.View.{view};
 ghost use Rattle.cdx_schema.specs.Roads.{Refusal};
@@ -69,7 +69,7 @@ impl From<RoadError> for NoBill {
 /// `Shape` comes exactly where the value is no such object, and else `Unbalanced` exactly where the document's events
 /// aren't balanced.
 pub fn read_question(alloc: Global, value: Value) -> Result<Question, RequestError>
-    ensures { Reads IsQuestion (asked_of (view value)) result }
+    ensures { ReadsOwed IsQuestion (asked_of (view value)) result }
 {
     if count_members(&value) != 2 {
         return Err(RequestError::Shape);

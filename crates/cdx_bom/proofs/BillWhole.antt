@@ -13,7 +13,7 @@ use Rattle.cdx_bom.specs.declared.bom.Bom.{Bom}
 use Rattle.cdx_bom.specs.declared.reading.part.BillPart.{BillPart}
 use Rattle.cdx_bom.specs.Trees.{bom_tree}
 use Rattle.cdx_bom.specs.Reading.{bill_slots}
-use Rattle.cdx_bom.specs.BillReading.{IsRefusal}
+use Rattle.cdx_push_reader.specs.Documents.{IsRefusal}
 
 -- Nothing is missing at a bill's end.
 pub whole_end : (part : BillPart) (b : Bom) → bom_tree b ≡ fields bill (bill_slots part) → (el : List ℕ) (v : SpecVersion) (q : ℕ) → record_end bill el v q (bill_slots part) ≡ Ok (bom_tree b)

@@ -20,7 +20,7 @@ use Rattle.cdx_write.specs.WrittenRows.{attribute_put, attributes_put, rows_writ
 use Rattle.cdx_write.specs.Writing.{end_tag}
 use Rattle.cdx_write.proofs.RowsLaws.{attributes_are, rows_are, rows_in_groups}
 use Rattle.cdx_bom.specs.declared.bom.Bom.{Bom}
-use Rattle.cdx_bom.specs.Trees.{bom_tree, inventory, relations}
+use Rattle.cdx_bom.specs.Trees.{bom_tree, inventory_groups, relations}
 use Rattle.cdx_bom.specs.BillWriting.{root_start, document_in}
 
 bill_kept : (w : SpecVersion) (ts : Trees) → keep w (fields bill ts) a_bill ≡ fields bill (rows_kept w w ts (rows bill))
@@ -37,26 +37,26 @@ unfolding attribute_put kept
 turned n None w = refl
 turned n (Some u) w = refl
 
-put_in_order : (b : Bom) (w : SpecVersion) → attributes_put (inventory b ⧺ relations b) w (rows bill) ≡ attribute_put (codes "version") a_number (number b.version) w ++ attribute_put (codes "serialNumber") a_text (present urn_tree b.serial_number) w ++ []
+put_in_order : (b : Bom) (w : SpecVersion) → attributes_put (inventory_groups b ⧺ relations b) w (rows bill) ≡ attribute_put (codes "version") a_number (number b.version) w ++ attribute_put (codes "serialNumber") a_text (present urn_tree b.serial_number) w ++ []
 unfolding attributes_put rows attribute_put kept
 put_in_order b w = refl
 
 -- The root's attributes.
 pub root_attributes_are : (b : Bom) (w : SpecVersion) → attribute_put (codes "serialNumber") a_text (present urn_tree b.serial_number) w ++ attribute_put (codes "version") a_number (number b.version) w ≡ attributes_of (keep w (bom_tree b) a_bill) w a_bill
 root_attributes_are b w =
-    sym (turned b.version b.serial_number w) ∙ ap reverse (sym (put_in_order b w) ∙ attributes_are (inventory b ⧺ relations b) w (rows bill))
-    ∙ ap (λ t. attributes_of t w a_bill) (sym (bill_kept w (inventory b ⧺ relations b)))
+    sym (turned b.version b.serial_number w) ∙ ap reverse (sym (put_in_order b w) ∙ attributes_are (inventory_groups b ⧺ relations b) w (rows bill))
+    ∙ ap (λ t. attributes_of t w a_bill) (sym (bill_kept w (inventory_groups b ⧺ relations b)))
 
 -- ---- the document
 
 -- The rows of the two groups are those of the bill.
-pub both_groups : (b : Bom) (w : SpecVersion) → rows_written (inventory b) w (group 0 bill) ++ rows_written (relations b) w (group 1 bill) ≡ rows_written (fields_of (bom_tree b)) w (rows bill)
+pub both_groups : (b : Bom) (w : SpecVersion) → rows_written (inventory_groups b) w (group 0 bill) ++ rows_written (relations b) w (group 1 bill) ≡ rows_written (fields_of (bom_tree b)) w (rows bill)
 unfolding rows
-both_groups b w = sym (rows_in_groups (inventory b) (relations b) w (group 0 bill) (group 1 bill) refl)
+both_groups b w = sym (rows_in_groups (inventory_groups b) (relations b) w (group 0 bill) (group 1 bill) refl)
 
 pub nodes_are : (b : Bom) (w : SpecVersion) → rows_written (fields_of (bom_tree b)) w (rows bill) ≡ events_of_all (nodes_of (keep w (bom_tree b) a_bill) w a_bill)
 unfolding nodes_of
-nodes_are b w = rows_are (inventory b ⧺ relations b) w (rows bill) ∙ ap (λ t. events_of_all (nodes_of t w a_bill)) (sym (bill_kept w (inventory b ⧺ relations b)))
+nodes_are b w = rows_are (inventory_groups b ⧺ relations b) w (rows bill) ∙ ap (λ t. events_of_all (nodes_of t w a_bill)) (sym (bill_kept w (inventory_groups b ⧺ relations b)))
 
 -- what the writer appends after the start of the document
 abbrev pub from_rows : Bom → SpecVersion → List XmlEvent

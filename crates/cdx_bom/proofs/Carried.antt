@@ -21,7 +21,7 @@ use Rattle.cdx_schema.specs.Results.{◌>>=◌}
 use Rattle.cdx_schema.specs.Trips as trips
 use Rattle.cdx_schema.specs.Roads as roads
 use Rattle.cdx_schema.specs.Roads.{Refusal, of_json, of_xml, version_missing, from_json, from_xml, denotes, fits_all, hops_from, road}
-use Rattle.cdx_leaf.specs.Reading.{ReadsDocument}
+use Rattle.cdx_leaf.specs.Reading.{ReadsRoot}
 use Rattle.cdx_json.specs.Gives.{Fails}
 use Rattle.cdx_leaf.specs.Fault as leaf
 use Rattle.cdx_bom.specs.declared.bom.Bom.{Bom}
@@ -31,9 +31,9 @@ use Rattle.cdx_bom.specs.declared.doc.Hop.{Hop}
 use Rattle.cdx_bom.specs.declared.doc.RoadError.{RoadError}
 use Rattle.cdx_bom.specs.declared.doc.RoadError.TheVariants as error
 use Rattle.cdx_bom.specs.Trees.{bom_tree}
-use Rattle.cdx_bom.specs.Docs.{IsDoc, AreDocs, refusal_of, Refuses, Answers, alone, hop_of, hops_of}
+use Rattle.cdx_bom.specs.Docs.{IsDoc, AreDocs, refusal_of, Refuses, AnswersDocs, alone, hop_of, hops_of}
 use Rattle.cdx_bom.specs.Refused.{of_json_error, of_xml_error}
-use Rattle.cdx_bom.specs.Hops.{any_first, Denotes, spelled, rewritten}
+use Rattle.cdx_bom.specs.Hops.{any_first, DenotesBill, hop_document, rewritten}
 
 -- ---- refusals
 
@@ -76,7 +76,7 @@ json_fault d value x v e is p h = by x (subst (λ z. IsDoc z x) is p)
     by (roads.json y) q = subst (λ z. Refuses (from_json (json_denotes z v)) (of_json_error e)) q (json_refuses e (json_denotes (view value) v) h)
     by (roads.xml y) q = absurd q
 
-pub xml_fault : (d : Doc) (events : Events) (x : roads.Doc) (v : SpecVersion) (e : XmlReadError) → d ≡ doc.Xml events → IsDoc d x → ReadsDocument bom_tree events.list v a_bill (Err e) → Refuses (denotes x v) (of_xml_error e)
+pub xml_fault : (d : Doc) (events : Events) (x : roads.Doc) (v : SpecVersion) (e : XmlReadError) → d ≡ doc.Xml events → IsDoc d x → ReadsRoot bom_tree events.list v a_bill (Err e) → Refuses (denotes x v) (of_xml_error e)
 xml_fault d events x v e is p h = by x (subst (λ z. IsDoc z x) is p)
   where
     by : (y : roads.Doc) → IsDoc (doc.Xml events) y → Refuses (denotes y v) (of_xml_error e)
@@ -105,13 +105,13 @@ one_more_doc (e ∷ ds) (z ∷ ys) d y a i = (a.0, one_more_doc ds ys d y a.1 i)
 
 module _ (bill : Bom) (hops : List Hop) where
   -- the first hop
-  pub begins : (h : Hop) (rest : List Hop) (d : Doc) → hops ≡ h ∷ rest → IsDoc d (spelled (bom_tree bill) (hop_of h)) → IsAlong bill hops rest [] d h.version
+  pub begins : (h : Hop) (rest : List Hop) (d : Doc) → hops ≡ h ∷ rest → IsDoc d (hop_document (bom_tree bill) (hop_of h)) → IsAlong bill hops rest [] d h.version
   begins h rest d is p = record {
     ys = [];
-    z = spelled (bom_tree bill) (hop_of h);
+    z = hop_document (bom_tree bill) (hop_of h);
     are = tt;
     is = p;
-    whole = λ x v e. ap (λ hs. hops_from x v (hops_of hs)) is ∙ ap (λ r. r >>= λ b. hops_from (spelled b (hop_of h)) h.version (hops_of rest) >>= λ more. Ok (spelled b (hop_of h) ∷ more)) e;
+    whole = λ x v e. ap (λ hs. hops_from x v (hops_of hs)) is ∙ ap (λ r. r >>= λ b. hops_from (hop_document b (hop_of h)) h.version (hops_of rest) >>= λ more. Ok (hop_document b (hop_of h) ∷ more)) e;
   }
 
   -- one more
@@ -124,10 +124,10 @@ module _ (bill : Bom) (hops : List Hop) where
     whole = λ x w d. a.whole x w d ∙ by (denotes a.z v) e;
   }
     where
-      by : (r : Result Tree Refusal) → (r >>= λ b. Ok (spelled b (hop_of h))) ≡ Ok y
-          → ((r >>= λ b. hops_from (spelled b (hop_of h)) h.version (hops_of rest) >>= λ more. Ok (spelled b (hop_of h) ∷ more)) >>= λ more. Ok (a.ys ++ a.z ∷ more)) ≡ (hops_from y h.version (hops_of rest) >>= λ more. Ok ((a.ys ++ a.z ∷ []) ++ y ∷ more))
+      by : (r : Result Tree Refusal) → (r >>= λ b. Ok (hop_document b (hop_of h))) ≡ Ok y
+          → ((r >>= λ b. hops_from (hop_document b (hop_of h)) h.version (hops_of rest) >>= λ more. Ok (hop_document b (hop_of h) ∷ more)) >>= λ more. Ok (a.ys ++ a.z ∷ more)) ≡ (hops_from y h.version (hops_of rest) >>= λ more. Ok ((a.ys ++ a.z ∷ []) ++ y ∷ more))
       by (Ok b) i =
-          let same : spelled b (hop_of h) ≡ y = cc in
+          let same : hop_document b (hop_of h) ≡ y = cc in
           ap (λ u. (hops_from u h.version (hops_of rest) >>= λ more. Ok (u ∷ more)) >>= λ more. Ok (a.ys ++ a.z ∷ more)) same ∙ joined (hops_from y h.version (hops_of rest))
         where
           joined : (r : Result (List roads.Doc) Refusal) → ((r >>= λ more. Ok (y ∷ more)) >>= λ more. Ok (a.ys ++ a.z ∷ more)) ≡ (r >>= λ more. Ok ((a.ys ++ a.z ∷ []) ++ y ∷ more))
@@ -140,13 +140,13 @@ module _ (bill : Bom) (hops : List Hop) where
       → (x : roads.Doc) (w : SpecVersion) → denotes x w ≡ Ok (bom_tree bill) → Refuses (hops_from x w (hops_of hops)) e
   stops h rest docs final v a e r x w d = refused_as e (rewritten a.z v (hop_of h)) (hops_from x w (hops_of hops)) (λ f is. a.whole x w d ∙ by (denotes a.z v) f is) r
     where
-      by : (r : Result Tree Refusal) (f : Refusal) → (r >>= λ b. Ok (spelled b (hop_of h))) ≡ Err f
-          → ((r >>= λ b. hops_from (spelled b (hop_of h)) h.version (hops_of rest) >>= λ more. Ok (spelled b (hop_of h) ∷ more)) >>= λ more. Ok (a.ys ++ a.z ∷ more)) ≡ Err f
+      by : (r : Result Tree Refusal) (f : Refusal) → (r >>= λ b. Ok (hop_document b (hop_of h))) ≡ Err f
+          → ((r >>= λ b. hops_from (hop_document b (hop_of h)) h.version (hops_of rest) >>= λ more. Ok (hop_document b (hop_of h) ∷ more)) >>= λ more. Ok (a.ys ++ a.z ∷ more)) ≡ Err f
       by (Ok b) f i = absurd cc
       by (Err g) f i = cc
 
   -- no hop is left
-  pub ends : (docs : List Doc) (final : Doc) (v : SpecVersion) (a : IsAlong bill hops [] docs final v) (x : roads.Doc) (w : SpecVersion) → denotes x w ≡ Ok (bom_tree bill) → Answers (hops_from x w (hops_of hops)) (Ok (docs ++ final ∷ []))
+  pub ends : (docs : List Doc) (final : Doc) (v : SpecVersion) (a : IsAlong bill hops [] docs final v) (x : roads.Doc) (w : SpecVersion) → denotes x w ≡ Ok (bom_tree bill) → AnswersDocs (hops_from x w (hops_of hops)) (Ok (docs ++ final ∷ []))
   ends docs final v a x w d = (a.ys ++ a.z ∷ [], a.whole x w d, one_more_doc docs a.ys final a.z a.are a.is)
 
 -- ---- versions
@@ -184,10 +184,10 @@ pub missing_then : (e : RoadError) (x : roads.Doc) (v : SpecVersion) (hs : List 
 missing_then e x v hs b d f r = this_refusal e version_missing (road x v hs) r (ap (λ q. q >>= after_bill x v hs) d ∙ ap (λ (c : Bool). if c then hops_from x v hs else Err version_missing) f)
 
 -- the hops make the documents
-pub hops_then : (result : Result (List Doc) RoadError) (x : roads.Doc) (v : SpecVersion) (hs : List trips.Hop) (b : Tree) → denotes x v ≡ Ok b → fits_all hs b ≡ true → Answers (hops_from x v hs) result → Answers (road x v hs) result
+pub hops_then : (result : Result (List Doc) RoadError) (x : roads.Doc) (v : SpecVersion) (hs : List trips.Hop) (b : Tree) → denotes x v ≡ Ok b → fits_all hs b ≡ true → AnswersDocs (hops_from x v hs) result → AnswersDocs (road x v hs) result
 hops_then result x v hs b d f h =
     let same : road x v hs ≡ hops_from x v hs = ap (λ q. q >>= after_bill x v hs) d ∙ ap (λ (c : Bool). if c then hops_from x v hs else Err version_missing) f in
-    subst (λ r. Answers r result) (sym same) h
+    subst (λ r. AnswersDocs r result) (sym same) h
 
 -- ---- roads of one hop
 
@@ -198,5 +198,5 @@ fits_one h b c e = alone_and (fits h.version b a_bill) ∙ e
     alone_and true = refl
     alone_and false = refl
 
-pub one_hop : (d : Doc) (x : roads.Doc) (v : SpecVersion) (h : trips.Hop) (b : Tree) → denotes x v ≡ Ok b → fits h.version b a_bill ≡ true → IsDoc d (spelled b h) → Answers (road x v (h ∷ [])) (alone (Ok d))
-one_hop d x v h b e f i = hops_then (Ok (d ∷ [])) x v (h ∷ []) b e (fits_one h b true f) (spelled b h ∷ [], ap (λ r. r >>= λ c. Ok (spelled c h ∷ [])) e, (i, tt))
+pub one_hop : (d : Doc) (x : roads.Doc) (v : SpecVersion) (h : trips.Hop) (b : Tree) → denotes x v ≡ Ok b → fits h.version b a_bill ≡ true → IsDoc d (hop_document b h) → AnswersDocs (road x v (h ∷ [])) (alone (Ok d))
+one_hop d x v h b e f i = hops_then (Ok (d ∷ [])) x v (h ∷ []) b e (fits_one h b true f) (hop_document b h ∷ [], ap (λ r. r >>= λ c. Ok (hop_document c h ∷ [])) e, (i, tt))

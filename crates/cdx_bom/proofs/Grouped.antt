@@ -21,7 +21,7 @@ use Rattle.cdx_schema.specs.Keeping.{kept, keep, rows_kept}
 use Rattle.cdx_schema.specs.JsonReading.{Object, jread, seen, bill_read}
 use Rattle.cdx_schema.specs.JsonSpelling.{jspell, heading}
 use Rattle.cdx_json.specs.Gives.{Fails, Gives, IsFaultAt}
-use Rattle.cdx_json.specs.ByRows.{rows_made, own_made, by_rows, named}
+use Rattle.cdx_json.specs.ByRows.{rows_made, own_made, by_rows, as_record}
 use Rattle.cdx_json.specs.KeptRows.{rows_held, rows_put}
 use Rattle.cdx_json.specs.Groups.{group, group_read}
 use Rattle.cdx_json.proofs.Rows.{fails_here}
@@ -29,19 +29,19 @@ use Rattle.cdx_json.proofs.ByRowsLaws.{by_rows_are, rows_split, rows_then, then_
 use Rattle.cdx_json.proofs.KeptRowsLaws.{rows_held_are, rows_put_are}
 use Rattle.cdx_json.proofs.Groups.{held_split, two_equal, put_split}
 use Rattle.cdx_bom.specs.declared.bom.Bom.{Bom}
-use Rattle.cdx_bom.specs.Trees.{inventory, relations, bom_tree}
+use Rattle.cdx_bom.specs.Trees.{inventory_groups, relations, bom_tree}
 use Rattle.cdx_bom.specs.Groups.{format_of, bill_by_groups}
 
 bill_rows : rows bill ≡ group 0 bill ++ group 1 bill
 unfolding rows
 bill_rows = refl
 
-rows_in_groups : (o : Object) (v : SpecVersion) (d : Depth) → by_rows bill o v d ≡ (group_read 0 bill o v d >>= λ a. group_read 1 bill o v d >>= λ b. named bill (a ⧺ b))
+rows_in_groups : (o : Object) (v : SpecVersion) (d : Depth) → by_rows bill o v d ≡ (group_read 0 bill o v d >>= λ a. group_read 1 bill o v d >>= λ b. as_record bill (a ⧺ b))
 rows_in_groups o v d =
     let own = own_made o v d in
-    ap (λ rs. rows_made o own rs v d (named bill)) bill_rows
-    ∙ rows_split o own (group 0 bill) (group 1 bill) v d (named bill)
-    ∙ then_same (group_read 0 bill o v d) _ _ (λ a. rows_then o own (group 1 bill) v d (λ us. named bill (a ⧺ us)))
+    ap (λ rs. rows_made o own rs v d (as_record bill)) bill_rows
+    ∙ rows_split o own (group 0 bill) (group 1 bill) v d (as_record bill)
+    ∙ then_same (group_read 0 bill o v d) _ _ (λ a. rows_then o own (group 1 bill) v d (λ us. as_record bill (a ⧺ us)))
 
 bill_in_groups : (o : Object) (v : SpecVersion) (d : Depth) → bill_read o v d ≡ bill_by_groups o v d
 unfolding bill_by_groups
@@ -73,7 +73,7 @@ bill_gives see r x ms v d is h = subst (Gives see r) (sym (bill_is x ms v d is �
 
 -- ---- what is kept
 
-inventory_count : (b : Bom) → count (inventory b) ≡ length (group 0 bill)
+inventory_count : (b : Bom) → count (inventory_groups b) ≡ length (group 0 bill)
 unfolding rows
 inventory_count b = refl
 
@@ -83,10 +83,10 @@ bill_kept_is V1_3 l ts = refl
 bill_kept_is V1_4 l ts = refl
 bill_kept_is V1_5 l ts = refl
 
-pub bill_kept : (w l : SpecVersion) (t : Tree) (b : Bom) (p q : Trees) → t ≡ fields bill (p ⧺ q) → p ≡ rows_held w l (inventory b) (group 0 bill) → q ≡ rows_held w l (relations b) (group 1 bill) → t ≡ kept w l (bom_tree b) a_bill
+pub bill_kept : (w l : SpecVersion) (t : Tree) (b : Bom) (p q : Trees) → t ≡ fields bill (p ⧺ q) → p ≡ rows_held w l (inventory_groups b) (group 0 bill) → q ≡ rows_held w l (relations b) (group 1 bill) → t ≡ kept w l (bom_tree b) a_bill
 bill_kept w l t b p q is i j =
-    let split = ap (rows_held w l (inventory b ⧺ relations b)) bill_rows ∙ held_split w l (inventory b) (relations b) (group 0 bill) (group 1 bill) (inventory_count b) in
-    is ∙ ap (fields bill) (two_equal p q _ _ i j ∙ sym split ∙ rows_held_are w l (inventory b ⧺ relations b) (rows bill)) ∙ bill_kept_is w l (inventory b ⧺ relations b)
+    let split = ap (rows_held w l (inventory_groups b ⧺ relations b)) bill_rows ∙ held_split w l (inventory_groups b) (relations b) (group 0 bill) (group 1 bill) (inventory_count b) in
+    is ∙ ap (fields bill) (two_equal p q _ _ i j ∙ sym split ∙ rows_held_are w l (inventory_groups b ⧺ relations b) (rows bill)) ∙ bill_kept_is w l (inventory_groups b ⧺ relations b)
 
 -- ---- what is written
 
@@ -94,9 +94,9 @@ bill_object : (w : SpecVersion) (ts : Trees) → object (rows_put ts w (rows bil
 unfolding jspell
 bill_object w ts = ap object (rows_put_are ts w (rows bill) (heading bill))
 
-pub bill_put : (m : BTreeMap (String Global) Value) (b : Bom) (w : SpecVersion) (p q : Members) → q ≡ heading bill → p ≡ rows_put (inventory b) w (group 0 bill) q → members_view m.entries ≡ rows_put (relations b) w (group 1 bill) p
+pub bill_put : (m : BTreeMap (String Global) Value) (b : Bom) (w : SpecVersion) (p q : Members) → q ≡ heading bill → p ≡ rows_put (inventory_groups b) w (group 0 bill) q → members_view m.entries ≡ rows_put (relations b) w (group 1 bill) p
     → view (object_of m) ≡ jspell (keep w (bom_tree b) a_bill) w a_bill
 bill_put m b w p q h i j =
-    let split = ap (λ rs. rows_put (inventory b ⧺ relations b) w rs (heading bill)) bill_rows ∙ put_split w (inventory b) (relations b) (group 0 bill) (group 1 bill) (heading bill) (inventory_count b) in
-    view-Object m ∙ ap object (j ∙ ap (rows_put (relations b) w (group 1 bill)) (i ∙ ap (rows_put (inventory b) w (group 0 bill)) h) ∙ sym split)
-    ∙ bill_object w (inventory b ⧺ relations b) ∙ ap (λ t. jspell t w a_bill) (bill_kept_is w w (inventory b ⧺ relations b))
+    let split = ap (λ rs. rows_put (inventory_groups b ⧺ relations b) w rs (heading bill)) bill_rows ∙ put_split w (inventory_groups b) (relations b) (group 0 bill) (group 1 bill) (heading bill) (inventory_count b) in
+    view-Object m ∙ ap object (j ∙ ap (rows_put (relations b) w (group 1 bill)) (i ∙ ap (rows_put (inventory_groups b) w (group 0 bill)) h) ∙ sym split)
+    ∙ bill_object w (inventory_groups b ⧺ relations b) ∙ ap (λ t. jspell t w a_bill) (bill_kept_is w w (inventory_groups b ⧺ relations b))

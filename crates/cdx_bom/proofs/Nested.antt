@@ -19,7 +19,7 @@ use Rattle.cdx_component.specs.declared.component.Component.TheOpen.{Component-F
 use Rattle.cdx_component.specs.declared.component.Component.TheViews.{out-Component, out-Pedigree}
 use Rattle.cdx_component.specs.declared.component.Components.{Components}
 use Rattle.cdx_component.specs.declared.component.Pedigree.{Pedigree}
-use Rattle.cdx_component.specs.Trees.{origin, naming, marks, contents, component_tree, components_tree, pedigree_tree, component_fields, pedigree_fields, listed}
+use Rattle.cdx_component.specs.Trees.{origin, naming, marks, contents, component_tree, components_tree, pedigree_tree, component_fields, pedigree_fields, listed_components}
 use Rattle.cdx_component.specs.Laws.{component_tree-out, components_tree-out, pedigree_tree-out}
 use Rattle.cdx_service.specs.declared.service.Service.{Service}
 use Rattle.cdx_service.specs.declared.service.Service.TheOpen.{Service-F}
@@ -31,7 +31,7 @@ use Rattle.cdx_models.specs.declared.tool.Tool.{Tool}
 use Rattle.cdx_nest.specs.declared.metadata.Metadata.{Metadata}
 use Rattle.cdx_nest.specs.Trees.{object_tree, tools_tree, makers, terms, metadata_tree}
 use Rattle.cdx_bom.specs.declared.bom.Bom.{Bom}
-use Rattle.cdx_bom.specs.Trees.{inventory, relations, bom_tree}
+use Rattle.cdx_bom.specs.Trees.{inventory_groups, relations, bom_tree}
 use Rattle.cdx_bom.proofs.Names.{lacks, all_lack, SparesLeaves, is_counted, counted_spare, is_level, are_level}
 use Rattle.cdx_bom.proofs.Leaves.{texts_lack, text_lacks, row_lacks, list_lacks, boolean_lacks, urn_lacks, mime_type_lacks, cpe_lacks, entity_lacks, contact_lacks, hashes_lack, licenses_lack, swid_lacks, references_lack, properties_lack, evidence_lacks, signature_lacks, commits_lack, patches_lack, data_lacks, tool_lacks, dependencies_lack, compositions_lack}
 
@@ -154,7 +154,7 @@ pub pedigree_levels : (p : Pedigree) (d : Depth) → is_shallow (pedigree_tree p
 unfolding is_shallow
 pedigree_levels p d = ap (λ t. is_shallow t d) (pedigree_tree-out p) ∙ pedigree_fields_level components_tree (out-Pedigree p) d
 
-pub components_level : (cs : Components) (d : Depth) → is_shallow (components_tree cs) d ≡ are_shallow (each component_tree (listed cs)) d
+pub components_level : (cs : Components) (d : Depth) → is_shallow (components_tree cs) d ≡ are_shallow (each component_tree (listed_components cs)) d
 unfolding is_shallow
 components_level cs d = ap (λ t. is_shallow t d) (components_tree-out cs)
 
@@ -251,7 +251,7 @@ pub metadata_levels : (m : Metadata) (d : Depth) → is_shallow (metadata_tree m
 unfolding is_shallow
 metadata_levels m d = level_after (makers m) (terms m) d (terms_lack is_counted counted_spare m) ∙ makers_level m d
 
-inventory_level : (b : Bom) (d : Depth) → are_shallow (inventory b) d
+inventory_level : (b : Bom) (d : Depth) → are_shallow (inventory_groups b) d
     ≡ (is_shallow (present metadata_tree b.metadata) d && (is_shallow (present components_tree b.components) d && is_shallow (present services_tree b.services) d))
 unfolding is_shallow
 inventory_level b d = rw (
@@ -262,4 +262,4 @@ inventory_level b d = rw (
 pub bill_levels : (b : Bom) → is_shallow (bom_tree b) top
     ≡ (is_shallow (present metadata_tree b.metadata) top && (is_shallow (present components_tree b.components) top && is_shallow (present services_tree b.services) top))
 unfolding is_shallow
-bill_levels b = level_after (inventory b) (relations b) top (relations_lack is_counted counted_spare b) ∙ inventory_level b top
+bill_levels b = level_after (inventory_groups b) (relations b) top (relations_lack is_counted counted_spare b) ∙ inventory_level b top

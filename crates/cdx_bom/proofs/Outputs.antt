@@ -15,7 +15,7 @@ use Rattle.cdx_schema.specs.Kinds.{a_bill}
 use Rattle.cdx_schema.specs.Keeping.{keep, fits}
 use Rattle.cdx_schema.proofs.Clear.{spelling_clear}
 use Rattle.cdx_json.specs.Gives.{Makes}
-use Rattle.cdx_bom.specs.Outputs.{LacksVersion, Outputs, IsRefused, spelled}
+use Rattle.cdx_bom.specs.Outputs.{LacksVersion, Outputs, IsRefused, kept_json}
 
 misfit : (w : SpecVersion) (b : Tree) → fits w b a_bill ≡ false → w ≡ V1_3
 misfit V1_3 b h = refl
@@ -62,5 +62,5 @@ refused_before P (write.JsonElementWriteError n) w b written faults s h = absurd
 refused_before P (write.BomError e) w b written faults s h = (h, refl)
 
 -- no spelling holds a float
-pub spelled_clear : (x : Data) (w : SpecVersion) (b : Tree) → x ≡ spelled w b → has_float x ≡ false
+pub spelled_clear : (x : Data) (w : SpecVersion) (b : Tree) → x ≡ kept_json w b → has_float x ≡ false
 spelled_clear x w b e = ap has_float e ∙ spelling_clear (keep w b a_bill) w a_bill

@@ -13,7 +13,7 @@ use Rattle.cdx_component.specs.declared.component.Component.TheFolds.{ind-Compon
 use Rattle.cdx_component.specs.declared.component.Component.TheShapes.{former-Component-pedigree, former-Component-components}
 use Rattle.cdx_component.specs.declared.component.Components.{Components}
 use Rattle.cdx_component.specs.declared.component.Pedigree.{Pedigree}
-use Rattle.cdx_component.specs.Trees.{origin, naming, marks, contents, component_tree, components_tree, pedigree_tree, component_step, components_step, pedigree_step, component_fields, pedigree_fields, listed}
+use Rattle.cdx_component.specs.Trees.{origin, naming, marks, contents, component_tree, components_tree, pedigree_tree, component_step, components_step, pedigree_step, component_fields, pedigree_fields, listed_components}
 use Rattle.cdx_component.specs.Laws.{component_tree-roll, components_tree-out, pedigree_tree-roll}
 use Rattle.cdx_service.specs.declared.service.Service.{Service}
 use Rattle.cdx_service.specs.declared.service.Service.TheOpen.{Service-F}
@@ -94,7 +94,7 @@ component_lacks Q h q =
 
 pub components_lack : (Q : Name → Bool) → SparesLeaves Q → Q component ≡ false → (cs : Components) → lacks Q (components_tree cs) ≡ true
 unfolding lacks
-components_lack Q h q cs = ap (lacks Q) (components_tree-out cs) ∙ list_lacks Q component_tree (component_lacks Q h q) (listed cs)
+components_lack Q h q cs = ap (lacks Q) (components_tree-out cs) ∙ list_lacks Q component_tree (component_lacks Q h q) (listed_components cs)
 
 pub service_lacks : (Q : Name → Bool) → SparesLeaves Q → Q service ≡ false → (s : Service) → lacks Q (service_tree s) ≡ true
 service_lacks Q h q =

@@ -4,8 +4,6 @@ use Rattle.cdx_events.specs.declared.event.XmlEvent.{XmlEvent}
 use Rattle.cdx_events.specs.Nodes.{Node, document}
 use Rattle.cdx_models.specs.declared.bom.SpecVersion.{SpecVersion}
 use Rattle.cdx_models.specs.declared.errors.XmlReadError.{XmlReadError}
-use Rattle.cdx_models.specs.declared.errors.XmlReadError.TheVariants.{Memory}
-use Rattle.cdx_schema.specs.Locality.{IsDocumentFault}
 use Rattle.cdx_schema.specs.XmlReading.{xml_denotes}
 use Rattle.cdx_leaf.specs.Fault.{Denotes}
 use Rattle.cdx_push_reader.specs.Sources as sources
@@ -16,11 +14,6 @@ use Rattle.cdx_bom.specs.Trees.{bom_tree}
 abbrev pub ReadsBill : List XmlEvent → SpecVersion → Result Bom XmlReadError → Type 0
 ReadsBill events v result = (root : Node) → events ≡ document root → Denotes bom_tree (xml_denotes root v) result
 
--- What a document may be refused with: a fault of documents, or want of memory.
-abbrev pub IsRefusal : XmlReadError → Type 0
-IsRefusal (Memory e) = Unit {0}
-IsRefusal e = IsDocumentFault e
-
 -- The events of a source are gathered, and then read.
-abbrev pub ReadsSource : ℕ → Option (List XmlEvent) → Option (List XmlEvent) → ℕ → ℕ → SpecVersion → Result Bom XmlReadError → Type 0
-ReadsSource budget old new before now v result = sources.ReadsSource bom_tree budget old new before now v result
+abbrev pub ReadsBillFrom : ℕ → Option (List XmlEvent) → Option (List XmlEvent) → ℕ → ℕ → SpecVersion → Result Bom XmlReadError → Type 0
+ReadsBillFrom budget old new before now v result = sources.ReadsSource bom_tree budget old new before now v result

@@ -66,13 +66,13 @@ Refuses owed (error.Memory m) = Unit {0}
 Refuses owed e = (r : Refusal) × (refusal_of e ≡ Some r) × (owed ≡ Err r)
 
 -- An answer is what is owed: these documents in order, or this refusal.
-abbrev pub Answers : Result (List roads.Doc) Refusal → Result (List Doc) RoadError → Type 0
-Answers owed (Ok docs) = (ys : List roads.Doc) × (owed ≡ Ok ys) × AreDocs docs ys
-Answers owed (Err e) = Refuses owed e
+abbrev pub AnswersDocs : Result (List roads.Doc) Refusal → Result (List Doc) RoadError → Type 0
+AnswersDocs owed (Ok docs) = (ys : List roads.Doc) × (owed ≡ Ok ys) × AreDocs docs ys
+AnswersDocs owed (Err e) = Refuses owed e
 
 -- The answer is the road of the document, read in the version, along the hops.
 abbrev pub AnswersRoad : Doc → SpecVersion → List Hop → Result (List Doc) RoadError → Type 0
-AnswersRoad document from hops result = (x : roads.Doc) → IsDoc document x → Answers (roads.road x from (hops_of hops)) result
+AnswersRoad document from hops result = (x : roads.Doc) → IsDoc document x → AnswersDocs (roads.road x from (hops_of hops)) result
 
 abbrev pub alone : Result Doc RoadError → Result (List Doc) RoadError
 alone (Ok d) = Ok (d ∷ [])

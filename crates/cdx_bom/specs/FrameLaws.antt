@@ -7,7 +7,7 @@ use Rattle.cdx_push.specs.Leaf.{kind_of as leaf_kind_of}
 use Rattle.cdx_push.specs.declared.kinds.LeafKind.{LeafKind}
 use Rattle.cdx_machine.specs.Feeding.{IsNoBill}
 use Rattle.cdx_nest_machine.specs.Forms.{plan_of, IsNested, record_nested}
-use Rattle.cdx_nest_machine.specs.Children.{ReadsEach, kind_read, reads_listed}
+use Rattle.cdx_nest_machine.specs.Children.{ReadsEach, child_kind, reads_listed}
 use Rattle.cdx_nest_machine.specs.declared.nested.Reads.{Reads}
 use Rattle.cdx_nest_machine.specs.declared.nested.Reads.TheVariants.{Leaf, Nested}
 use Rattle.cdx_nest.specs.Frames as nests
@@ -17,7 +17,7 @@ use Rattle.cdx_bom.specs.Frames.{kind_of, nest_reads, bill_reads, reader_of}
 use Rattle.cdx_bom.specs.declared.push.frame.BillKind.{BillKind}
 use Rattle.cdx_bom.specs.declared.push.frame.BillKind.TheVariants.{Nest, Bill}
 
-same_kind : (r : Reads LeafKind NestKind) → kind_read leaf_kind_of nests.nest_kind r ≡ kind_read leaf_kind_of kind_of (nest_reads r)
+same_kind : (r : Reads LeafKind NestKind) → child_kind leaf_kind_of nests.nest_kind r ≡ child_kind leaf_kind_of kind_of (nest_reads r)
 same_kind (Leaf l) = refl
 same_kind (Nested k) = refl
 

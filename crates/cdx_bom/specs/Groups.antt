@@ -7,7 +7,7 @@ use Rattle.cdx_schema.specs.Depth.{Depth}
 use Rattle.cdx_schema.specs.Results.{◌>>=◌}
 use Rattle.cdx_schema.specs.Faults.{to_member, JsonFault, under}
 use Rattle.cdx_schema.specs.JsonReading.{Object, format_read}
-use Rattle.cdx_json.specs.ByRows.{named}
+use Rattle.cdx_json.specs.ByRows.{as_record}
 use Rattle.cdx_json.specs.Groups.{group_read}
 
 -- the one text that a format may be
@@ -18,4 +18,4 @@ abbrev pub format_of : Object → SpecVersion → Depth → Result Tree JsonFaul
 format_of o v d = under (to_member (codes "bomFormat")) (format_read (o (codes "bomFormat")) v d)
 
 unfoldable pub bill_by_groups : Object → SpecVersion → Depth → Result Tree JsonFault
-bill_by_groups o v d = format_of o v d >>= λ t. group_read 0 bill o v d >>= λ a. group_read 1 bill o v d >>= λ b. named bill (a ⧺ b)
+bill_by_groups o v d = format_of o v d >>= λ t. group_read 0 bill o v d >>= λ a. group_read 1 bill o v d >>= λ b. as_record bill (a ⧺ b)

@@ -19,11 +19,11 @@ use Rattle.cdx_schema.specs.JsonSpelling.{jspell}
 use Rattle.cdx_schema.specs.Laws.{Fits}
 
 -- what the version keeps of a bill, as JSON and as its text
-abbrev pub spelled : SpecVersion → Tree → Data
-spelled w b = jspell (keep w b a_bill) w a_bill
+abbrev pub kept_json : SpecVersion → Tree → Data
+kept_json w b = jspell (keep w b a_bill) w a_bill
 
-abbrev pub text_of : SpecVersion → Tree → List ℕ
-text_of w b = compact_text (spelled w b)
+abbrev pub compact_kept : SpecVersion → Tree → List ℕ
+compact_kept w b = compact_text (kept_json w b)
 
 -- The version is 1.3, and a component of the bill lacks a version.
 abbrev pub LacksVersion : SpecVersion → Tree → BomError → Type 0
@@ -46,4 +46,4 @@ abbrev pub IsRefused : {K : Type 0} → SpecVersion → Tree → (K → Option (
 IsRefused w b written faults before now (write.BomError e) = LacksVersion w b e × (now ≡ before)
 IsRefused w b written faults before now (write.Memory m) = now ≡ before
 IsRefused w b written faults before now (write.JsonElementWriteError n) =
-    Fits w b × (n ≤ length (text_of w b)) × Appends (written before) (written now) (take n (text_of w b)) × Rose (faults before) (faults now)
+    Fits w b × (n ≤ length (compact_kept w b)) × Appends (written before) (written now) (take n (compact_kept w b)) × Rose (faults before) (faults now)

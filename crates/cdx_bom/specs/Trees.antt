@@ -26,11 +26,11 @@ contents b = trees (present components_tree b.components ∷ present services_tr
 abbrev pub inventory_with : Tree → Bom → Trees
 inventory_with t b = identity b ⧺ more t (contents b)
 
-abbrev pub inventory : Bom → Trees
-inventory b = inventory_with (present metadata_tree b.metadata) b
+abbrev pub inventory_groups : Bom → Trees
+inventory_groups b = inventory_with (present metadata_tree b.metadata) b
 
 abbrev pub relations : Bom → Trees
 relations b = trees (present references_tree b.external_references ∷ present dependencies_tree b.dependencies ∷ present compositions_tree b.compositions ∷ present properties_tree b.properties ∷ present signature_tree b.signature ∷ [])
 
 abbrev pub bom_tree : Bom → Tree
-bom_tree b = fields bill (inventory b ⧺ relations b)
+bom_tree b = fields bill (inventory_groups b ⧺ relations b)

@@ -5,8 +5,8 @@ ghost use Rattle.cdx_models.specs.declared.bom.SpecVersion.{SpecVersion};
 ghost use Rattle.cdx_schema.specs.Roads as roads;
 ghost use Rattle.cdx_bom.specs.declared.doc.Doc.{Doc};
 ghost use Rattle.cdx_bom.specs.Trees.{bom_tree};
-ghost use Rattle.cdx_bom.specs.Docs.{IsDoc, hop_of, hops_of, refusal_of, Answers, AnswersRoad, AnswersHop};
-ghost use Rattle.cdx_bom.specs.Hops.{any_first, Denotes, spelled, rewritten, AnswersDoc};
+ghost use Rattle.cdx_bom.specs.Docs.{IsDoc, hop_of, hops_of, refusal_of, AnswersDocs, AnswersRoad, AnswersHop};
+ghost use Rattle.cdx_bom.specs.Hops.{any_first, DenotesBill, hop_document, rewritten, AnswersDoc};
 
 use crate::bom::Bom;
 use crate::doc::{Doc, Form, Hop, RoadError};
@@ -38,7 +38,7 @@ pub fn one_document()
 
 // The bill that the document denotes, or its first fault.
 fn bill_of(alloc: Global, doc: &Doc, version: SpecVersion) -> Result<Bom, RoadError>
-    ensures { (x : roads.Doc) → IsDoc doc.now x → Denotes (roads.denotes x version) result }
+    ensures { (x : roads.Doc) → IsDoc doc.now x → DenotesBill (roads.denotes x version) result }
 {
     match doc {
         Doc::Json(value) => Ok(Bom::parse_json(alloc, value, version)?),
@@ -48,7 +48,7 @@ fn bill_of(alloc: Global, doc: &Doc, version: SpecVersion) -> Result<Bom, RoadEr
 
 // The document that a hop makes of the bill.
 fn spell(alloc: Global, bill: &Bom, hop: Hop) -> Result<Doc, AllocError>
-    ensures { IfOk result (λ d. IsDoc d (spelled (bom_tree bill.now) (hop_of hop))) }
+    ensures { IfOk result (λ d. IsDoc d (hop_document (bom_tree bill.now) (hop_of hop))) }
 {
     match hop.form {
         Form::Json => Ok(Doc::Json(bill.to_value(alloc, hop.version)?)),
@@ -64,7 +64,7 @@ fn spell(alloc: Global, bill: &Bom, hop: Hop) -> Result<Doc, AllocError>
 
 // The same of a bill that is freed with the call.
 fn spell_freed(alloc: Global, bill: Bom, hop: Hop) -> Result<Doc, AllocError>
-    ensures { IfOk result (λ d. IsDoc d (spelled (bom_tree bill) (hop_of hop))) }
+    ensures { IfOk result (λ d. IsDoc d (hop_document (bom_tree bill) (hop_of hop))) }
 {
     let answer = spell(alloc, &bill, hop);
     drop(bill);
@@ -111,7 +111,7 @@ pub fn version_missing() -> RoadError
 // The documents of the hops, each of the document before it, the first of which is one that denotes the bill.
 fn along(alloc: Global, bill: &Bom, hops: &[Hop]) -> Result<List<Doc>, RoadError>
     ensures { (x : roads.Doc) (v : SpecVersion) → roads.denotes x v ≡ Ok (bom_tree bill.now)
-        → Answers (roads.hops_from x v (hops_of hops.now)) result }
+        → AnswersDocs (roads.hops_from x v (hops_of hops.now)) result }
 {
     let mut docs = List::new(alloc);
     let Some((first, rest)) = hops.split_first() else {
@@ -132,7 +132,7 @@ fn along(alloc: Global, bill: &Bom, hops: &[Hop]) -> Result<List<Doc>, RoadError
 // The documents of the hops from the bill on, unless a hop's version can't hold it.
 fn carry(alloc: Global, bill: Bom, hops: &[Hop]) -> Result<List<Doc>, RoadError>
     ensures { (x : roads.Doc) (v : SpecVersion) → roads.denotes x v ≡ Ok (bom_tree bill)
-        → Answers (roads.road x v (hops_of hops.now)) result }
+        → AnswersDocs (roads.road x v (hops_of hops.now)) result }
 {
     if !fits_all(&bill, hops) {
         drop(bill);
@@ -164,7 +164,7 @@ pub fn road(
 /// The bill of a document, read in a version, or its first fault as `Json` or `Xml`. Nothing else needs the document, and
 /// it is freed once its bill is read. Want of memory comes only as `Memory`.
 pub fn into_bill(alloc: Global, doc: Doc, version: SpecVersion) -> Result<Bom, RoadError>
-    ensures { (x : roads.Doc) → IsDoc doc x → Denotes (roads.denotes x version) result }
+    ensures { (x : roads.Doc) → IsDoc doc x → DenotesBill (roads.denotes x version) result }
 {
     bill_of(alloc, &doc, version)
 }

@@ -19,7 +19,7 @@ use Rattle.cdx_nest.specs.declared.tools.Tools.{Tools}
 use Rattle.cdx_nest.specs.declared.tools.Tools.TheVariants as variant
 use Rattle.cdx_nest.specs.Trees.{tools_tree, makers, terms, metadata_tree}
 use Rattle.cdx_bom.specs.declared.bom.Bom.{Bom}
-use Rattle.cdx_bom.specs.Trees.{inventory, contents, relations, inventory_with, bom_tree}
+use Rattle.cdx_bom.specs.Trees.{inventory_groups, contents, relations, inventory_with, bom_tree}
 use Rattle.cdx_bom.proofs.Names.{SparesLeaves, lacks, all_lack, appended_lack}
 use Rattle.cdx_bom.proofs.Leaves.{texts_lack, row_lacks, list_lacks, urn_lacks, contact_lacks, entity_lacks, licenses_lack, tool_lacks, properties_lack}
 use Rattle.cdx_bom.proofs.Whole.{component_lacks, components_lack, services_lack}
@@ -54,7 +54,7 @@ metadata_lacks m = rw (
   row_lacks is_bill properties_tree (properties_lack is_bill bills_spare) m.properties,
 ) refl
 
-inventory_lacks : (b : Bom) → all_lack is_bill (inventory b) ≡ true
+inventory_lacks : (b : Bom) → all_lack is_bill (inventory_groups b) ≡ true
 unfolding lacks
 inventory_lacks b = rw (
   row_lacks is_bill urn_tree (urn_lacks is_bill) b.serial_number,
@@ -65,7 +65,7 @@ inventory_lacks b = rw (
 
 held_whole : (b : Bom) → IsWhole (bom_tree b)
 unfolding rows
-held_whole b = (refl, (refl, appended_lack is_bill (inventory b) (relations b) (inventory_lacks b) (relations_lack is_bill bills_spare b)))
+held_whole b = (refl, (refl, appended_lack is_bill (inventory_groups b) (relations b) (inventory_lacks b) (relations_lack is_bill bills_spare b)))
 
 -- What 1.5 keeps of it is the bill with the label 1.5.
 held_kept : (b : Bom) → keep V1_5 (bom_tree b) a_bill ≡ labelled V1_5 (bom_tree b)

@@ -10,7 +10,7 @@ use Rattle.cdx_schema.specs.Table.{rows}
 use Rattle.cdx_schema.specs.Depth.{Depth, inside, name_too_deep}
 use Rattle.cdx_schema.specs.Keeping.{is_shallow, are_shallow}
 use Rattle.cdx_schema.specs.Trips.{settled, items_settled, rows_settled, settled_items}
-use Rattle.cdx_schema.specs.Membership.{IsOfAll, AreOfAll, AreFieldsAll, IsListOf, IsRecordOf, may_lack}
+use Rattle.cdx_schema.specs.Membership.{IsOfAll, AreOfAll, AreFieldsAll, IsListKind, IsRecordOf, may_lack}
 use Rattle.cdx_schema.proofs.Alike.{settled_there, settled_more}
 use Rattle.cdx_schema.proofs.TrippedOf.{more_is}
 use Rattle.std.specs.Prelude.{Some, Ok}
@@ -66,7 +66,7 @@ mutual
 
 -- ---- its kind
 
-list_of_settled : (Q : List ℕ → Type 0) (k : Kind) (ts : Trees) → IsListOf k → AreOfAll Q ts (held_kind k) → IsOfAll Q (settled_items k ts) k
+list_of_settled : (Q : List ℕ → Type 0) (k : Kind) (ts : Trees) → IsListKind k → AreOfAll Q ts (held_kind k) → IsOfAll Q (settled_items k ts) k
 unfolding rows
 list_of_settled Q a_tools none is h = (refl, (inl (refl, refl), (inl (refl, refl), tt)))
 list_of_settled Q a_tools (more t ts) is h = (is, h)

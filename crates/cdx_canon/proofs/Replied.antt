@@ -7,14 +7,14 @@ use Rattle.serde_json.specs.Data.{Data, string, Members}
 use Rattle.serde_json.specs.Written.{has_float}
 use Rattle.cdx_models.specs.Trees.{Tree}
 use Rattle.cdx_models.specs.SameLaws.{same-Decides}
-use Rattle.cdx_request.specs.Refusals.{refused as refusal}
+use Rattle.cdx_request.specs.Refusals.{bill_refused as refusal}
 use Rattle.cdx_request.specs.Requests.{Misread, not_json, shape, unbalanced, json_of}
 use Rattle.cdx_request.specs.Replies.{Reply, reply, line_of, no_request, reply_to_misread, limit}
 use Rattle.cdx_tool.specs.Owed.{reply_by, IsSettled}
 use Rattle.cdx_tool.specs.Run.{Tells, Ends}
 use Rattle.cdx_tool.specs.Shows.{reply_of}
 use Rattle.cdx_tool.specs.declared.answer.Answer.{Answer}
-use Rattle.cdx_ask.specs.Asks.{Asked, asked_of, Lack, misread, refused, bill_of, bill_in, reply_to_lack, reply_to_bill, AsksFor}
+use Rattle.cdx_ask.specs.Asks.{Asked, asked_of, Lack, misread, bill_refused, bill_of, bill_in, reply_to_lack, reply_to_bill, AsksFor}
 use Rattle.cdx_canon.specs.Canon.{plain, canon}
 use Rattle.cdx_canon.specs.Answers.{text_answer, is_equal, equal_answer, refused_on, Pair, pair_of, reply_on, reply_beside, reply_to_bills, is_shaped, reply_to_sides, reply_to_pair, reply_if_value, owed, AsksForBoth, TellsEqual}
 use Rattle.cdx_canon.specs.Plain.{with_part}
@@ -32,7 +32,7 @@ told b c = reply 0 (equal_answer (is_equal b c))
 
 on_settled : (side : List ℕ) (next : Tree → Reply) (r : Result Tree Lack) → ((b : Tree) → IsSettled (next b).status) → IsSettled (reply_on side next r).status
 on_settled side next (Ok b) h = h b
-on_settled side next (Err (refused r)) h = inr (inl refl)
+on_settled side next (Err (bill_refused r)) h = inr (inl refl)
 on_settled side next (Err (misread not_json)) h = inr (inr refl)
 on_settled side next (Err (misread shape)) h = inr (inr refl)
 on_settled side next (Err (misread (unbalanced place))) h = inr (inl refl)
@@ -57,7 +57,7 @@ misread_unserved (unbalanced place) h = no_0 0 h
 
 lack_unserved : (l : Lack) → (reply_to_lack l).status ≡ 0 → ⊥
 lack_unserved (misread e) h = misread_unserved e h
-lack_unserved (refused r) h = no_0 0 h
+lack_unserved (bill_refused r) h = no_0 0 h
 
 -- the reply to one bill
 billed : (f : Tree → Data) (r : Result Tree Lack) → (reply_to_bill f r).status ≡ 0 → (b : Tree) × (r ≡ Ok b) × ((reply_to_bill f r).text ≡ line_of (f b))
@@ -67,7 +67,7 @@ billed f (Err l) h = absurd (lack_unserved l h)
 -- the reply to one side goes on from its bill
 goes_on : (side : List ℕ) (next : Tree → Reply) (r : Result Tree Lack) → (reply_on side next r).status ≡ 0 → (b : Tree) × (r ≡ Ok b) × (reply_on side next r ≡ next b)
 goes_on side next (Ok b) h = (b, refl, refl)
-goes_on side next (Err (refused r)) h = absurd (no_0 0 h)
+goes_on side next (Err (bill_refused r)) h = absurd (no_0 0 h)
 goes_on side next (Err (misread not_json)) h = absurd (no_0 1 h)
 goes_on side next (Err (misread shape)) h = absurd (no_0 1 h)
 goes_on side next (Err (misread (unbalanced place))) h = absurd (no_0 0 h)

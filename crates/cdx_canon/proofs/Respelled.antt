@@ -10,7 +10,7 @@ use Rattle.serde_json.specs.Data as json
 use Rattle.cdx_models.specs.declared.bom.SpecVersion.{SpecVersion}
 use Rattle.cdx_models.specs.Trees.{Tree, Trees, none, more, with_field}
 use Rattle.cdx_schema.specs.Kinds.{Kind, a_text, Member, member, merged, Row}
-use Rattle.cdx_schema.specs.JsonSpelling.{jspell, members_spelled, own_members, stands, set_member}
+use Rattle.cdx_schema.specs.JsonSpelling.{jspell, members_spelled, own_members, is_spelled, set_member}
 use Rattle.cdx_schema.proofs.JsonBack.{and_true}
 
 -- ---- putting twice
@@ -94,8 +94,8 @@ past none w rs q y ms h = refl
 past (more t ts) w [] q y ms h = refl
 past (more t ts) w (r ∷ rs) q y ms h =
     let p : (is_other q r.json ≡ true) × (are_other q rs ≡ true) = and_true (is_other q r.json) (are_other q rs) h in
-    ap (members_spelled ts w rs) (row_past (stands r t w) r.json (jspell t w r.kind) (own_members t w) q y ms p.0)
-    ∙ past ts w rs q y (if stands r t w then set_member r.json (jspell t w r.kind) (own_members t w) ms else ms) p.1
+    ap (members_spelled ts w rs) (row_past (is_spelled r t w) r.json (jspell t w r.kind) (own_members t w) q y ms p.0)
+    ∙ past ts w rs q y (if is_spelled r t w then set_member r.json (jspell t w r.kind) (own_members t w) ms else ms) p.1
 
 -- What is put before other rows may be put anew after them.
 pub put_anew : (ts : Trees) (w : SpecVersion) (rs : List Row) (q : List ℕ) (x y : Data) (ms : Members) → are_other q rs ≡ true
@@ -113,7 +113,7 @@ is_named q merged = false
 abbrev pub may_change : ℕ → List ℕ → Tree → Tree → SpecVersion → Trees → List Row → Bool
 may_change i q t u w none rs = false
 may_change i q t u w (more x ts) [] = false
-may_change zero q t u w (more x ts) (r ∷ rs) = is_named q r.json && ((stands r t w && stands r u w) && are_other q rs)
+may_change zero q t u w (more x ts) (r ∷ rs) = is_named q r.json && ((is_spelled r t w && is_spelled r u w) && are_other q rs)
 may_change (suc i) q t u w (more x ts) (r ∷ rs) = may_change i q t u w ts rs
 
 abbrev pub kind_at : ℕ → List Row → Kind
@@ -131,11 +131,11 @@ pub field_anew : (i : ℕ) (q : List ℕ) (t u : Tree) (w : SpecVersion) (ts : T
 unfolding jspell
 field_anew i q t u w none rs ms h = absurd (true≢false (sym h))
 field_anew i q t u w (more x ts) [] ms h = absurd (true≢false (sym h))
-field_anew (suc i) q t u w (more x ts) (r ∷ rs) ms h = field_anew i q t u w ts rs (if stands r x w then set_member r.json (jspell x w r.kind) (own_members x w) ms else ms) h
+field_anew (suc i) q t u w (more x ts) (r ∷ rs) ms h = field_anew i q t u w ts rs (if is_spelled r x w then set_member r.json (jspell x w r.kind) (own_members x w) ms else ms) h
 field_anew zero q t u w (more x ts) (r ∷ rs) ms h =
-    let p : (is_named q r.json ≡ true) × (((stands r t w && stands r u w) && are_other q rs) ≡ true) = and_true (is_named q r.json) ((stands r t w && stands r u w) && are_other q rs) h in
-    let b : ((stands r t w && stands r u w) ≡ true) × (are_other q rs ≡ true) = and_true (stands r t w && stands r u w) (are_other q rs) p.1 in
-    let c : (stands r t w ≡ true) × (stands r u w ≡ true) = and_true (stands r t w) (stands r u w) b.0 in
-    ap (members_spelled ts w rs) (set_is (stands r t w) r.json (jspell t w r.kind) (own_members t w) q ms c.0 p.0)
+    let p : (is_named q r.json ≡ true) × (((is_spelled r t w && is_spelled r u w) && are_other q rs) ≡ true) = and_true (is_named q r.json) ((is_spelled r t w && is_spelled r u w) && are_other q rs) h in
+    let b : ((is_spelled r t w && is_spelled r u w) ≡ true) × (are_other q rs ≡ true) = and_true (is_spelled r t w && is_spelled r u w) (are_other q rs) p.1 in
+    let c : (is_spelled r t w ≡ true) × (is_spelled r u w ≡ true) = and_true (is_spelled r t w) (is_spelled r u w) b.0 in
+    ap (members_spelled ts w rs) (set_is (is_spelled r t w) r.json (jspell t w r.kind) (own_members t w) q ms c.0 p.0)
     ∙ (put_anew ts w rs q (jspell u w r.kind) (jspell t w r.kind) ms b.1
-    ∙ ap (λ ns. put q (jspell t w r.kind) (members_spelled ts w rs ns)) (sym (set_is (stands r u w) r.json (jspell u w r.kind) (own_members u w) q ms c.1 p.0)))
+    ∙ ap (λ ns. put q (jspell t w r.kind) (members_spelled ts w rs ns)) (sym (set_is (is_spelled r u w) r.json (jspell u w r.kind) (own_members u w) q ms c.1 p.0)))

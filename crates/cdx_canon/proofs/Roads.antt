@@ -9,7 +9,7 @@ use Rattle.cdx_schema.specs.Keeping.{keep}
 use Rattle.cdx_schema.specs.JsonSpelling.{jspell}
 use Rattle.cdx_schema.specs.Results.{◌>>=◌}
 use Rattle.cdx_schema.specs.Trips.{Hop}
-use Rattle.cdx_schema.specs.Roads.{Doc, json, Refusal, version_missing, written, denotes, fits_all, hops_from, road, from_json}
+use Rattle.cdx_schema.specs.Roads.{Doc, json, Refusal, version_missing, document_of, denotes, fits_all, hops_from, road, from_json}
 use Rattle.cdx_schema.specs.Laws.{HasBillShape, IsShallow}
 use Rattle.cdx_schema.proofs.ReadOf.{ok_same}
 use Rattle.cdx_schema.proofs.Stated.{json_back, denotes_shapes}
@@ -37,7 +37,7 @@ by_place P x y xs h p f = by h.0 h.1 h.2
 -- ---- hops
 
 -- A hop writes a document that has the bill's text.
-written_has : (b : Tree) → HasBillShape b → IsShallow b → denotes (written js.form js.version (keep V1_5 b a_bill)) V1_5 ≡ Ok (keep V1_5 b a_bill)
+written_has : (b : Tree) → HasBillShape b → IsShallow b → denotes (document_of js.form js.version (keep V1_5 b a_bill)) V1_5 ≡ Ok (keep V1_5 b a_bill)
 written_has b is s = ap from_json (json_back b V1_5 is s refl)
 
 none_there : {A : Type 0} (ds : List A) (z : A) → [] ≡ ds → Contains ds z → ⊥

@@ -13,7 +13,7 @@ use Rattle.cdx_schema.specs.Kinds.{Kind, a_number, a_license_choice, a_bill, Mem
 use Rattle.cdx_schema.specs.Table.{rows}
 use Rattle.cdx_schema.specs.Held.{held_kind}
 use Rattle.cdx_schema.specs.Membership.{AnyText, HasShape, HaveShape, FieldsHaveShape, IsNumberOf, may_lack}
-use Rattle.cdx_schema.specs.JsonSpelling.{jspell, items_spelled, members_spelled, own_members, stands, set_member, heading, in_choice}
+use Rattle.cdx_schema.specs.JsonSpelling.{jspell, items_spelled, members_spelled, own_members, is_spelled, set_member, heading, in_choice}
 use Rattle.cdx_schema.specs.Laws.{HasBillShape}
 use Rattle.cdx_schema.proofs.Stated.{nests}
 use Rattle.cdx_canon.specs.Canon.{plain}
@@ -70,8 +70,8 @@ mutual
   rows_ordered : (ts : Trees) (w : SpecVersion) (rs : List Row) (ms : Members) → FieldsHaveShape ts rs → AreOrdered ms → AreOrdered (members_spelled ts w rs ms)
   rows_ordered none w rs ms h o = o
   rows_ordered (more t ts) w [] ms h o = o
-  rows_ordered (more t ts) w (r ∷ rs) ms h o = rows_ordered ts w rs (if stands r t w then set_member r.json (jspell t w r.kind) (own_members t w) ms else ms) h.1
-      (set_ordered (stands r t w) r.json (jspell t w r.kind) (own_members t w) ms (field_ordered t w r h.0 (λ g. spelled_ordered t w r.kind g)) o (own_ordered t w r ms h.0 o))
+  rows_ordered (more t ts) w (r ∷ rs) ms h o = rows_ordered ts w rs (if is_spelled r t w then set_member r.json (jspell t w r.kind) (own_members t w) ms else ms) h.1
+      (set_ordered (is_spelled r t w) r.json (jspell t w r.kind) (own_members t w) ms (field_ordered t w r h.0 (λ g. spelled_ordered t w r.kind g)) o (own_ordered t w r ms h.0 o))
 
   own_ordered : (t : Tree) (w : SpecVersion) (r : Row) (ms : Members) → IsField t r → AreOrdered ms → AreOrdered (own_members t w ms)
   own_ordered (fields n ts) w r ms (inl e) o = absurd (true≢false (ap is_fields e.0))

@@ -14,7 +14,7 @@ use Rattle.cdx_request.specs.Refusals.{only, a_text, refusal_members, unbalanced
 use Rattle.cdx_request.specs.Requests.{Misread, not_json, shape, unbalanced, json_of}
 use Rattle.cdx_request.specs.Replies.{Reply, line_of, reply, reply_to_misread}
 use Rattle.cdx_tool.specs.Owed.{reply_by}
-use Rattle.cdx_ask.specs.Asks.{Asked, asked_of, Lack, misread, refused, bill_of, bill_in, reply_to_bill}
+use Rattle.cdx_ask.specs.Asks.{Asked, asked_of, Lack, misread, bill_refused, bill_of, bill_in, reply_to_bill}
 use Rattle.cdx_canon.specs.Canon.{plain}
 use Rattle.cdx_canon.specs.Words.{command_of}
 use Rattle.cdx_canon.specs.declared.words.Command.{Command}
@@ -56,7 +56,7 @@ refused_on side ms = object (member (codes "refused") (object ms) (a_text (codes
 -- What is replied to one side: what goes on from its bill, or why there is none. A value that is no question has no side.
 abbrev pub reply_on : List ℕ → (Tree → Reply) → Result Tree Lack → Reply
 reply_on side next (Ok b) = next b
-reply_on side next (Err (refused r)) = reply 1 (refused_on side (refusal_members r))
+reply_on side next (Err (bill_refused r)) = reply 1 (refused_on side (refusal_members r))
 reply_on side next (Err (misread (unbalanced place))) = reply 1 (refused_on side (unbalanced_members place))
 reply_on side next (Err (misread e)) = reply_to_misread e
 

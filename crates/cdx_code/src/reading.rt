@@ -11,7 +11,6 @@ use cdx_events::EventReader;
 use cdx_leaf::{
     Children, End, FromXml, Reading, Rule, Start, Taken, XmlRecord, read_items, take_one,
 };
-use cdx_models::XmlReadError;
 
 impl Children for IdentifiableAction {
     ghost slots = { action_slots };
@@ -41,7 +40,7 @@ impl XmlRecord for IdentifiableAction {
 
     ghost by_rows = { λ part. (refl, refl) };
 
-    fn begin(_opened: &Start<'_>) -> Result<IdentifiableAction, XmlReadError> {
+    fn begin(_opened: &Start<'_>) -> Reading<IdentifiableAction> {
         Ok(IdentifiableAction {
             timestamp: None,
             name: None,
@@ -49,10 +48,7 @@ impl XmlRecord for IdentifiableAction {
         })
     }
 
-    fn finish(
-        _closed: &End<'_>,
-        part: IdentifiableAction,
-    ) -> Result<IdentifiableAction, XmlReadError> {
+    fn finish(_closed: &End<'_>, part: IdentifiableAction) -> Reading<IdentifiableAction> {
         Ok(part)
     }
 }
@@ -87,7 +83,7 @@ impl XmlRecord for Commit {
 
     ghost by_rows = { λ part. (refl, refl) };
 
-    fn begin(_opened: &Start<'_>) -> Result<Commit, XmlReadError> {
+    fn begin(_opened: &Start<'_>) -> Reading<Commit> {
         Ok(Commit {
             uid: None,
             url: None,
@@ -97,7 +93,7 @@ impl XmlRecord for Commit {
         })
     }
 
-    fn finish(_closed: &End<'_>, part: Commit) -> Result<Commit, XmlReadError> {
+    fn finish(_closed: &End<'_>, part: Commit) -> Reading<Commit> {
         Ok(part)
     }
 }

@@ -12,7 +12,7 @@ use Rattle.cdx_schema.specs.Table.{rows}
 use Rattle.cdx_schema.specs.XmlReading.{attributes_read, ended}
 use Rattle.cdx_json.specs.Groups.{group}
 use Rattle.cdx_leaf.specs.Attribute.{or_fault}
-use Rattle.cdx_leaf.specs.Fault.{Fails}
+use Rattle.cdx_leaf.specs.Fault.{FailsAt}
 use Rattle.cdx_leaf.proofs.Groups.{attributes_of_two, ended_of_two}
 use Rattle.cdx_leaf.proofs.Records.{first_fails, then_fails}
 use Rattle.cdx_component.specs.PartTrees.{origin_trees, naming_trees, marks_trees, contents_trees}
@@ -45,9 +45,9 @@ module _ (as' : List OwnedAttribute) (v : SpecVersion) (el : List ℕ) (p : ℕ)
       by_origin ∙ ap (λ r. r >>= λ ts. attributes_read (group 1 component ++ (group 2 component ++ group 3 component)) as' v el p >>= λ us. Ok (ts ⧺ us)) e
       ∙ ap (λ r. r >>= λ us. Ok (o ⧺ us)) others_blank
 
-  pub component_begins_not : (e : XmlReadError) (q : ℕ) → Fails e q (attributes_read (group 0 component) as' v el p) → Fails e q (attributes_read (rows component) as' v el p)
+  pub component_begins_not : (e : XmlReadError) (q : ℕ) → FailsAt e q (attributes_read (group 0 component) as' v el p) → FailsAt e q (attributes_read (rows component) as' v el p)
   component_begins_not e q h =
-      subst (λ r. Fails e q r) (sym by_origin) (first_fails e q (attributes_read (group 0 component) as' v el p) (λ ts. attributes_read (group 1 component ++ (group 2 component ++ group 3 component)) as' v el p >>= λ us. Ok (ts ⧺ us)) h)
+      subst (λ r. FailsAt e q r) (sym by_origin) (first_fails e q (attributes_read (group 0 component) as' v el p) (λ ts. attributes_read (group 1 component ++ (group 2 component ++ group 3 component)) as' v el p >>= λ us. Ok (ts ⧺ us)) h)
 
   pub pedigree_begins : attributes_read (rows pedigree) as' v el p ≡ Ok blank
   unfolding rows attributes_read
@@ -71,13 +71,13 @@ naming_ends p v el q = go p.name v p.version
     go (Some n) V1_5 w = refl
 
 -- the name is missing; or else in 1.3 the version; or else nothing
-pub name_lacks : (p : NamingPart) (v : SpecVersion) (el : List ℕ) (q : ℕ) (e : XmlReadError) (place : ℕ) → Fails e place (or_fault p.name (lacking q el (codes "name"))) → Fails e place (ended (group 1 component) (naming_part p) v el q)
+pub name_lacks : (p : NamingPart) (v : SpecVersion) (el : List ℕ) (q : ℕ) (e : XmlReadError) (place : ℕ) → FailsAt e place (or_fault p.name (lacking q el (codes "name"))) → FailsAt e place (ended (group 1 component) (naming_part p) v el q)
 name_lacks p v el q e place h =
-    subst (λ r. Fails e place r) (sym (naming_ends p v el q)) (first_fails e place (or_fault p.name (lacking q el (codes "name"))) _ h)
+    subst (λ r. FailsAt e place r) (sym (naming_ends p v el q)) (first_fails e place (or_fault p.name (lacking q el (codes "name"))) _ h)
 
-pub version_lacks : (p : NamingPart) (v : SpecVersion) (el : List ℕ) (q : ℕ) (n : List ℕ) (e : XmlReadError) (place : ℕ) → or_fault p.name (lacking q el (codes "name")) ≡ Ok n → Fails e place (in_first v p.version (lacking q el (codes "version"))) → Fails e place (ended (group 1 component) (naming_part p) v el q)
+pub version_lacks : (p : NamingPart) (v : SpecVersion) (el : List ℕ) (q : ℕ) (n : List ℕ) (e : XmlReadError) (place : ℕ) → or_fault p.name (lacking q el (codes "name")) ≡ Ok n → FailsAt e place (in_first v p.version (lacking q el (codes "version"))) → FailsAt e place (ended (group 1 component) (naming_part p) v el q)
 version_lacks p v el q n e place is h =
-    subst (λ r. Fails e place r) (sym (naming_ends p v el q))
+    subst (λ r. FailsAt e place r) (sym (naming_ends p v el q))
     (then_fails e place (or_fault p.name (lacking q el (codes "name"))) n _ is (first_fails e place (in_first v p.version (lacking q el (codes "version"))) _ h))
 
 pub naming_whole : (p : NamingPart) (v : SpecVersion) (el : List ℕ) (q : ℕ) (n : List ℕ) (w : Option (List ℕ)) → or_fault p.name (lacking q el (codes "name")) ≡ Ok n → in_first v p.version (lacking q el (codes "version")) ≡ Ok w
@@ -113,7 +113,7 @@ component_ends x v el q =
     through (Ok ns) o s e is = ap (λ z. (z >>= λ ys. Ok (ns ⧺ ys)) >>= λ ys. Ok (o ⧺ ys)) is
     through (Err f) o s e is = refl
 
-pub component_lacks : (x : ComponentPart) (v : SpecVersion) (el : List ℕ) (q : ℕ) (e : XmlReadError) (place : ℕ) → Fails e place (ended (group 1 component) (naming_part x.naming) v el q) → Fails e place (ended (rows component) (component_part x) v el q)
+pub component_lacks : (x : ComponentPart) (v : SpecVersion) (el : List ℕ) (q : ℕ) (e : XmlReadError) (place : ℕ) → FailsAt e place (ended (group 1 component) (naming_part x.naming) v el q) → FailsAt e place (ended (rows component) (component_part x) v el q)
 component_lacks x v el q e place h =
-    subst (λ r. Fails e place r) (sym (component_ends x v el q))
+    subst (λ r. FailsAt e place r) (sym (component_ends x v el q))
     (first_fails e place (ended (group 1 component) (naming_part x.naming) v el q) (λ ns. Ok (origin_trees x.origin ⧺ (ns ⧺ (marks_trees x.marks ⧺ contents_trees x.contents)))) h)

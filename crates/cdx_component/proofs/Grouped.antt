@@ -12,7 +12,7 @@ use Rattle.cdx_schema.specs.Depth.{Depth}
 use Rattle.cdx_schema.specs.Keeping.{kept, keep}
 use Rattle.cdx_schema.specs.JsonReading.{Object}
 use Rattle.cdx_schema.specs.JsonSpelling.{jspell}
-use Rattle.cdx_json.specs.ByRows.{rows_made, own_made, by_rows, named}
+use Rattle.cdx_json.specs.ByRows.{rows_made, own_made, by_rows, as_record}
 use Rattle.cdx_json.specs.KeptRows.{rows_held, rows_put}
 use Rattle.cdx_json.proofs.ByRowsLaws.{rows_split, rows_then, then_same}
 use Rattle.cdx_json.proofs.KeptRowsLaws.{record_held}
@@ -35,11 +35,11 @@ pub component_in_groups : (o : Object) (v : SpecVersion) (d : Depth) → by_rows
 unfolding component_by_groups
 component_in_groups o v d =
     let own = own_made o v d in
-    ap (λ rs. rows_made o own rs v d (named component)) component_rows
-    ∙ rows_split o own (group 0 component) (group 1 component ++ (group 2 component ++ group 3 component)) v d (named component)
-    ∙ then_same (group_read 0 component o v d) _ _ (λ a. rows_split o own (group 1 component) (group 2 component ++ group 3 component) v d (λ us. named component (a ⧺ us))
-    ∙ then_same (group_read 1 component o v d) _ _ (λ b. rows_split o own (group 2 component) (group 3 component) v d (λ us. named component (a ⧺ (b ⧺ us)))
-    ∙ then_same (group_read 2 component o v d) _ _ (λ c. rows_then o own (group 3 component) v d (λ us. named component (a ⧺ (b ⧺ (c ⧺ us)))))))
+    ap (λ rs. rows_made o own rs v d (as_record component)) component_rows
+    ∙ rows_split o own (group 0 component) (group 1 component ++ (group 2 component ++ group 3 component)) v d (as_record component)
+    ∙ then_same (group_read 0 component o v d) _ _ (λ a. rows_split o own (group 1 component) (group 2 component ++ group 3 component) v d (λ us. as_record component (a ⧺ us))
+    ∙ then_same (group_read 1 component o v d) _ _ (λ b. rows_split o own (group 2 component) (group 3 component) v d (λ us. as_record component (a ⧺ (b ⧺ us)))
+    ∙ then_same (group_read 2 component o v d) _ _ (λ c. rows_then o own (group 3 component) v d (λ us. as_record component (a ⧺ (b ⧺ (c ⧺ us)))))))
 
 origin_counts : (x : Component-F Component Components Pedigree) → count (origin x) ≡ length (group 0 component)
 unfolding rows

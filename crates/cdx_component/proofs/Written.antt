@@ -22,7 +22,7 @@ use Rattle.cdx_component.specs.declared.component.Component.TheOpen.{Component-F
 use Rattle.cdx_component.specs.declared.component.Component.TheViews.{out-Component, out-Pedigree}
 use Rattle.cdx_component.specs.declared.component.Components.{Components}
 use Rattle.cdx_component.specs.declared.component.Pedigree.{Pedigree}
-use Rattle.cdx_component.specs.Trees.{component_tree, components_tree, pedigree_tree, origin, naming, marks, contents, component_fields, pedigree_fields, listed}
+use Rattle.cdx_component.specs.Trees.{component_tree, components_tree, pedigree_tree, origin, naming, marks, contents, component_fields, pedigree_fields, listed_components}
 use Rattle.cdx_component.specs.Laws.{component_tree-out, components_tree-out, pedigree_tree-out, components_there, pedigree_there}
 use Rattle.cdx_component.proofs.Grouped.{component_rows}
 
@@ -116,15 +116,15 @@ pedigree_child name w x = child_there name (a_record pedigree) (pedigree_tree x)
 
 -- ---- a list of components
 
-pub components_inner : (w : SpecVersion) (xs : Components) → flat_map (items_put component_tree (codes "component") (a_record component) w) (listed xs) ≡ inner (components_tree xs) w (a_list components)
+pub components_inner : (w : SpecVersion) (xs : Components) → flat_map (items_put component_tree (codes "component") (a_record component) w) (listed_components xs) ≡ inner (components_tree xs) w (a_list components)
 unfolding list
 components_inner w xs =
-    list_inner component_tree (codes "component") (a_record component) components w (listed xs) (refl, refl) ∙ ap (λ u. inner u w (a_list components)) (sym (components_tree-out xs))
+    list_inner component_tree (codes "component") (a_record component) components w (listed_components xs) (refl, refl) ∙ ap (λ u. inner u w (a_list components)) (sym (components_tree-out xs))
 
 pub components_made : (tag : List ℕ) (w : SpecVersion) (xs : Components) → start_tag tag ∷ inner (components_tree xs) w (a_list components) ++ end_tag tag ∷ [] ≡ written (components_tree xs) w tag (a_list components)
 components_made tag w xs =
     ap (λ u. start_tag tag ∷ inner u w (a_list components) ++ end_tag tag ∷ []) (components_tree-out xs)
-    ∙ list_is component_tree tag components w (listed xs) ∙ ap (λ u. written u w tag (a_list components)) (sym (components_tree-out xs))
+    ∙ list_is component_tree tag components w (listed_components xs) ∙ ap (λ u. written u w tag (a_list components)) (sym (components_tree-out xs))
 
 pub components_child : (name : List ℕ) (w : SpecVersion) (xs : Components) → written (components_tree xs) w name (a_list components) ≡ child_put name (a_list components) (components_tree xs) w
 components_child name w xs = child_there name (a_list components) (components_tree xs) w refl (components_there xs)

@@ -54,5 +54,5 @@ abbrev pub pedigree_tree : Pedigree → Tree
 pedigree_tree = fold-Pedigree Tree Tree Tree component_step components_step pedigree_step
 
 -- the items of a list of components
-abbrev pub listed : Components → List Component
-listed cs = (out-Components cs).items.items
+abbrev pub listed_components : Components → List Component
+listed_components cs = (out-Components cs).items.items

@@ -5,7 +5,7 @@ ghost use Rattle.cdx_models.specs.Trees.{component, pedigree};
 ghost use Rattle.cdx_schema.specs.Kinds.{components, a_list, a_record};
 ghost use Rattle.cdx_models.specs.Same.{same};
 ghost use Rattle.cdx_models.specs.SameLaws.{same_laws};
-ghost use Rattle.cdx_component.specs.Trees.{component_tree, components_tree, pedigree_tree, listed};
+ghost use Rattle.cdx_component.specs.Trees.{component_tree, components_tree, pedigree_tree, listed_components};
 ghost use Rattle.cdx_component.specs.Laws.{component_there, components_there, pedigree_there};
 
 mod compared;
@@ -156,7 +156,7 @@ impl Drop for Pedigree {
 impl Components {
     /// The empty list. It takes no memory.
     pub fn new(alloc: Global) -> Components
-        ensures { listed result ≡ [] }
+        ensures { listed_components result ≡ [] }
     {
         Components {
             items: Vec::new(alloc),
@@ -165,7 +165,7 @@ impl Components {
 
     /// The empty list, with room for so many components. Only want of memory refuses.
     pub fn with_capacity(alloc: Global, capacity: usize) -> Result<Components, AllocError>
-        ensures { IfOk result (λ l. listed l ≡ []) }
+        ensures { IfOk result (λ l. listed_components l ≡ []) }
     {
         let items = Vec::with_capacity(alloc, capacity)?;
         Ok(Components { items })
@@ -173,8 +173,8 @@ impl Components {
 
     /// Appends a component. Where there is no memory, the list is as before and the component is dropped.
     pub fn push(&mut self, item: Component) -> Result<(), AllocError>
-        ensures ok { OnOk result (listed self.new ≡ listed self.old ++ item ∷ []) }
-        ensures err { OnErr result (listed self.new ≡ listed self.old) }
+        ensures ok { OnOk result (listed_components self.new ≡ listed_components self.old ++ item ∷ []) }
+        ensures err { OnErr result (listed_components self.new ≡ listed_components self.old) }
     {
         self.items.push(item)?;
         Ok(())
@@ -182,22 +182,22 @@ impl Components {
 
     /// How many components there are. It takes no memory.
     pub fn len(&self) -> usize
-        ensures { result ≡ length (listed self.now) }
+        ensures { result ≡ length (listed_components self.now) }
     {
         self.items.len()
     }
 
     /// The component at a place, counted from 0, or `None` exactly from the length on. It takes no memory.
     pub fn get(&self, at: usize) -> Option<&Component>
-        ensures item { option_copied result ≡ slice_get (listed self.now) at }
-        ensures there { is_some result ≡ nat_lt at (length (listed self.now)) }
+        ensures item { option_copied result ≡ slice_get (listed_components self.now) at }
+        ensures there { is_some result ≡ nat_lt at (length (listed_components self.now)) }
     {
         self.items.get(at)
     }
 
     /// The components. It takes no memory.
     pub fn as_slice(&self) -> &[Component]
-        ensures { result.now ≡ listed self.now }
+        ensures { result.now ≡ listed_components self.now }
     {
         self.items.as_slice()
     }

@@ -11,5 +11,5 @@ abbrev pub evidence_slots : ComponentEvidence → Trees
 evidence_slots x = fields_of (evidence_tree x)
 
 -- no attribute stands before a copyright's text
-abbrev pub no_fields : Unit {0} → Trees
-no_fields x = one absent
+abbrev pub no_copyright_fields : Unit {0} → Trees
+no_copyright_fields x = one absent

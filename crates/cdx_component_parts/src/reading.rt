@@ -2,7 +2,7 @@
 
 ghost use Rattle.cdx_models.specs.Trees.{swid, evidence, copyright};
 ghost use Rattle.cdx_schema.specs.XmlReading.{record_plan};
-ghost use Rattle.cdx_component_parts.specs.Parts.{swid_slots, evidence_slots, no_fields};
+ghost use Rattle.cdx_component_parts.specs.Parts.{swid_slots, evidence_slots, no_copyright_fields};
 ghost use Rattle.std.specs.Prelude.{refl};
 ghost use Rattle.cdx_leaf.specs.RowContents.{content_is};
 ghost use Rattle.cdx_component_parts.specs.Whole.{copyright_whole};
@@ -13,7 +13,6 @@ use cdx_leaf::{
     Children, End, FromXml, Reading, Rule, Start, Taken, TextRecord, XmlRecord, attribute_or_none,
     attribute_value, read_items, read_text_record, required_attribute, take_one,
 };
-use cdx_models::XmlReadError;
 
 impl Children for Swid {
     ghost slots = { swid_slots };
@@ -42,7 +41,7 @@ impl XmlRecord for Swid {
 
     ghost by_rows = { λ part. (refl, refl) };
 
-    fn begin(opened: &Start<'_>) -> Result<Swid, XmlReadError> {
+    fn begin(opened: &Start<'_>) -> Reading<Swid> {
         Ok(Swid {
             tag_id: required_attribute(opened, "tagId")?,
             name: required_attribute(opened, "name")?,
@@ -54,7 +53,7 @@ impl XmlRecord for Swid {
         })
     }
 
-    fn finish(_closed: &End<'_>, part: Swid) -> Result<Swid, XmlReadError> {
+    fn finish(_closed: &End<'_>, part: Swid) -> Reading<Swid> {
         Ok(part)
     }
 }
@@ -96,17 +95,14 @@ impl XmlRecord for ComponentEvidence {
 
     ghost by_rows = { λ part. (refl, refl) };
 
-    fn begin(_opened: &Start<'_>) -> Result<ComponentEvidence, XmlReadError> {
+    fn begin(_opened: &Start<'_>) -> Reading<ComponentEvidence> {
         Ok(ComponentEvidence {
             licenses: None,
             copyright: None,
         })
     }
 
-    fn finish(
-        _closed: &End<'_>,
-        part: ComponentEvidence,
-    ) -> Result<ComponentEvidence, XmlReadError> {
+    fn finish(_closed: &End<'_>, part: ComponentEvidence) -> Reading<ComponentEvidence> {
         Ok(part)
     }
 }
@@ -114,7 +110,7 @@ impl XmlRecord for ComponentEvidence {
 impl TextRecord for Copyright {
     type Start = ();
 
-    ghost start = { no_fields };
+    ghost start = { no_copyright_fields };
 
     ghost at = { 0 };
 
@@ -122,7 +118,7 @@ impl TextRecord for Copyright {
 
     ghost whole = { copyright_whole };
 
-    fn begin(_opened: &Start<'_>) -> Result<(), XmlReadError> {
+    fn begin(_opened: &Start<'_>) -> Reading<()> {
         Ok(())
     }
 

@@ -8,7 +8,7 @@ use Rattle.cdx_events.specs.declared.event.XmlEvent.TheVariants.{StartDocument, 
 use Rattle.cdx_events.specs.Name.{same_name}
 use Rattle.cdx_events.specs.Nodes.{Node, Nodes, characters, cdata, element, no_nodes, node, events_of, events_of_all, document}
 use Rattle.cdx_events.specs.Balance.{Frame, opened}
-use Rattle.cdx_events.specs.Root.{then, with, node_of, ended, opening, root_in, root_after, root_of}
+use Rattle.cdx_events.specs.Root.{then, with, node_of, frame_ended, frame_opened, root_in, root_after, root_of}
 use Rattle.cdx_events.proofs.Names.{same_name-true, same_name-same}
 use Rattle.cdx_events.proofs.Hears.{opened_with, opened_end}
 
@@ -40,8 +40,8 @@ mutual
   takes (characters t) f fs rest = refl
   takes (cdata t) f fs rest = refl
   takes (element m a s kids) f fs rest =
-      ap (λ es. root_in (opening m a s) (f ∷ fs) es) (append_assoc (events_of_all kids) (EndElement m ∷ []) rest)
-      ∙ takes_all kids (opening m a s) (f ∷ fs) (EndElement m ∷ rest)
+      ap (λ es. root_in (frame_opened m a s) (f ∷ fs) es) (append_assoc (events_of_all kids) (EndElement m ∷ []) rest)
+      ∙ takes_all kids (frame_opened m a s) (f ∷ fs) (EndElement m ∷ rest)
       ∙ ap (λ b. cond b (root_in (with f (element m a s kids)) fs rest) None) (same_name-same m)
 
   takes_all : (ks : Nodes) (f : Frame) (fs : List Frame) (rest : List XmlEvent) → root_in f fs (events_of_all ks ++ rest) ≡ root_in (adds f ks) fs rest
@@ -55,8 +55,8 @@ mutual
 pub root_is : (n : OwnedName) (a : List OwnedAttribute) (s : Namespace) (nodes : Nodes) → root_of (document (element n a s nodes)) ≡ Some (record { name = n; attributes = a; namespace = s; before = nodes })
 unfolding root_of
 root_is n a s nodes =
-    ap (λ es. root_in (opening n a s) [] es) (append_assoc (events_of_all nodes) (EndElement n ∷ []) (EndDocument ∷ []))
-    ∙ takes_all nodes (opening n a s) [] (EndElement n ∷ EndDocument ∷ [])
+    ap (λ es. root_in (frame_opened n a s) [] es) (append_assoc (events_of_all nodes) (EndElement n ∷ []) (EndDocument ∷ []))
+    ∙ takes_all nodes (frame_opened n a s) [] (EndElement n ∷ EndDocument ∷ [])
     ∙ ap (λ b. cond b (Some (record { name = n; attributes = a; namespace = s; before = nodes })) None) (same_name-same n)
 
 -- ---- sound
@@ -64,7 +64,7 @@ root_is n a s nodes =
 abbrev whole : Frame → List XmlEvent
 whole r = document (element r.name r.attributes r.namespace r.before)
 
-ended_is : (f r : Frame) (es : List XmlEvent) → ended f es ≡ Some r → (es ≡ EndDocument ∷ []) × (f ≡ r)
+ended_is : (f r : Frame) (es : List XmlEvent) → frame_ended f es ≡ Some r → (es ≡ EndDocument ∷ []) × (f ≡ r)
 ended_is f r [] e = absurd cc
 ended_is f r (EndDocument ∷ []) e = (refl, cc)
 ended_is f r (EndDocument ∷ x ∷ es) e = absurd cc
@@ -77,13 +77,13 @@ chosen false o x e = absurd cc
 sound_in : (es : List XmlEvent) (f : Frame) (fs : List Frame) (r : Frame) → root_in f fs es ≡ Some r → StartDocument ∷ opened (f ∷ fs) ++ es ≡ whole r
 sound_in [] f fs r e = absurd cc
 sound_in (StartElement n a s ∷ es) f fs r e =
-    ap (λ x. StartDocument ∷ x) (sym (append_assoc (opened (f ∷ fs)) (StartElement n a s ∷ []) es)) ∙ sound_in es (opening n a s) (f ∷ fs) r e
+    ap (λ x. StartDocument ∷ x) (sym (append_assoc (opened (f ∷ fs)) (StartElement n a s ∷ []) es)) ∙ sound_in es (frame_opened n a s) (f ∷ fs) r e
 sound_in (Characters t ∷ es) f fs r e =
     ap (λ x. StartDocument ∷ x) (sym (append_assoc (opened (f ∷ fs)) (Characters t ∷ []) es) ∙ ap (λ y. y ++ es) (sym (opened_with f fs (characters t)))) ∙ sound_in es (with f (characters t)) fs r e
 sound_in (CData t ∷ es) f fs r e =
     ap (λ x. StartDocument ∷ x) (sym (append_assoc (opened (f ∷ fs)) (CData t ∷ []) es) ∙ ap (λ y. y ++ es) (sym (opened_with f fs (cdata t)))) ∙ sound_in es (with f (cdata t)) fs r e
 sound_in (EndElement m ∷ es) f [] r e =
-    let c = chosen (same_name f.name m) (ended f es) r e in
+    let c = chosen (same_name f.name m) (frame_ended f es) r e in
     let d = ended_is f r es c.1 in
     let same : f.name ≡ m = same_name-true f.name m c.0 in
     ap (λ x. StartDocument ∷ opened (f ∷ []) ++ EndElement x ∷ es) (sym same)
@@ -100,7 +100,7 @@ sound_in (StartDocument ∷ es) f fs r e = absurd cc
 sound_in (EndDocument ∷ es) f fs r e = absurd cc
 
 sound_after : (es : List XmlEvent) (r : Frame) → root_after es ≡ Some r → StartDocument ∷ es ≡ whole r
-sound_after (StartElement n a s ∷ es) r e = sound_in es (opening n a s) [] r e
+sound_after (StartElement n a s ∷ es) r e = sound_in es (frame_opened n a s) [] r e
 sound_after [] r e = absurd cc
 sound_after (x ∷ es) r e = absurd cc
 

@@ -6,7 +6,7 @@ use Rattle.std.proofs.Common.{◌≡◌, ℕ, ◌<◌, ◌≤◌, Bool, true, fa
 use Rattle.std.proofs.lemmas.List.{append-nil, take_all}
 use Rattle.std.proofs.Math.Seq.{take-append_seam}
 use Rattle.cdx_events.specs.declared.event.XmlEvent.{XmlEvent}
-use Rattle.cdx_events.specs.Told.{Keeps, Loses, IsAtEnd, Gives}
+use Rattle.cdx_events.specs.Told.{Keeps, Loses, IsAtEnd, GivesNext}
 use Rattle.cdx_events.specs.Causes.{Rose}
 use Rattle.cdx_events.specs.declared.gathering.GatherError.TheVariants.{Fault, Budget, Memory}
 use Rattle.std.specs.declared.alloc.AllocError.{AllocError}
@@ -97,7 +97,7 @@ pub is_memory : (r : Result (List XmlEvent) GatherError) (a : AllocError) → Is
 is_memory (Ok xs) a h = absurd h
 is_memory (Err e) a h = ap (λ (x : GatherError). Err x) h
 
-pub at_source_end : (old mid new : Option (List XmlEvent)) (xs : List XmlEvent) (budget before now : ℕ) → Loses old mid xs → has_end xs ≡ false → length xs < budget → Gives mid new None → now ≡ before → TakesEvents budget old new before now (Ok xs)
+pub at_source_end : (old mid new : Option (List XmlEvent)) (xs : List XmlEvent) (budget before now : ℕ) → Loses old mid xs → has_end xs ≡ false → length xs < budget → GivesNext mid new None → now ≡ before → TakesEvents budget old new before now (Ok xs)
 at_source_end old mid new xs budget before now p h l g s =
     let w : cut budget xs ≡ xs = cut_none xs budget h (omega arith) in
     record { taken = xs; after = loses_kept old mid new xs p g.1; within = w; answer = (refl, record { sound = s; whole = whole_none old mid xs budget p g.0 w }, λ spent. absurd (omega (arith, spent.all))) }

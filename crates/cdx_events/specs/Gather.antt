@@ -40,30 +40,30 @@ pub record Stops (budget : ℕ) (left : Option (List XmlEvent)) (taken : List Xm
   pub whole : IfSome left (λ events. taken ≡ cut budget events)
 
 -- A call failed where fewer than `budget` events were taken, and none of them is a document end.
-pub record Fails (budget : ℕ) (taken : List XmlEvent) (before now : ℕ) : Type 0 where
+pub record SourceFails (budget : ℕ) (taken : List XmlEvent) (before now : ℕ) : Type 0 where
   pub rose : Rose before now
   pub early : length taken < budget
   pub no_end : has_end taken ≡ false
 
 -- what is answered for these events, which were taken of those that were left
-abbrev pub Answers : ℕ → Option (List XmlEvent) → List XmlEvent → ℕ → ℕ → Result Events GatherError → Type 0
-Answers budget left taken before now (Ok events) = (events.list ≡ taken) × IsBalanced taken × Stops budget left taken before now × (IsSpent budget taken → ⊥)
-Answers budget left taken before now (Err (Fault count)) = (count ≡ length taken) × Fails budget taken before now
-Answers budget left taken before now (Err (Unbalanced place)) = IsBroken taken place × Stops budget left taken before now × (IsSpent budget taken → ⊥)
-Answers budget left taken before now (Err (Budget count)) = (count ≡ length taken) × IsSpent budget taken × Stops budget left taken before now
-Answers budget left taken before now (Err (Memory error)) = before ≤ now
+abbrev pub AnswersGathered : ℕ → Option (List XmlEvent) → List XmlEvent → ℕ → ℕ → Result Events GatherError → Type 0
+AnswersGathered budget left taken before now (Ok events) = (events.list ≡ taken) × IsBalanced taken × Stops budget left taken before now × (IsSpent budget taken → ⊥)
+AnswersGathered budget left taken before now (Err (Fault count)) = (count ≡ length taken) × SourceFails budget taken before now
+AnswersGathered budget left taken before now (Err (Unbalanced place)) = IsBroken taken place × Stops budget left taken before now × (IsSpent budget taken → ⊥)
+AnswersGathered budget left taken before now (Err (Budget count)) = (count ≡ length taken) × IsSpent budget taken × Stops budget left taken before now
+AnswersGathered budget left taken before now (Err (Memory error)) = before ≤ now
 
 -- Events were taken, at most `budget` of them and none after a document end, and the source stands after them.
 pub record Gathers (budget : ℕ) (old new : Option (List XmlEvent)) (before now : ℕ) (result : Result Events GatherError) : Type 0 where
   pub taken : List XmlEvent
   pub after : Loses old new taken
   pub within : cut budget taken ≡ taken
-  pub answer : Answers budget old taken before now result
+  pub answer : AnswersGathered budget old taken before now result
 
 -- the same of the list that is taken before it is seen whether it is balanced
 abbrev pub AnswersList : ℕ → Option (List XmlEvent) → List XmlEvent → ℕ → ℕ → Result (List XmlEvent) GatherError → Type 0
 AnswersList budget left taken before now (Ok list) = (list ≡ taken) × Stops budget left taken before now × (IsSpent budget taken → ⊥)
-AnswersList budget left taken before now (Err (Fault count)) = (count ≡ length taken) × Fails budget taken before now
+AnswersList budget left taken before now (Err (Fault count)) = (count ≡ length taken) × SourceFails budget taken before now
 AnswersList budget left taken before now (Err (Unbalanced place)) = ⊥
 AnswersList budget left taken before now (Err (Budget count)) = (count ≡ length taken) × IsSpent budget taken × Stops budget left taken before now
 AnswersList budget left taken before now (Err (Memory error)) = before ≤ now
@@ -75,6 +75,6 @@ pub record TakesEvents (budget : ℕ) (old new : Option (List XmlEvent)) (before
   pub answer : AnswersList budget old taken before now result
 
 -- a refused list is a refused gathering
-abbrev pub refused : EventsError → GatherError
-refused (events_errors.Unbalanced place) = Unbalanced place
-refused (events_errors.Memory error) = Memory error
+abbrev pub refused_gathering : EventsError → GatherError
+refused_gathering (events_errors.Unbalanced place) = Unbalanced place
+refused_gathering (events_errors.Memory error) = Memory error

@@ -19,26 +19,26 @@ with f k = record f { before = then f.before k }
 abbrev pub node_of : Frame → Node
 node_of f = element f.name f.attributes f.namespace f.before
 
-abbrev pub ended : Frame → List XmlEvent → Option Frame
-ended f (EndDocument ∷ []) = Some f
-ended f es = None
+abbrev pub frame_ended : Frame → List XmlEvent → Option Frame
+frame_ended f (EndDocument ∷ []) = Some f
+frame_ended f es = None
 
-abbrev pub opening : OwnedName → List OwnedAttribute → Namespace → Frame
-opening n a s = record { name = n; attributes = a; namespace = s; before = no_nodes }
+abbrev pub frame_opened : OwnedName → List OwnedAttribute → Namespace → Frame
+frame_opened n a s = record { name = n; attributes = a; namespace = s; before = no_nodes }
 
 -- inside the innermost open element f, with fs around it
 abbrev pub root_in : Frame → List Frame → List XmlEvent → Option Frame
 root_in f fs [] = None
-root_in f fs (StartElement n a s ∷ es) = root_in (opening n a s) (f ∷ fs) es
+root_in f fs (StartElement n a s ∷ es) = root_in (frame_opened n a s) (f ∷ fs) es
 root_in f fs (Characters t ∷ es) = root_in (with f (characters t)) fs es
 root_in f fs (CData t ∷ es) = root_in (with f (cdata t)) fs es
-root_in f [] (EndElement m ∷ es) = cond (same_name f.name m) (ended f es) None
+root_in f [] (EndElement m ∷ es) = cond (same_name f.name m) (frame_ended f es) None
 root_in f (g ∷ fs) (EndElement m ∷ es) = cond (same_name f.name m) (root_in (with g (node_of f)) fs es) None
 root_in f fs (StartDocument ∷ es) = None
 root_in f fs (EndDocument ∷ es) = None
 
 abbrev pub root_after : List XmlEvent → Option Frame
-root_after (StartElement n a s ∷ es) = root_in (opening n a s) [] es
+root_after (StartElement n a s ∷ es) = root_in (frame_opened n a s) [] es
 root_after es = None
 
 -- the root of a balanced list, with its nodes

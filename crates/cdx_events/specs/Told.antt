@@ -26,6 +26,6 @@ IsAtEnd None = Unit {0}
 IsAtEnd (Some xs) = xs ≡ []
 
 -- the first event is given and gone, and none is given exactly where none is left
-abbrev pub Gives : Option (List XmlEvent) → Option (List XmlEvent) → Option XmlEvent → Type 0
-Gives old new None = IsAtEnd old × Keeps old new
-Gives old new (Some event) = Loses old new (event ∷ [])
+abbrev pub GivesNext : Option (List XmlEvent) → Option (List XmlEvent) → Option XmlEvent → Type 0
+GivesNext old new None = IsAtEnd old × Keeps old new
+GivesNext old new (Some event) = Loses old new (event ∷ [])

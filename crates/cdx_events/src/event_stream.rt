@@ -3,7 +3,7 @@
 ghost use Rattle.std.specs.Prelude.{◌≡◌, List, ℕ, Option, [], ◌∷◌, MatchResult};
 ghost use Rattle.cdx_events.specs.declared.event.XmlEvent.{XmlEvent};
 ghost use Rattle.cdx_events.specs.Causes.{HasCause};
-ghost use Rattle.cdx_events.specs.Told.{Keeps, Gains, Gives};
+ghost use Rattle.cdx_events.specs.Told.{Keeps, Gains, GivesNext};
 
 use crate::event::XmlEvent;
 use crate::stream::Failed;
@@ -19,7 +19,7 @@ pub trait EventSource {
     /// Takes the first event that is left, or gives `None` exactly where none is. `Failed` comes only where the
     /// count rose, and leaves what is left.
     fn next(&mut self) -> Result<Option<XmlEvent>, Failed>
-        ensures events { MatchResult result (λ given. Gives (left self.old) (left self.new) given)
+        ensures events { MatchResult result (λ given. GivesNext (left self.old) (left self.new) given)
             (λ _. Keeps (left self.old) (left self.new)) }
         ensures cause { HasCause (faults self.old) (faults self.new) result };
 }

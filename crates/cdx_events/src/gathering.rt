@@ -35,9 +35,9 @@ impl From<AllocError> for GatherError {
 }
 
 impl From<EventsError> for GatherError {
-    ghost use Rattle.cdx_events.specs.Gather.{refused};
+    ghost use Rattle.cdx_events.specs.Gather.{refused_gathering};
 
-    ghost from_gives = { λ r e. e ≡ refused r };
+    ghost from_gives = { λ r e. e ≡ refused_gathering r };
 
     fn from(error: EventsError) -> GatherError {
         match error {

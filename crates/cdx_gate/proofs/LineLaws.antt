@@ -5,7 +5,7 @@ use Rattle.std.proofs.Common.{◌≡◌, ◌+◌, ◌<◌, ◌≤◌, true≢fal
 use Rattle.std.specs.Prelude.{◌==◌, ◌&&◌, Bool, true, false, if◌then◌else◌}
 use Rattle.std.proofs.lemmas.List.{append-nil, take_all}
 use mathlib.Core.Path.{ap, sym, ◌∙◌}
-use Rattle.cdx_gate.specs.Lines.{line_feed, onto_first, pieces, before_last, last_of, ended_lines, unended, without_empty_end, lines, joined, has_no_feed, ArePieces, GoesOnBehind}
+use Rattle.cdx_gate.specs.Lines.{line_feed, onto_first, pieces, before_last, last_line, ended_lines, unended, without_empty_end, lines, joined, has_no_feed, ArePieces, GoesOnBehind}
 
 and_true : (a b : Bool) → (a && b) ≡ true → (a ≡ true) × (b ≡ true)
 and_true true b h = (refl, h)
@@ -119,16 +119,16 @@ before_behind (l ∷ (k ∷ ls)) m ms = ap (λ x. l ∷ x) (before_behind (k ∷
 before_of : (ls ms : List (List ℕ)) → HasFirst ms → before_last (ls ++ ms) ≡ ls ++ before_last ms
 before_of ls ms h = ap (λ x. before_last (ls ++ x)) h.2 ∙ (before_behind ls h.0 h.1 ∙ sym (ap (λ x. ls ++ before_last x) h.2))
 
-last_behind : (ls : List (List ℕ)) (m : List ℕ) (ms : List (List ℕ)) → last_of (ls ++ m ∷ ms) ≡ last_of (m ∷ ms)
+last_behind : (ls : List (List ℕ)) (m : List ℕ) (ms : List (List ℕ)) → last_line (ls ++ m ∷ ms) ≡ last_line (m ∷ ms)
 last_behind [] m ms = refl
 last_behind (l ∷ []) m ms = refl
 last_behind (l ∷ (k ∷ ls)) m ms = last_behind (k ∷ ls) m ms
 
-last_among : (ls ms : List (List ℕ)) → HasFirst ms → last_of (ls ++ ms) ≡ last_of ms
-last_among ls ms h = ap (λ x. last_of (ls ++ x)) h.2 ∙ (last_behind ls h.0 h.1 ∙ sym (ap last_of h.2))
+last_among : (ls ms : List (List ℕ)) → HasFirst ms → last_line (ls ++ ms) ≡ last_line ms
+last_among ls ms h = ap (λ x. last_line (ls ++ x)) h.2 ∙ (last_behind ls h.0 h.1 ∙ sym (ap last_line h.2))
 
-piece_on : (c : Bool) (b : ℕ) (y : List ℕ) (ls ps : List (List ℕ)) → (b == line_feed) ≡ c → HasFirst ls → ps ≡ before_last ls ++ pieces (last_of ls ++ y)
-    → (if c then [] ∷ ps else onto_first b ps) ≡ before_last (if c then [] ∷ ls else onto_first b ls) ++ pieces (last_of (if c then [] ∷ ls else onto_first b ls) ++ y)
+piece_on : (c : Bool) (b : ℕ) (y : List ℕ) (ls ps : List (List ℕ)) → (b == line_feed) ≡ c → HasFirst ls → ps ≡ before_last ls ++ pieces (last_line ls ++ y)
+    → (if c then [] ∷ ps else onto_first b ps) ≡ before_last (if c then [] ∷ ls else onto_first b ls) ++ pieces (last_line (if c then [] ∷ ls else onto_first b ls) ++ y)
 piece_on c b y [] ps e h p = cc
 piece_on true b y (l ∷ []) ps e h p = ap (λ x. [] ∷ x) p
 piece_on true b y (l ∷ (m ∷ ls)) ps e h p = ap (λ x. [] ∷ x) p
@@ -144,14 +144,14 @@ pub ended_on : (x y : List ℕ) → ended_lines (x ++ y) ≡ ended_lines x ++ en
 ended_on x y = ap before_last (pieces_on x y) ∙ before_of (ended_lines x) (pieces (unended x ++ y)) (pieces_there (unended x ++ y))
 
 pub unended_on : (x y : List ℕ) → unended (x ++ y) ≡ unended (unended x ++ y)
-unended_on x y = ap last_of (pieces_on x y) ∙ last_among (ended_lines x) (pieces (unended x ++ y)) (pieces_there (unended x ++ y))
+unended_on x y = ap last_line (pieces_on x y) ∙ last_among (ended_lines x) (pieces (unended x ++ y)) (pieces_there (unended x ++ y))
 
 pub lines_on : (x y : List ℕ) → lines (x ++ y) ≡ ended_lines x ++ lines (unended x ++ y)
 lines_on x y = ap without_empty_end (pieces_on x y) ∙ end_of (ended_lines x) (pieces (unended x ++ y)) (pieces_there (unended x ++ y))
 
 -- ---- without a line feed
 
-last_clean : (ls : List (List ℕ)) → list_all has_no_feed ls ≡ true → has_no_feed (last_of ls) ≡ true
+last_clean : (ls : List (List ℕ)) → list_all has_no_feed ls ≡ true → has_no_feed (last_line ls) ≡ true
 last_clean [] h = refl
 last_clean (l ∷ []) h = (and_true (has_no_feed l) true h).0
 last_clean (l ∷ (m ∷ ls)) h = last_clean (m ∷ ls) (and_true (has_no_feed l) (list_all has_no_feed (m ∷ ls)) h).1
@@ -175,7 +175,7 @@ pub ended_same : (x p : List ℕ) → has_no_feed p ≡ true → ended_lines (x 
 ended_same x p h = ended_on x p ∙ (ap (λ z. ended_lines x ++ before_last z) (alone_on x p h) ∙ append-nil (ended_lines x))
 
 pub unended_same : (x p : List ℕ) → has_no_feed p ≡ true → unended (x ++ p) ≡ unended x ++ p
-unended_same x p h = unended_on x p ∙ ap last_of (alone_on x p h)
+unended_same x p h = unended_on x p ∙ ap last_line (alone_on x p h)
 
 -- a line feed ends it
 fed : (x : List ℕ) → pieces (unended x ++ line_feed ∷ []) ≡ unended x ∷ ([] ∷ [])
@@ -185,7 +185,7 @@ pub ended_fed : (x : List ℕ) → ended_lines (x ++ line_feed ∷ []) ≡ ended
 ended_fed x = ended_on x (line_feed ∷ []) ∙ ap (λ z. ended_lines x ++ before_last z) (fed x)
 
 pub unended_fed : (x : List ℕ) → unended (x ++ line_feed ∷ []) ≡ []
-unended_fed x = unended_on x (line_feed ∷ []) ∙ ap last_of (fed x)
+unended_fed x = unended_on x (line_feed ∷ []) ∙ ap last_line (fed x)
 
 -- all lines: those that were ended, and the last where it isn't empty
 pub lines_whole : (x : List ℕ) → lines x ≡ ended_lines x ++ without_empty_end (unended x ∷ [])

@@ -8,17 +8,17 @@ use Rattle.std.proofs.lemmas.List.{take_all, take-append-le, take-take, take-app
 use Rattle.std.proofs.Math.Seq.{take-append-add}
 use Rattle.cdx_tool.specs.Run.{Tells}
 use Rattle.cdx_gate.specs.Lines.{ended_lines, unended, lines, replies}
-use Rattle.cdx_gate.specs.Gate.{answered, no_words, PutsFront, PutsTaken, Stands, Stops, Ends}
+use Rattle.cdx_gate.specs.Gate.{answered, no_words, PutsFront, PutsTaken, HasServed, AnsweringStops, ServingEnds}
 use Rattle.cdx_gate.proofs.LineLaws.{ended_on, lines_on}
 use Rattle.cdx_gate.proofs.Served.{stands_first, stops_more}
 
 -- So many bytes may still come, and of what was taken this stands.
 abbrev pub TakenSoFar : ℕ → ℕ → Option (List ℕ) → Option (List ℕ) → Option (List ℕ) → Option (List ℕ) → List ℕ → Type 0
-TakenSoFar limit left o n a b held = (taken : List ℕ) × Consumes o n taken × (length taken + left ≡ limit) × Stands taken a b held
+TakenSoFar limit left o n a b held = (taken : List ℕ) × Consumes o n taken × (length taken + left ≡ limit) × HasServed taken a b held
 
 -- How serving ends, whatever the bytes are that weren't told.
 abbrev pub EndsOf : ℕ → Option (List ℕ) → ℕ → Option (List ℕ) → Option (List ℕ) → Type 0
-EndsOf limit o status a b = (bytes : List ℕ) × Tells o bytes × Ends [] limit bytes status a b
+EndsOf limit o status a b = (bytes : List ℕ) × Tells o bytes × ServingEnds [] limit bytes status a b
 
 pub none_taken : (limit : ℕ) (o a : Option (List ℕ)) → TakenSoFar limit limit o o a a []
 none_taken limit o a = ([], Consumes-nil o, omega arith, stands_first a)
@@ -55,13 +55,13 @@ answered_first limit taken more le = elim (cases_lt limit (length (taken ++ more
 
 -- ---- how it ends
 
-served_is : (limit : ℕ) (bytes : List ℕ) (a b : Option (List ℕ)) → length bytes ≤ limit → Appends a b (replies (lines bytes)) → Ends [] limit bytes 0 a b
+served_is : (limit : ℕ) (bytes : List ℕ) (a b : Option (List ℕ)) → length bytes ≤ limit → Appends a b (replies (lines bytes)) → ServingEnds [] limit bytes 0 a b
 served_is limit bytes a b le put = rw (le-ltb limit (length bytes) le) (inl (refl, put))
 
-too_long_is : (limit : ℕ) (bytes : List ℕ) (a b : Option (List ℕ)) → limit < length bytes → Appends a b (replies (ended_lines (take limit bytes))) → Ends [] limit bytes 6 a b
+too_long_is : (limit : ℕ) (bytes : List ℕ) (a b : Option (List ℕ)) → limit < length bytes → Appends a b (replies (ended_lines (take limit bytes))) → ServingEnds [] limit bytes 6 a b
 too_long_is limit bytes a b lt put = rw (lt-ltb limit (length bytes) lt) (inl (refl, put))
 
-stopped_is : (limit : ℕ) (bytes : List ℕ) (status : ℕ) (a b : Option (List ℕ)) → Stops (answered limit bytes) status a b → Ends [] limit bytes status a b
+stopped_is : (limit : ℕ) (bytes : List ℕ) (status : ℕ) (a b : Option (List ℕ)) → AnsweringStops (answered limit bytes) status a b → ServingEnds [] limit bytes status a b
 stopped_is limit bytes status a b s = elim s [ inl f ↦ inr (inr (inl f)) | inr f ↦ inr (inr (inr f)) ]
 
 -- ---- at the source's fault
@@ -79,7 +79,7 @@ took_none o n m taken buf count none p q =
     subst (Consumes o m) (append-nil taken) (Consumes-trans o n m taken [] p (subst (λ k. Consumes n m (take k buf)) none q))
 
 pub end_ends : (limit left : ℕ) (o n m a b c : Option (List ℕ)) (held buf : List ℕ) (count status : ℕ) → count ≡ 0 → TakenSoFar limit left o n a b held → Consumes n m (take count buf) → IsAtEnd m
-    → ((taken : List ℕ) (first : Option (List ℕ)) → Stands taken first b held → ((status ≡ 0) × Appends first c (replies (lines taken))) ⊎ Stops (lines taken) status first c)
+    → ((taken : List ℕ) (first : Option (List ℕ)) → HasServed taken first b held → ((status ≡ 0) × Appends first c (replies (lines taken))) ⊎ AnsweringStops (lines taken) status first c)
     → EndsOf limit o status a c
 end_ends limit left o n m a b c held buf count status none x q at_end last =
     let taken = x.0 in
@@ -88,8 +88,8 @@ end_ends limit left o n m a b c held buf count status none x q at_end last =
       taken,
       all,
       elim (last taken a x.3) [
-        | inl put ↦ subst (λ k. Ends [] limit taken k a c) (sym put.0) (served_is limit taken a c fits put.1)
-        | inr s ↦ stopped_is limit taken status a c (subst (λ ls. Stops ls status a c) (sym (answered_within limit taken fits)) s)
+        | inl put ↦ subst (λ k. ServingEnds [] limit taken k a c) (sym put.0) (served_is limit taken a c fits put.1)
+        | inr s ↦ stopped_is limit taken status a c (subst (λ ls. AnsweringStops ls status a c) (sym (answered_within limit taken fits)) s)
       ],
     )
 
@@ -112,7 +112,7 @@ part_fits taken buf limit left count within is le so_far =
     omega (arith, length-append taken (take within (take count buf)), length-take-le within (take count buf) (omega arith))
 
 pub turn_ends : (limit left : ℕ) (o n m a b c : Option (List ℕ)) (held buf back : List ℕ) (count within status : ℕ) → within ≡ min left count → count ≤ length buf → TakenSoFar limit left o n a b held → Consumes n m (take count buf)
-    → ((taken : List ℕ) (first : Option (List ℕ)) → Stands taken first b held → Stops (ended_lines (taken ++ take within (buf ++ back))) status first c) → EndsOf limit o status a c
+    → ((taken : List ℕ) (first : Option (List ℕ)) → HasServed taken first b held → AnsweringStops (ended_lines (taken ++ take within (buf ++ back))) status first c) → EndsOf limit o status a c
 turn_ends limit left o n m a b c held buf back count within status is le x q stops =
     let taken = x.0 in
     let came = take count buf in
@@ -121,12 +121,12 @@ turn_ends limit left o n m a b c held buf back count within status is le x q sto
     let more = drop within came ++ f.1 in
     let same : f.0 ≡ part ++ more = f.3 ∙ (append_assoc taken came f.1 ∙ (ap (λ z. taken ++ (z ++ f.1)) (sym (take-append-drop within came)) ∙ (ap (λ z. taken ++ z) (append_assoc (take within came) (drop within came) f.1) ∙ sym (append_assoc taken (take within came) more)))) in
     let first = answered_first limit part more (part_fits taken buf limit left count within is le x.2) in
-    let here : Stops (ended_lines part) status a c = subst (λ z. Stops (ended_lines (taken ++ z)) status a c) (part_of buf back left count within is le) (stops taken a x.3) in
-    (f.0, f.2, stopped_is limit f.0 status a c (subst (λ ls. Stops ls status a c) (sym (ap (answered limit) same ∙ first.1)) (stops_more (ended_lines part) first.0 status a c here)))
+    let here : AnsweringStops (ended_lines part) status a c = subst (λ z. AnsweringStops (ended_lines (taken ++ z)) status a c) (part_of buf back left count within is le) (stops taken a x.3) in
+    (f.0, f.2, stopped_is limit f.0 status a c (subst (λ ls. AnsweringStops ls status a c) (sym (ap (answered limit) same ∙ first.1)) (stops_more (ended_lines part) first.0 status a c here)))
 
 -- one byte beyond the limit came
 pub beyond_ends : (limit left : ℕ) (o n m a b c : Option (List ℕ)) (held held_now buf back : List ℕ) (count within : ℕ) → within ≡ min left count → within < count → count ≤ length buf → TakenSoFar limit left o n a b held → Consumes n m (take count buf)
-    → ((taken : List ℕ) (first : Option (List ℕ)) → Stands taken first b held → Stands (taken ++ take within (buf ++ back)) first c held_now) → EndsOf limit o 6 a c
+    → ((taken : List ℕ) (first : Option (List ℕ)) → HasServed taken first b held → HasServed (taken ++ take within (buf ++ back)) first c held_now) → EndsOf limit o 6 a c
 beyond_ends limit left o n m a b c held held_now buf back count within is lt le x q stands =
     let taken = x.0 in
     let came = take count buf in
@@ -141,7 +141,7 @@ beyond_ends limit left o n m a b c held held_now buf back count within is lt le 
 
 -- all that came was within the limit
 pub goes_on : (limit left : ℕ) (o n m a b c : Option (List ℕ)) (held held_now buf back : List ℕ) (count within : ℕ) → within ≡ min left count → count ≤ within → count ≤ length buf → TakenSoFar limit left o n a b held → Consumes n m (take count buf)
-    → ((taken : List ℕ) (first : Option (List ℕ)) → Stands taken first b held → Stands (taken ++ take within (buf ++ back)) first c held_now) → TakenSoFar limit (left - count) o m a c held_now
+    → ((taken : List ℕ) (first : Option (List ℕ)) → HasServed taken first b held → HasServed (taken ++ take within (buf ++ back)) first c held_now) → TakenSoFar limit (left - count) o m a c held_now
 goes_on limit left o n m a b c held held_now buf back count within is all le x q stands =
     let taken = x.0 in
     let came = take count buf in
@@ -150,7 +150,7 @@ goes_on limit left o n m a b c held held_now buf back count within is all le x q
       taken ++ came,
       Consumes-trans o n m taken came x.1 q,
       omega (arith, length-append taken came, x.2),
-      subst (λ z. Stands (taken ++ z) a c held_now) part (stands taken a x.3),
+      subst (λ z. HasServed (taken ++ z) a c held_now) part (stands taken a x.3),
     )
 
 -- ---- words
@@ -161,7 +161,7 @@ some_told (Some told) = (told, refl)
 
 pub words_end : {K : Type 0} (written : K → Option (List ℕ)) (words : List (String Global)) (limit status : ℕ) (o : Option (List ℕ)) (old new : K) (Flushed Sound Cause : Type 0) → 0 < length words
     → ((status ≡ 2) × Appends (written old) (written new) no_words.text × Flushed × Sound) ⊎ (((status ≡ 4) × PutsFront (written old) (written new) no_words.text × Cause) ⊎ ((status ≡ 5) × (new ≡ old)))
-    → (bytes : List ℕ) × Tells o bytes × Ends words limit bytes status (written old) (written new)
+    → (bytes : List ℕ) × Tells o bytes × ServingEnds words limit bytes status (written old) (written new)
 words_end written [] limit status o old new Flushed Sound Cause some h = absurd (omega (arith, some))
 words_end written (word ∷ words) limit status o old new Flushed Sound Cause some h =
     let t = some_told o in (

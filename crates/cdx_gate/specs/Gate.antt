@@ -47,16 +47,16 @@ PutsTaken limit left rest before now = (taken : List ℕ) × Consumes left rest 
 
 -- The bytes so far: the replies of the lines that a line feed ends in them went out, and of the line after the last of
 -- them so much is held as is kept.
-abbrev pub Stands : List ℕ → Option (List ℕ) → Option (List ℕ) → List ℕ → Type 0
-Stands taken before now held = Appends before now (replies (ended_lines taken)) × (held ≡ take kept (unended taken))
+abbrev pub HasServed : List ℕ → Option (List ℕ) → Option (List ℕ) → List ℕ → Type 0
+HasServed taken before now held = Appends before now (replies (ended_lines taken)) × (held ≡ take kept (unended taken))
 
 -- How answering these lines stops: by a sink's fault in the midst of a reply, or for want of memory between two.
-abbrev pub Stops : List (List ℕ) → ℕ → Option (List ℕ) → Option (List ℕ) → Type 0
-Stops ls status before now = ((status ≡ 4) × PutsFront before now (replies ls)) ⊎ ((status ≡ 5) × PutsFirst before now ls)
+abbrev pub AnsweringStops : List (List ℕ) → ℕ → Option (List ℕ) → Option (List ℕ) → Type 0
+AnsweringStops ls status before now = ((status ≡ 4) × PutsFront before now (replies ls)) ⊎ ((status ≡ 5) × PutsFirst before now ls)
 
 -- How serving a source ends that had these bytes left. Each status but 5 has a cause, which `serve` names.
-abbrev pub Ends : List (String Global) → ℕ → List ℕ → ℕ → Option (List ℕ) → Option (List ℕ) → Type 0
-Ends words limit bytes status before now =
+abbrev pub ServingEnds : List (String Global) → ℕ → List ℕ → ℕ → Option (List ℕ) → Option (List ℕ) → Type 0
+ServingEnds words limit bytes status before now =
     -- all that is owed went out
     ((status ≡ (owed words limit bytes).status) × Appends before now (owed words limit bytes).text)
     -- a source's fault, of which `serve` tells what went out

@@ -21,10 +21,10 @@ before_last [] = []
 before_last (l ∷ []) = []
 before_last (l ∷ (m ∷ ls)) = l ∷ before_last (m ∷ ls)
 
-abbrev pub last_of : List (List ℕ) → List ℕ
-last_of [] = []
-last_of (l ∷ []) = l
-last_of (l ∷ (m ∷ ls)) = last_of (m ∷ ls)
+abbrev pub last_line : List (List ℕ) → List ℕ
+last_line [] = []
+last_line (l ∷ []) = l
+last_line (l ∷ (m ∷ ls)) = last_line (m ∷ ls)
 
 -- all pieces but the last: the lines that a line feed ends
 abbrev pub ended_lines : List ℕ → List (List ℕ)
@@ -32,7 +32,7 @@ ended_lines bytes = before_last (pieces bytes)
 
 -- the last piece: the bytes after the last line feed
 abbrev pub unended : List ℕ → List ℕ
-unended bytes = last_of (pieces bytes)
+unended bytes = last_line (pieces bytes)
 
 -- the pieces without the last where that is empty
 abbrev pub without_empty_end : List (List ℕ) → List (List ℕ)
@@ -48,11 +48,11 @@ lines bytes = without_empty_end (pieces bytes)
 -- ---- replies
 
 -- the text that a line gets: what its bytes get as a request
-unfoldable pub reply : List ℕ → List ℕ
-reply line = (reply_to line).text
+unfoldable pub line_reply : List ℕ → List ℕ
+line_reply line = (reply_to line).text
 
 abbrev pub replies : List (List ℕ) → List ℕ
-replies ls = flat_map reply ls
+replies ls = flat_map line_reply ls
 
 -- ---- what makes them the lines
 

@@ -3,8 +3,8 @@
 ghost use Rattle.std.specs.Prelude.{◌≡◌, ◌≤◌, ◌⊎◌, [], ◌++◌, List, ℕ, Option, take, vec_len, IfErr, OnOk};
 ghost use Rattle.std.specs.Io.KnownBytes.{Appends};
 ghost use Rattle.cdx_events.specs.Causes.{Rose};
-ghost use Rattle.cdx_gate.specs.Lines.{ended_lines, lines, reply, replies};
-ghost use Rattle.cdx_gate.specs.Gate.{kept, no_words, IsFlushed, PutsFront, Stands, Stops};
+ghost use Rattle.cdx_gate.specs.Lines.{ended_lines, lines, line_reply, replies};
+ghost use Rattle.cdx_gate.specs.Gate.{kept, no_words, IsFlushed, PutsFront, HasServed, AnsweringStops};
 
 use crate::line::{find_feed, hold};
 use cdx_events::{Sink, Text};
@@ -48,13 +48,13 @@ pub(crate) fn answer_words<K: Sink>(alloc: Global, sink: &mut K) -> u8
 }
 
 // Answers one line.
-#[tactic(auto, unfolding(crate::specs::Lines::reply))]
+#[tactic(auto, unfolding(crate::specs::Lines::line_reply))]
 fn answer_line<K: Sink>(alloc: Global, line: &[u8], sink: &mut K) -> Result<(), u8>
-    ensures ok { OnOk result (Appends (K.written sink.old) (K.written sink.new) (reply line.now)) }
+    ensures ok { OnOk result (Appends (K.written sink.old) (K.written sink.new) (line_reply line.now)) }
     ensures flushed { OnOk result (IsFlushed (K.written sink.new) (K.flushed sink.new)) }
     ensures ok_cause { OnOk result (K.faults sink.new ≡ K.faults sink.old) }
     ensures err { IfErr result (λ status.
-        ((status ≡ 4) × PutsFront (K.written sink.old) (K.written sink.new) (reply line.now)
+        ((status ≡ 4) × PutsFront (K.written sink.old) (K.written sink.new) (line_reply line.now)
         × Rose (K.faults sink.old) (K.faults sink.new))
         ⊎ ((status ≡ 5) × (sink.new ≡ sink.old))) }
     ensures later { K.faults sink.old ≤ K.faults sink.new }
@@ -74,13 +74,13 @@ fn end_line<K: Sink>(
 ) -> Result<(), u8>
     requires { vec_len line.old ≤ kept }
     ensures ok { OnOk result (Appends (K.written sink.old) (K.written sink.new)
-        (reply (take kept (line.old.items ++ bytes.now)))) }
+        (line_reply (take kept (line.old.items ++ bytes.now)))) }
     ensures none { OnOk result (line.new.items ≡ []) }
     ensures flushed { OnOk result (IsFlushed (K.written sink.new) (K.flushed sink.new)) }
     ensures ok_cause { OnOk result (K.faults sink.new ≡ K.faults sink.old) }
     ensures err { IfErr result (λ status.
         ((status ≡ 4) × PutsFront (K.written sink.old) (K.written sink.new)
-        (reply (take kept (line.old.items ++ bytes.now)))
+        (line_reply (take kept (line.old.items ++ bytes.now)))
         × Rose (K.faults sink.old) (K.faults sink.new))
         ⊎ ((status ≡ 5) × (sink.new ≡ sink.old))) }
     ensures later { K.faults sink.old ≤ K.faults sink.new }
@@ -98,9 +98,9 @@ fn end_line<K: Sink>(
 /// bytes.
 pub(crate) fn answer_last<K: Sink>(alloc: Global, line: &[u8], sink: &mut K) -> u8
     ensures table { (taken : List ℕ) (first : Option (List ℕ))
-        → Stands taken first (K.written sink.old) line.now
+        → HasServed taken first (K.written sink.old) line.now
         → ((result ≡ 0) × Appends first (K.written sink.new) (replies (lines taken)))
-        ⊎ Stops (lines taken) result first (K.written sink.new) }
+        ⊎ AnsweringStops (lines taken) result first (K.written sink.new) }
     ensures flushed { result ≡ 0
         → (sink.new ≡ sink.old) ⊎ IsFlushed (K.written sink.new) (K.flushed sink.new) }
     ensures cause { (((result ≡ 0) ⊎ (result ≡ 5)) × (K.faults sink.new ≡ K.faults sink.old))
@@ -126,16 +126,16 @@ pub(crate) fn answer_ended<K: Sink>(
 ) -> Result<(), u8>
     requires { vec_len line.old ≤ kept }
     ensures ok { (taken : List ℕ) (first : Option (List ℕ))
-        → Stands taken first (K.written sink.old) line.old.items
-        → OnOk result (Stands (taken ++ bytes.now) first (K.written sink.new) line.new.items) }
+        → HasServed taken first (K.written sink.old) line.old.items
+        → OnOk result (HasServed (taken ++ bytes.now) first (K.written sink.new) line.new.items) }
     ensures flushed { OnOk result
         ((sink.new ≡ sink.old) ⊎ IsFlushed (K.written sink.new) (K.flushed sink.new)) }
     ensures ok_cause { OnOk result (K.faults sink.new ≡ K.faults sink.old) }
     ensures few { OnOk result (vec_len line.new ≤ kept) }
     ensures err { (taken : List ℕ) (first : Option (List ℕ))
-        → Stands taken first (K.written sink.old) line.old.items
+        → HasServed taken first (K.written sink.old) line.old.items
         → IfErr result (λ status.
-        Stops (ended_lines (taken ++ bytes.now)) status first (K.written sink.new)) }
+        AnsweringStops (ended_lines (taken ++ bytes.now)) status first (K.written sink.new)) }
     ensures err_cause { IfErr result (λ status.
         ((status ≡ 4) × Rose (K.faults sink.old) (K.faults sink.new))
         ⊎ ((status ≡ 5) × (K.faults sink.new ≡ K.faults sink.old))) }

@@ -4,7 +4,7 @@ ghost use Rattle.std.specs.Prelude.{◌≡◌, ◌≤◌, ◌<◌, ◌+◌, ◌-
 ghost use Rattle.std.specs.Io.KnownBytes.{Consumes, IsAtEnd};
 ghost use Rattle.cdx_events.specs.Causes.{Rose};
 ghost use Rattle.cdx_tool.specs.Run.{Tells};
-ghost use Rattle.cdx_gate.specs.Gate.{IsFlushed, PutsTaken, Ends};
+ghost use Rattle.cdx_gate.specs.Gate.{IsFlushed, PutsTaken, ServingEnds};
 
 use crate::answering::{answer_ended, answer_last, answer_words};
 use cdx_events::{Failed, Sink, Source};
@@ -17,7 +17,7 @@ const CHUNK: usize = 4096;
 fn serve_lines<S: Source, K: Sink>(alloc: Global, limit: u64, source: &mut S, sink: &mut K) -> u8
     requires { limit + 1 < 2 ^ 64 }
     ensures table { (bytes : List ℕ) × Tells (S.left source.old) bytes
-        × Ends [] limit bytes result (K.written sink.old) (K.written sink.new) }
+        × ServingEnds [] limit bytes result (K.written sink.old) (K.written sink.new) }
     ensures source_fault { result ≡ 3 → Rose (S.faults source.old) (S.faults source.new)
         × PutsTaken limit (S.left source.old) (S.left source.new)
         (K.written sink.old) (K.written sink.new) }
@@ -81,7 +81,7 @@ pub fn serve<S: Source, K: Sink>(
     requires { limit + 1 < 2 ^ 64 }
     // What is answered to which words and bytes, and what is written with which status.
     ensures table { (bytes : List ℕ) × Tells (S.left source.old) bytes
-        × Ends words.now limit bytes result (K.written sink.old) (K.written sink.new) }
+        × ServingEnds words.now limit bytes result (K.written sink.old) (K.written sink.new) }
     // Without words, within the limit and without faults all lines are answered, unless memory runs out.
     ensures complete { (bytes : List ℕ) → words.now ≡ [] → S.left source.old ≡ Some bytes
         → length bytes ≤ limit

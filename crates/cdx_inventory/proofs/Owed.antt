@@ -13,7 +13,7 @@ use Rattle.cdx_tool.specs.declared.answer.Answer.{Answer}
 use Rattle.cdx_tool.specs.Shows.{reply_of}
 use Rattle.cdx_tool.specs.Owed.{reply_by, IsSettled}
 use Rattle.cdx_tool.specs.Run.{Tells, Ends}
-use Rattle.cdx_ask.specs.Asks.{Lack, misread, refused, bill_in, AsksFor, reply_to_bill, reply_if_read, reply_asking}
+use Rattle.cdx_ask.specs.Asks.{Lack, misread, bill_refused, bill_in, AsksFor, reply_to_bill, reply_if_read, reply_asking}
 use Rattle.cdx_inventory.specs.declared.entry.Entry.{Entry}
 use Rattle.cdx_inventory.specs.Entries.{Told, told, all_told}
 use Rattle.cdx_inventory.specs.Stock.{Command, if_version, entry_value, components_answer, answer_to, reply_to_command}
@@ -51,7 +51,7 @@ misread_settled (unbalanced place) = inr (inl refl)
 bill_settled : (f : Tree → Data) (owed : Result Tree Lack) → IsSettled (reply_to_bill f owed).status
 bill_settled f (Ok b) = inl refl
 bill_settled f (Err (misread e)) = misread_settled e
-bill_settled f (Err (refused r)) = inr (inl refl)
+bill_settled f (Err (bill_refused r)) = inr (inl refl)
 
 value_settled : (f : Tree → Data) (o : Option Data) → IsSettled (reply_if_read f o).status
 value_settled f None = inr (inr refl)
@@ -70,7 +70,7 @@ misread_refuses (unbalanced place) h = omega (arith, h)
 of_bill : (f : Tree → Data) (owed : Result Tree Lack) → (reply_to_bill f owed).status ≡ 0 → (b : Tree) × (owed ≡ Ok b) × ((reply_to_bill f owed).text ≡ line_of (f b))
 of_bill f (Ok b) h = (b, refl, refl)
 of_bill f (Err (misread e)) h = absurd (misread_refuses e h)
-of_bill f (Err (refused r)) h = cc
+of_bill f (Err (bill_refused r)) h = cc
 
 of_value : (f : Tree → Data) (o : Option Data) → (reply_if_read f o).status ≡ 0 → (d : Data) × (b : Tree) × (o ≡ Some d) × (bill_in d ≡ Ok b) × ((reply_if_read f o).text ≡ line_of (f b))
 of_value f None h = cc

@@ -23,7 +23,7 @@ use Rattle.cdx_schema.proofs.Sound.{free_name}
 use Rattle.cdx_schema.proofs.Literals.{reading_on_literals}
 use Rattle.cdx_ways.specs.Ways.{At, behind_step, behind_row, is_step, begins, after_step, after_row}
 use Rattle.cdx_ways.proofs.Lists.{own_step, step_is}
-use Rattle.cdx_inventory.specs.Listing.{itself, listed_in, items_listed, rows_listed, listed, text_of, text_there, Known, known, is_outside, the_tools, outside_tools, ListsKept}
+use Rattle.cdx_inventory.specs.Listing.{itself, listed_in, items_listed, rows_listed, listed, text_itself, text_there, Known, known, is_outside, the_tools, outside_tools, ListsKept}
 use Rattle.cdx_inventory.proofs.Unlisted.{lists_none, unlisted, items_unlisted}
 
 -- ---- what is known of the same
@@ -254,22 +254,22 @@ field_kept w l zero (more t ts) (r ∷ rs) h =
     ap (λ b. if b then kept w l t r.kind else absent) (ever_known r.since w p.0) ∙ ap (kept w l t) (text_kind r.kind p.1)
 field_kept w l (suc i) (more t ts) (r ∷ rs) h = field_kept w l i ts rs h
 
-text_kept : (w l : SpecVersion) (t : Tree) → (text_of (kept w l t a_text) ≡ text_of t) × (text_there (kept w l t a_text) ≡ text_there t)
+text_kept : (w l : SpecVersion) (t : Tree) → (text_itself (kept w l t a_text) ≡ text_itself t) × (text_there (kept w l t a_text) ≡ text_there t)
 unfolding kept
 text_kept w l absent = (refl, refl)
 text_kept w l (text s) = (refl, refl)
 text_kept w l (number n) = (refl, refl)
 text_kept w l (boolean b) = (refl, refl)
 text_kept w l (items ts) = (refl, refl)
-text_kept w l (fields n ts) = let e = stays w a_text n (rows_kept w l ts (rows n)) refl in (ap text_of e, ap text_there e)
+text_kept w l (fields n ts) = let e = stays w a_text n (rows_kept w l ts (rows n)) refl in (ap text_itself e, ap text_there e)
 
 abbrev called : List ℕ → Option (List ℕ) → List Known
 called n v = record { path = []; name = n; version = v } ∷ []
 
 itself_alike : (w l : SpecVersion) (n : Name) (ts : Trees) → Alike (itself n (rows_kept w l ts (rows n))) (itself n ts)
 itself_alike w l component ts =
-    ap (λ n. called n (text_there (field 8 (rows_kept w l ts (rows component))))) (ap text_of (field_kept w l 7 ts (rows component) (unfold rows in refl)) ∙ (text_kept w l (field 7 ts)).0)
-    ∙ ap (called (text_of (field 7 ts))) (ap text_there (field_kept w l 8 ts (rows component) (unfold rows in refl)) ∙ (text_kept w l (field 8 ts)).1)
+    ap (λ n. called n (text_there (field 8 (rows_kept w l ts (rows component))))) (ap text_itself (field_kept w l 7 ts (rows component) (unfold rows in refl)) ∙ (text_kept w l (field 7 ts)).0)
+    ∙ ap (called (text_itself (field 7 ts))) (ap text_there (field_kept w l 8 ts (rows component) (unfold rows in refl)) ∙ (text_kept w l (field 8 ts)).1)
 itself_alike w l _ ts = refl
 
 left_itself : (w : SpecVersion) (n : Name) (ts : Trees) → left (way w (a_record n)) (itself n ts) ≡ itself n ts

@@ -41,7 +41,7 @@ use Rattle.cdx_ways.specs.Ways.{At, behind_step, behind_row, behind_choice}
 use Rattle.cdx_inventory.specs.declared.entry.Entry.{Entry}
 use Rattle.cdx_inventory.specs.Listing.{itself, listed_in, items_listed, rows_listed}
 use Rattle.cdx_inventory.specs.Entries.{Told, entry, told, all_told, has_license, inventory}
-use Rattle.cdx_inventory.specs.Walks.{below, Adds}
+use Rattle.cdx_inventory.specs.Walks.{below, AddsEntries}
 use Rattle.cdx_inventory.proofs.Unlisted.{append_none, behind_none, choice_none}
 
 -- ---- trees without components list nothing
@@ -136,7 +136,7 @@ pub pedigree_listed : (p : Pedigree) → listed_in (pedigree_tree p) (a_record p
 unfolding listed_in
 pedigree_listed p = ap (λ t. listed_in t (a_record pedigree)) (pedigree_tree-out p) ∙ pedigree_level components_tree (out-Pedigree p)
 
-pub components_listed : (cs : Components) → listed_in (components_tree cs) (a_list components) ≡ items_listed (each component_tree (nested.listed cs)) (a_record component) 0
+pub components_listed : (cs : Components) → listed_in (components_tree cs) (a_list components) ≡ items_listed (each component_tree (nested.listed_components cs)) (a_record component) 0
 unfolding listed_in list
 components_listed cs = ap (λ t. listed_in t (a_list components)) (components_tree-out cs)
 
@@ -188,30 +188,30 @@ below_step : (p : List Step) (s : Step) (xs : List (At Tree)) → below (p ++ s 
 below_step p s [] = refl
 below_step p s (x ∷ xs) = ap (λ q. entry (q, x.1) ∷ below (p ++ s ∷ []) xs) (append_assoc p (s ∷ []) x.0) ∙ ap (λ es. entry (p ++ s ∷ x.0, x.1) ∷ es) (below_step p s xs)
 
-pub adds_same : (xs ys : List (At Tree)) (p q : List Step) (e f : List Entry) → ys ≡ xs → Adds xs p q e f → Adds ys p q e f
-adds_same xs ys p q e f h a = subst (λ (zs : List (At Tree)). Adds zs p q e f) (sym h) a
+pub adds_same : (xs ys : List (At Tree)) (p q : List Step) (e f : List Entry) → ys ≡ xs → AddsEntries xs p q e f → AddsEntries ys p q e f
+adds_same xs ys p q e f h a = subst (λ (zs : List (At Tree)). AddsEntries zs p q e f) (sym h) a
 
-pub adds_none : (p : List Step) (e : List Entry) → Adds [] p p e e
+pub adds_none : (p : List Step) (e : List Entry) → AddsEntries [] p p e e
 adds_none p e = (refl, sym (append-nil (all_told e)))
 
-pub adds_both : (xs ys : List (At Tree)) (p q r : List Step) (e f g : List Entry) → Adds xs p q e f → Adds ys q r f g → Adds (xs ++ ys) p r e g
+pub adds_both : (xs ys : List (At Tree)) (p q r : List Step) (e f g : List Entry) → AddsEntries xs p q e f → AddsEntries ys q r f g → AddsEntries (xs ++ ys) p r e g
 adds_both xs ys p q r e f g a b = (
   b.0 ∙ a.0,
   b.1 ∙ (ap (λ z. all_told f ++ below z ys) a.0 ∙ (ap (λ z. z ++ below p ys) a.1 ∙ (append_assoc (all_told e) (below p xs) (below p ys) ∙ ap (λ z. all_told e ++ z) (sym (below_append p xs ys))))),
 )
 
 -- what is listed behind a step, where the path is cut back to where it began
-pub adds_behind : (s : Step) (xs : List (At Tree)) (p q r t : List Step) (e f : List Entry) → q ≡ p ++ s ∷ [] → t ≡ p → Adds xs q r e f → Adds (behind_step s xs) p t e f
+pub adds_behind : (s : Step) (xs : List (At Tree)) (p q r t : List Step) (e f : List Entry) → q ≡ p ++ s ∷ [] → t ≡ p → AddsEntries xs q r e f → AddsEntries (behind_step s xs) p t e f
 adds_behind s xs p q r t e f is back a = (back, a.1 ∙ ap (λ z. all_told e ++ z) (ap (λ z. below z xs) is ∙ below_step p s xs))
 
-pub adds_one : (c : Tree) (p : List Step) (e f : List Entry) (x : Entry) → f ≡ e ++ x ∷ [] → told x ≡ entry (p, c) → Adds (([], c) ∷ []) p p e f
+pub adds_one : (c : Tree) (p : List Step) (e f : List Entry) (x : Entry) → f ≡ e ++ x ∷ [] → told x ≡ entry (p, c) → AddsEntries (([], c) ∷ []) p p e f
 adds_one c p e f x is h = (refl, ap all_told is ∙ (map-append told e (x ∷ []) ∙ ap (λ z. all_told e ++ z ∷ []) (h ∙ ap (λ q. entry (q, c)) (sym (append-nil p)))))
 
-pub adds_end : (xs : List (At Tree)) (p q : List Step) (e f : List Entry) → Adds xs p q e f → Adds (xs ++ []) p q e f
+pub adds_end : (xs : List (At Tree)) (p q : List Step) (e f : List Entry) → AddsEntries xs p q e f → AddsEntries (xs ++ []) p q e f
 adds_end xs p q e f a = adds_same xs (xs ++ []) p q e f (append-nil xs) a
 
 -- a row in which nothing stands
-pub adds_absent : {A : Type 0} (f : A → Tree) (k : Kind) (s : Step) (o : Option A) (p : List Step) (e : List Entry) → o ≡ None → Adds (behind_step s (listed_in (present f o) k)) p p e e
+pub adds_absent : {A : Type 0} (f : A → Tree) (k : Kind) (s : Step) (o : Option A) (p : List Step) (e : List Entry) → o ≡ None → AddsEntries (behind_step s (listed_in (present f o) k)) p p e e
 adds_absent f k s o p e is = adds_same [] (behind_step s (listed_in (present f o) k)) p p e e (ap (λ z. behind_step s (listed_in (present f z) k)) is ∙ ap (behind_step s) (nothing_present f k)) (adds_none p e)
 
 -- a path that went on by a step and is cut back
@@ -220,14 +220,14 @@ cut_back p q r t s n is same long cut = cut ∙ (ap (λ m. take m r) long ∙ (a
 
 -- a row in which something stands, where the path went on by the row's name and is cut back
 pub adds_row : {A : Type 0} (f : A → Tree) (k : Kind) (s : Step) (x : A) (o : Option A) (p q r t : List Step) (n : ℕ) (e g : List Entry) → o ≡ Some x → q ≡ p ++ s ∷ [] → n ≡ length p → t ≡ take n r
-    → Adds (listed_in (f x) k) q r e g → Adds (behind_step s (listed_in (present f o) k)) p t e g
+    → AddsEntries (listed_in (f x) k) q r e g → AddsEntries (behind_step s (listed_in (present f o) k)) p t e g
 adds_row f k s x o p q r t n e g is next long cut a =
     adds_same (behind_step s (listed_in (f x) k)) (behind_step s (listed_in (present f o) k)) p t e g (ap (λ z. behind_step s (listed_in (present f z) k)) is)
     (adds_behind s (listed_in (f x) k) p q r t e g next (cut_back p q r t s n next a.0 long cut) a)
 
 -- what is listed from nothing on is the inventory
 pub bill_told : (b : Bom) (p q : List Step) (e f : List Entry) → p ≡ [] → e ≡ []
-    → Adds (behind_step (to_member (codes "metadata")) (listed_in (present metadata_tree b.metadata) (a_record metadata)) ++ (behind_step (to_member (codes "components")) (listed_in (present components_tree b.components) (a_list components)) ++ [])) p q e f
+    → AddsEntries (behind_step (to_member (codes "metadata")) (listed_in (present metadata_tree b.metadata) (a_record metadata)) ++ (behind_step (to_member (codes "components")) (listed_in (present components_tree b.components) (a_list components)) ++ [])) p q e f
     → all_told f ≡ inventory (bom_tree b) None
 bill_told b p q e f start empty a =
     let xs = behind_step (to_member (codes "metadata")) (listed_in (present metadata_tree b.metadata) (a_record metadata)) ++ (behind_step (to_member (codes "components")) (listed_in (present components_tree b.components) (a_list components)) ++ []) in

@@ -6,7 +6,7 @@ use Rattle.cdx_models.specs.declared.errors.Step.{Step}
 use Rattle.cdx_models.specs.Trees.{license, expression, Tree, items, fields, Trees, none, more, field}
 use Rattle.cdx_ways.specs.Ways.{At}
 use Rattle.cdx_inventory.specs.declared.entry.Entry.{Entry}
-use Rattle.cdx_inventory.specs.Listing.{listed, parts, text_of, the_licenses, name_of, version_of}
+use Rattle.cdx_inventory.specs.Listing.{listed, parts, text_itself, the_licenses, name_of, component_version}
 
 pub record Told : Type 0 where
   pub path : List Step
@@ -20,8 +20,8 @@ members_of _ = none
 
 -- of a license its id or name, of an expression its text
 abbrev pub license_text : Tree → List ℕ
-license_text (fields license ts) = text_of (field 0 (parts (field 1 ts)))
-license_text (fields expression ts) = text_of (field 1 ts)
+license_text (fields license ts) = text_itself (field 0 (parts (field 1 ts)))
+license_text (fields expression ts) = text_itself (field 1 ts)
 license_text _ = []
 
 abbrev pub license_texts : Trees → List (List ℕ)
@@ -34,7 +34,7 @@ licenses_of c = license_texts (members_of (field the_licenses (parts c)))
 
 -- the path, the name, the version where there is one, and the texts of the licenses
 abbrev pub entry : At Tree → Told
-entry x = record { path = x.0; name = name_of x.1; version = version_of x.1; licenses = licenses_of x.1 }
+entry x = record { path = x.0; name = name_of x.1; version = component_version x.1; licenses = licenses_of x.1 }
 
 abbrev pub has_license : List ℕ → Told → Bool
 has_license s e = list_any (λ t. bytes_eq t s) e.licenses

@@ -51,9 +51,9 @@ abbrev pub parts : Tree → Trees
 parts (fields n ts) = ts
 parts _ = none
 
-abbrev pub text_of : Tree → List ℕ
-text_of (text s) = s
-text_of _ = []
+abbrev pub text_itself : Tree → List ℕ
+text_itself (text s) = s
+text_itself _ = []
 
 abbrev pub text_there : Tree → Option (List ℕ)
 text_there (text s) = Some s
@@ -70,11 +70,11 @@ abbrev pub the_licenses : ℕ
 the_licenses = 12
 
 abbrev pub name_of : Tree → List ℕ
-name_of c = text_of (field the_name (parts c))
+name_of c = text_itself (field the_name (parts c))
 
 -- the version, where there is one
-abbrev pub version_of : Tree → Option (List ℕ)
-version_of c = text_there (field the_version (parts c))
+abbrev pub component_version : Tree → Option (List ℕ)
+component_version c = text_there (field the_version (parts c))
 
 -- ---- the laws
 
@@ -128,7 +128,7 @@ pub record Known : Type 0 where
   pub version : Option (List ℕ)
 
 abbrev pub known : At Tree → Known
-known x = record { path = x.0; name = name_of x.1; version = version_of x.1 }
+known x = record { path = x.0; name = name_of x.1; version = component_version x.1 }
 
 abbrev pub the_tools : List Step
 the_tools = to_member (codes "metadata") ∷ to_member (codes "tools") ∷ []

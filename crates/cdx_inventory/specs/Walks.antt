@@ -11,5 +11,5 @@ abbrev pub below : List Step → List (At Tree) → List Told
 below p xs = map (λ x. entry (p ++ x.0, x.1)) xs
 
 -- The walk ends at the path where it began, and adds the entries of what is listed below that.
-abbrev pub Adds : List (At Tree) → List Step → List Step → List Entry → List Entry → Type 0
-Adds xs before after old new = (after ≡ before) × (all_told new ≡ all_told old ++ below before xs)
+abbrev pub AddsEntries : List (At Tree) → List Step → List Step → List Entry → List Entry → Type 0
+AddsEntries xs before after old new = (after ≡ before) × (all_told new ≡ all_told old ++ below before xs)

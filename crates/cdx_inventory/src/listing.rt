@@ -10,7 +10,7 @@ ghost use Rattle.cdx_bom.specs.Trees.{bom_tree};
 ghost use Rattle.cdx_ways.specs.Ways.{behind_step};
 ghost use Rattle.cdx_inventory.specs.Listing.{listed_in};
 ghost use Rattle.cdx_inventory.specs.Entries.{all_told, inventory as inventory_of, has_license as is_under};
-ghost use Rattle.cdx_inventory.specs.Walks.{Adds};
+ghost use Rattle.cdx_inventory.specs.Walks.{AddsEntries};
 
 use crate::entry::{Entry, entry_of, has_license};
 use cdx_bom::Bom;
@@ -56,7 +56,7 @@ fn list_component(
     path: &mut Vec<Step>,
     entries: &mut Items<Entry>,
 ) -> Result<(), AllocError>
-    ensures { OnOk result (Adds (listed_in (component_tree held.now) (a_record component))
+    ensures { OnOk result (AddsEntries (listed_in (component_tree held.now) (a_record component))
         path.old.items path.new.items entries.old entries.new) }
 {
     let entry = entry_of(alloc, path.as_slice(), held)?;
@@ -73,7 +73,7 @@ fn list_pedigree(
     path: &mut Vec<Step>,
     entries: &mut Items<Entry>,
 ) -> Result<(), AllocError>
-    ensures { OnOk result (Adds (listed_in (pedigree_tree held.now) (a_record pedigree))
+    ensures { OnOk result (AddsEntries (listed_in (pedigree_tree held.now) (a_record pedigree))
         path.old.items path.new.items entries.old entries.new) }
 {
     list_components_row(alloc, "ancestors", &held.ancestors, path, entries)?;
@@ -89,7 +89,7 @@ fn list_components(
     path: &mut Vec<Step>,
     entries: &mut Items<Entry>,
 ) -> Result<(), AllocError>
-    ensures { OnOk result (Adds (listed_in (components_tree held.now) (a_list components))
+    ensures { OnOk result (AddsEntries (listed_in (components_tree held.now) (a_list components))
         path.old.items path.new.items entries.old entries.new) }
 {
     let depth = steps_in(path);
@@ -108,7 +108,7 @@ fn list_pedigree_row(
     path: &mut Vec<Step>,
     entries: &mut Items<Entry>,
 ) -> Result<(), AllocError>
-    ensures { OnOk result (Adds (behind_step (to_member (codes "pedigree"))
+    ensures { OnOk result (AddsEntries (behind_step (to_member (codes "pedigree"))
         (listed_in (present pedigree_tree held.now) (a_record pedigree)))
         path.old.items path.new.items entries.old entries.new) }
 {
@@ -132,7 +132,7 @@ fn list_components_row(
     path: &mut Vec<Step>,
     entries: &mut Items<Entry>,
 ) -> Result<(), AllocError>
-    ensures { OnOk result (Adds (behind_step (to_member name.now)
+    ensures { OnOk result (AddsEntries (behind_step (to_member name.now)
         (listed_in (present components_tree held.now) (a_list components)))
         path.old.items path.new.items entries.old entries.new) }
 {
@@ -154,7 +154,7 @@ fn list_tools(
     path: &mut Vec<Step>,
     entries: &mut Items<Entry>,
 ) -> Result<(), AllocError>
-    ensures { OnOk result (Adds (listed_in (tools_tree tools.now) a_tools)
+    ensures { OnOk result (AddsEntries (listed_in (tools_tree tools.now) a_tools)
         path.old.items path.new.items entries.old entries.new) }
 {
     match tools {
@@ -172,7 +172,7 @@ fn list_tools_row(
     path: &mut Vec<Step>,
     entries: &mut Items<Entry>,
 ) -> Result<(), AllocError>
-    ensures { OnOk result (Adds (behind_step (to_member (codes "tools"))
+    ensures { OnOk result (AddsEntries (behind_step (to_member (codes "tools"))
         (listed_in (present tools_tree held.now) a_tools))
         path.old.items path.new.items entries.old entries.new) }
 {
@@ -195,7 +195,7 @@ fn list_component_row(
     path: &mut Vec<Step>,
     entries: &mut Items<Entry>,
 ) -> Result<(), AllocError>
-    ensures { OnOk result (Adds (behind_step (to_member (codes "component"))
+    ensures { OnOk result (AddsEntries (behind_step (to_member (codes "component"))
         (listed_in (present component_tree held.now) (a_record component)))
         path.old.items path.new.items entries.old entries.new) }
 {
@@ -217,7 +217,7 @@ fn list_metadata(
     path: &mut Vec<Step>,
     entries: &mut Items<Entry>,
 ) -> Result<(), AllocError>
-    ensures { OnOk result (Adds (listed_in (metadata_tree held.now) (a_record metadata))
+    ensures { OnOk result (AddsEntries (listed_in (metadata_tree held.now) (a_record metadata))
         path.old.items path.new.items entries.old entries.new) }
 {
     list_tools_row(alloc, &held.tools, path, entries)?;
@@ -231,7 +231,7 @@ fn list_metadata_row(
     path: &mut Vec<Step>,
     entries: &mut Items<Entry>,
 ) -> Result<(), AllocError>
-    ensures { OnOk result (Adds (behind_step (to_member (codes "metadata"))
+    ensures { OnOk result (AddsEntries (behind_step (to_member (codes "metadata"))
         (listed_in (present metadata_tree held.now) (a_record metadata)))
         path.old.items path.new.items entries.old entries.new) }
 {

@@ -10,7 +10,7 @@ use Rattle.cdx_schema.specs.Depth.{Depth}
 use Rattle.cdx_schema.specs.Results.{◌>>=◌}
 use Rattle.cdx_schema.specs.Faults.{to_member, JsonFault, under}
 use Rattle.cdx_schema.specs.JsonReading.{Object, Found, nothing, a_null, found, found_read, member_name, member_read, row_read, rows_read, no_own, own_read, record_read}
-use Rattle.cdx_json.specs.ByRows.{found_as, member_of, late_read, since_read, member_made, row_made, rows_made, own_by_rows, own_made, by_rows, named, identifier_of}
+use Rattle.cdx_json.specs.ByRows.{found_as, member_of, late_read, since_read, member_made, row_made, rows_made, own_by_rows, own_made, by_rows, as_record, identifier_of}
 
 pub then_same : {A B F : Type 0} (x : Result A F) (f g : A → Result B F) → ((a : A) → f a ≡ g a) → (x >>= f) ≡ (x >>= g)
 then_same (Ok a) f g h = h a
@@ -55,7 +55,7 @@ rows_same o own own' (r ∷ rs) v d make same =
 
 pub own_by_rows_are : (n : Name) (o : Object) (v : SpecVersion) (d : Depth) → own_by_rows n o v d ≡ own_read o v d (a_record n)
 unfolding own_by_rows
-own_by_rows_are n o v d = rows_same o no_own no_own (rows n) v d (named n) (λ k. refl)
+own_by_rows_are n o v d = rows_same o no_own no_own (rows n) v d (as_record n) (λ k. refl)
 
 own_same : (o : Object) (v : SpecVersion) (d : Depth) (k : Kind) → own_made o v d k ≡ own_read o v d k
 unfolding identifier_of
@@ -76,7 +76,7 @@ own_same o v d a_bill = refl
 
 -- The reading by rows is the schema's.
 pub by_rows_are : (n : Name) (o : Object) (v : SpecVersion) (d : Depth) → by_rows n o v d ≡ record_read n o v d
-by_rows_are n o v d = rows_same o (own_made o v d) (own_read o v d) (rows n) v d (named n) (own_same o v d)
+by_rows_are n o v d = rows_same o (own_made o v d) (own_read o v d) (rows n) v d (as_record n) (own_same o v d)
 
 -- ---- rows in groups
 

@@ -13,7 +13,7 @@ use Rattle.cdx_schema.specs.Kinds.{Lists, Kind, a_text, a_boolean, a_number, a_v
 use Rattle.cdx_schema.specs.Table.{rows, list}
 use Rattle.cdx_schema.specs.Keeping.{kept, keep, items_kept}
 use Rattle.cdx_schema.specs.JsonSpelling.{jspell, heading, items_spelled}
-use Rattle.cdx_json.specs.ByRows.{plain, IsListOf}
+use Rattle.cdx_json.specs.ByRows.{json_kind, IsJsonListOf}
 use Rattle.cdx_json.specs.KeptRows.{put_kept, put_filled, late_put, late_kept, rows_put}
 use Rattle.cdx_json.proofs.KeptRowsLaws.{record_put}
 
@@ -40,10 +40,10 @@ reference_spelled (items ts) w = refl
 reference_spelled (fields n ts) w = refl
 
 -- what holds of texts and references alike holds of alike kinds
-alike : {X : Type 0} (f : Kind → X) → f a_reference ≡ f a_text → (k m : Kind) → plain k ≡ plain m → f k ≡ f m
+alike : {X : Type 0} (f : Kind → X) → f a_reference ≡ f a_text → (k m : Kind) → json_kind k ≡ json_kind m → f k ≡ f m
 alike f h k m e = at_plain f h k ∙ ap f e ∙ sym (at_plain f h m)
   where
-    at_plain : {X : Type 0} (f : Kind → X) → f a_reference ≡ f a_text → (k : Kind) → f k ≡ f (plain k)
+    at_plain : {X : Type 0} (f : Kind → X) → f a_reference ≡ f a_text → (k : Kind) → f k ≡ f (json_kind k)
     at_plain f h a_reference = h
     at_plain f h a_text = refl
     at_plain f h a_boolean = refl
@@ -64,29 +64,29 @@ alike f h k m e = at_plain f h k ∙ ap f e ∙ sym (at_plain f h m)
 abbrev pub spelled : {A : Type 0} → (A → Tree) → Kind → SpecVersion → A → Data
 spelled f k w x = jspell (keep w (f x) k) w k
 
-alike_spelled : (k m : Kind) (w : SpecVersion) (t : Tree) → plain k ≡ plain m → jspell (keep w t k) w k ≡ jspell (keep w t m) w m
+alike_spelled : (k m : Kind) (w : SpecVersion) (t : Tree) → json_kind k ≡ json_kind m → jspell (keep w t k) w k ≡ jspell (keep w t m) w m
 alike_spelled k m w t e = alike (λ q. jspell (keep w t q) w q) (ap (λ u. jspell u w a_reference) (reference_kept w w t) ∙ reference_spelled (keep w t a_text) w) k m e
 
-items_each : {A : Type 0} (f : A → Tree) (k m : Kind) (w : SpecVersion) (xs : List A) → plain m ≡ plain k → items_of (map (spelled f k w) xs) ≡ items_spelled (items_kept w w (each f xs) m) w m
+items_each : {A : Type 0} (f : A → Tree) (k m : Kind) (w : SpecVersion) (xs : List A) → json_kind m ≡ json_kind k → items_of (map (spelled f k w) xs) ≡ items_spelled (items_kept w w (each f xs) m) w m
 unfolding jspell kept
 items_each f k m w [] e = refl
 items_each f k m w (x ∷ xs) e = ap (λ y. item y (items_of (map (spelled f k w) xs))) (sym (alike_spelled m k w (f x) e)) ∙ ap (item (spelled f m w x)) (items_each f k m w xs e)
 
 -- a list whose items are spelled, at the end of a loop over it
-pub list_spelled : {A : Type 0} (f : A → Tree) (k : Kind) (l : Lists) (w : SpecVersion) (v : Vec Value Global) (xs ys : List A) (i : ℕ) → IsListOf k l → xs ≡ ys → length xs ≤ i → map view v.items ≡ map (spelled f k w) (take i xs)
+pub list_spelled : {A : Type 0} (f : A → Tree) (k : Kind) (l : Lists) (w : SpecVersion) (v : Vec Value Global) (xs ys : List A) (i : ℕ) → IsJsonListOf k l → xs ≡ ys → length xs ≤ i → map view v.items ≡ map (spelled f k w) (take i xs)
     → view (Array v) ≡ jspell (keep w (list_tree f ys) (a_list l)) w (a_list l)
 unfolding jspell kept
 list_spelled f k l w v xs ys i is same all e =
     view-Array v ∙ ap (λ ds. array (items_of ds)) (e ∙ ap (map (spelled f k w)) (take_all i xs all ∙ same)) ∙ ap array (items_each f k (list l).kind w ys is)
 
-kept_each : {A : Type 0} (f : A → Tree) (k m : Kind) (w l : SpecVersion) (xs : List A) → plain m ≡ plain k → trees (map (λ x. kept w l (f x) k) xs) ≡ items_kept w l (each f xs) m
+kept_each : {A : Type 0} (f : A → Tree) (k m : Kind) (w l : SpecVersion) (xs : List A) → json_kind m ≡ json_kind k → trees (map (λ x. kept w l (f x) k) xs) ≡ items_kept w l (each f xs) m
 unfolding kept
 kept_each f k m w l [] e = refl
 kept_each f k m w l (x ∷ xs) e =
     ap (λ t. more t (trees (map (λ y. kept w l (f y) k) xs))) (sym (alike (λ q. kept w l (f x) q) (reference_kept w l (f x)) m k e)) ∙ ap (more (kept w l (f x) m)) (kept_each f k m w l xs e)
 
 -- a list whose items are kept, at the end of a loop over it
-pub list_kept : {A : Type 0} (f : A → Tree) (k : Kind) (i : Lists) (w l : SpecVersion) (new xs ys : List A) (n : ℕ) → IsListOf k i → xs ≡ ys → length xs ≤ n → map f new ≡ map (λ x. kept w l (f x) k) (take n xs)
+pub list_kept : {A : Type 0} (f : A → Tree) (k : Kind) (i : Lists) (w l : SpecVersion) (new xs ys : List A) (n : ℕ) → IsJsonListOf k i → xs ≡ ys → length xs ≤ n → map f new ≡ map (λ x. kept w l (f x) k) (take n xs)
     → list_tree f new ≡ kept w l (list_tree f ys) (a_list i)
 unfolding kept
 list_kept f k i w l new xs ys n is same all e =
@@ -96,7 +96,7 @@ list_kept f k i w l new xs ys n is same all e =
 
 pub record_spelled : (m : BTreeMap (String Global) Value) (n : Name) (w : SpecVersion) (t : Tree) → t ≡ fields n (fields_of t) → heading n ≡ no_members
     → members_view m.entries ≡ rows_put (fields_of t) w (rows n) no_members → view (Object m) ≡ jspell (keep w t (a_record n)) w (a_record n)
-record_spelled m n w t is plain e = view-Object m ∙ ap object e ∙ record_put n w t is plain
+record_spelled m n w t is json_kind e = view-Object m ∙ ap object e ∙ record_put n w t is json_kind
 
 -- ---- a field that is there
 

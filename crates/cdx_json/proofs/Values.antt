@@ -13,7 +13,7 @@ use Rattle.cdx_schema.specs.Results.{◌>>=◌}
 use Rattle.cdx_schema.specs.Table.{list}
 use Rattle.cdx_schema.specs.Depth.{inside, name_too_deep, is_too_deep}
 use Rattle.cdx_schema.specs.JsonReading.{jread, seen, at_depth, record_read, items_read, number_read}
-use Rattle.cdx_json.specs.ByRows.{plain, IsListOf, list_read, by_rows, signature_of}
+use Rattle.cdx_json.specs.ByRows.{json_kind, IsJsonListOf, list_read, by_rows, signature_of}
 use Rattle.cdx_json.proofs.ByRowsLaws.{by_rows_are}
 use Rattle.cdx_models.specs.declared.errors.JsonReadError.{JsonReadError}
 use Rattle.cdx_models.specs.declared.errors.JsonReadError.TheVariants.{JsonElementReadError, BomError, Memory}
@@ -81,7 +81,7 @@ reference_err e x v d is at = fails_here e WrongKind (jread x v a_reference d) a
 
 -- ---- lists
 
-plain_read : (x : Data) (k : Kind) (v : SpecVersion) (d : Depth) → jread x v k d ≡ jread x v (plain k) d
+plain_read : (x : Data) (k : Kind) (v : SpecVersion) (d : Depth) → jread x v k d ≡ jread x v (json_kind k) d
 plain_read x a_reference v d = reference_is x v d
 plain_read x a_text v d = refl
 plain_read x a_boolean v d = refl
@@ -97,17 +97,17 @@ plain_read x an_entry v d = refl
 plain_read x a_signature v d = refl
 plain_read x a_bill v d = refl
 
-alike_read : (x : Data) (k m : Kind) (v : SpecVersion) (d : Depth) → plain k ≡ plain m → jread x v k d ≡ jread x v m d
+alike_read : (x : Data) (k m : Kind) (v : SpecVersion) (d : Depth) → json_kind k ≡ json_kind m → jread x v k d ≡ jread x v m d
 alike_read x k m v d e = plain_read x k v d ∙ ap (λ q. jread x v q d) e ∙ sym (plain_read x m v d)
 
-alike_items : (xs : Items) (k m : Kind) (v : SpecVersion) (d : Depth) (n : ℕ) → plain k ≡ plain m → items_read xs v k d n ≡ items_read xs v m d n
+alike_items : (xs : Items) (k m : Kind) (v : SpecVersion) (d : Depth) (n : ℕ) → json_kind k ≡ json_kind m → items_read xs v k d n ≡ items_read xs v m d n
 unfolding jread
 alike_items no_items k m v d n e = refl
 alike_items (item x xs) k m v d n e =
     ap (λ r. under (to_item n) r >>= λ t. items_read xs v k d (suc n) >>= λ ts. Ok (more t ts)) (alike_read x k m v d e)
     ∙ ap (λ r. under (to_item n) (jread x v m d) >>= λ t. r >>= λ ts. Ok (more t ts)) (alike_items xs k m v d (suc n) e)
 
-list_is : (x : Data) (ds : Items) (k : Kind) (l : Lists) (v : SpecVersion) (d : Depth) → IsListOf k l → Some ds ≡ as_array x → jread x v (a_list l) d ≡ list_read ds v k d
+list_is : (x : Data) (ds : Items) (k : Kind) (l : Lists) (v : SpecVersion) (d : Depth) → IsJsonListOf k l → Some ds ≡ as_array x → jread x v (a_list l) d ≡ list_read ds v k d
 unfolding jread
 list_is json.null ds k l v d h e = absurd cc
 list_is (json.boolean b) ds k l v d h e = absurd cc
@@ -129,7 +129,7 @@ list_wrong (json.object ms) l v d e = refl
 pub list_err : (e : JsonReadError) (x : Data) (l : Lists) (v : SpecVersion) (d : Depth) → None ≡ as_array x → IsFaultAt [] WrongKind e → Fails e (jread x v (a_list l) d)
 list_err e x l v d is at = fails_here e WrongKind (jread x v (a_list l) d) at (list_wrong x l v d is)
 
-pub list_gives : {X : Type 0} (see : X → Tree) (r : Result X JsonReadError) (x : Data) (ds : Items) (k : Kind) (l : Lists) (v : SpecVersion) (d : Depth) → IsListOf k l → Some ds ≡ as_array x → Gives see r (list_read ds v k d) → Gives see r (jread x v (a_list l) d)
+pub list_gives : {X : Type 0} (see : X → Tree) (r : Result X JsonReadError) (x : Data) (ds : Items) (k : Kind) (l : Lists) (v : SpecVersion) (d : Depth) → IsJsonListOf k l → Some ds ≡ as_array x → Gives see r (list_read ds v k d) → Gives see r (jread x v (a_list l) d)
 list_gives see r x ds k l v d h is gives = subst (Gives see r) (sym (list_is x ds k l v d h is)) gives
 
 -- ---- records

@@ -13,13 +13,13 @@ use Rattle.cdx_schema.specs.Faults.{to_member, wrong_kind, JsonFault, under, her
 use Rattle.cdx_schema.specs.JsonReading.{Object, Found, nothing, a_null, found, member_name, when_nothing, when_null, no_own, identifier_read, signature_read, choice_read, is_lone_license, seen, items_read}
 
 -- JSON does not tell a reference from a text.
-abbrev pub plain : Kind → Kind
-plain a_reference = a_text
-plain k = k
+abbrev pub json_kind : Kind → Kind
+json_kind a_reference = a_text
+json_kind k = k
 
 -- The list's items are of the kind.
-abbrev pub IsListOf : Kind → Lists → Type 0
-IsListOf k l = plain (list l).kind ≡ plain k
+abbrev pub IsJsonListOf : Kind → Lists → Type 0
+IsJsonListOf k l = json_kind (list l).kind ≡ json_kind k
 
 abbrev pub found_as : Found → Need → Kind → SpecVersion → Depth → Result Tree JsonFault
 found_as nothing need k v d = when_nothing need v
@@ -52,15 +52,15 @@ rows_made o own [] v d make = make none
 rows_made o own (r ∷ rs) v d make = row_made o own r v d >>= λ t. rows_made o own rs v d (λ ts. make (more t ts))
 
 -- a record of the name
-abbrev pub named : Name → Trees → Result Tree JsonFault
-named n ts = Ok (fields n ts)
+abbrev pub as_record : Name → Trees → Result Tree JsonFault
+as_record n ts = Ok (fields n ts)
 
 unfoldable pub identifier_of : Object → SpecVersion → Depth → Result Tree JsonFault
 identifier_of o v d = identifier_read o v d
 
 -- a record whose members stand in another's object
 unfoldable pub own_by_rows : Name → Object → SpecVersion → Depth → Result Tree JsonFault
-own_by_rows n o v d = rows_made o no_own (rows n) v d (named n)
+own_by_rows n o v d = rows_made o no_own (rows n) v d (as_record n)
 
 abbrev pub own_made : Object → SpecVersion → Depth → Kind → Result Tree JsonFault
 own_made o v d a_license_identifier = identifier_of o v d
@@ -68,7 +68,7 @@ own_made o v d (a_record n) = own_by_rows n o v d
 own_made o v d k = here wrong_kind
 
 abbrev pub by_rows : Name → Object → SpecVersion → Depth → Result Tree JsonFault
-by_rows n o v d = rows_made o (own_made o v d) (rows n) v d (named n)
+by_rows n o v d = rows_made o (own_made o v d) (rows n) v d (as_record n)
 
 -- ---- the other objects and arrays
 

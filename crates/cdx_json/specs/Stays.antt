@@ -52,8 +52,8 @@ identifier_fields_stay V1_4 l n ts = refl
 identifier_fields_stay V1_5 l n ts = refl
 
 -- Equal trees stay there alike.
-pub at : (w l : SpecVersion) (k : Kind) (t u : Tree) → t ≡ u → is_absent (kept w l t k) ≡ is_absent (kept w l u k)
-at w l k t u e = ap (λ x. is_absent (kept w l x k)) e
+pub stays_alike : (w l : SpecVersion) (k : Kind) (t u : Tree) → t ≡ u → is_absent (kept w l t k) ≡ is_absent (kept w l u k)
+stays_alike w l k t u e = ap (λ x. is_absent (kept w l x k)) e
 
 pub record_tree_stays : (w l : SpecVersion) (n : Name) (t : Tree) → t ≡ fields n (fields_of t) → is_absent (kept w l t (a_record n)) ≡ false
-record_tree_stays w l n t e = at w l (a_record n) t (fields n (fields_of t)) e ∙ record_stays w l n (fields_of t)
+record_tree_stays w l n t e = stays_alike w l (a_record n) t (fields n (fields_of t)) e ∙ record_stays w l n (fields_of t)

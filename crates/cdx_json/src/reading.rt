@@ -8,7 +8,7 @@ ghost use Rattle.cdx_schema.specs.Kinds.{Lists, a_list, optional, required, else
 ghost use Rattle.cdx_schema.specs.JsonReading.{jread, seen};
 ghost use Rattle.cdx_schema.specs.JsonReading as reading;
 ghost use Rattle.cdx_json.specs.Depths.{depth_of};
-ghost use Rattle.cdx_json.specs.ByRows.{IsListOf, member_of, late_read, list_read};
+ghost use Rattle.cdx_json.specs.ByRows.{IsJsonListOf, member_of, late_read, list_read};
 ghost use Rattle.cdx_json.specs.Gives.{Gives, stands, is_found, non_null};
 
 use crate::context::Context;
@@ -122,7 +122,7 @@ pub fn list_from_value<T: FromJson + Drop>(
     value: &Value,
     context: Context,
 ) -> Result<List<T>, JsonReadError>
-    ensures { (l : Lists) → IsListOf T.kind l → Gives (list_tree T.tree) result
+    ensures { (l : Lists) → IsJsonListOf T.kind l → Gives (list_tree T.tree) result
         (jread (view value.now) context.version (a_list l) (depth_of context.depth)) }
 {
     match value.as_array() {
@@ -223,7 +223,7 @@ pub fn list_row<T: FromJson + Drop>(
     name: &str,
     context: Context,
 ) -> Result<List<T>, JsonReadError>
-    ensures { (l : Lists) → IsListOf T.kind l → Gives (list_tree T.tree) result
+    ensures { (l : Lists) → IsJsonListOf T.kind l → Gives (list_tree T.tree) result
         (member_of (seen (members_view map.now.entries)) name.now else_empty (a_list l)
         context.version (depth_of context.depth)) }
 {
@@ -249,7 +249,7 @@ pub fn optional_list_row<T: FromJson + Drop>(
     name: &str,
     context: Context,
 ) -> Result<Option<List<T>>, JsonReadError>
-    ensures { (l : Lists) → IsListOf T.kind l → Gives (present (list_tree T.tree)) result
+    ensures { (l : Lists) → IsJsonListOf T.kind l → Gives (present (list_tree T.tree)) result
         (member_of (seen (members_view map.now.entries)) name.now optional (a_list l)
         context.version (depth_of context.depth)) }
 {
@@ -269,7 +269,7 @@ pub fn optional_list_row_since<T: FromJson + Drop>(
     since: SpecVersion,
     context: Context,
 ) -> Result<Option<List<T>>, JsonReadError>
-    ensures { (l : Lists) → IsListOf T.kind l → Gives (present (list_tree T.tree)) result
+    ensures { (l : Lists) → IsJsonListOf T.kind l → Gives (present (list_tree T.tree)) result
         (late_read since context.version
         (member_of (seen (members_view map.now.entries)) name.now optional (a_list l)
         context.version (depth_of context.depth))) }

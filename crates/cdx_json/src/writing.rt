@@ -6,7 +6,7 @@ ghost use Rattle.cdx_models.specs.Trees.{present, list_tree};
 ghost use Rattle.cdx_schema.specs.Kinds.{Lists, a_list};
 ghost use Rattle.cdx_schema.specs.Keeping.{kept, keep};
 ghost use Rattle.cdx_schema.specs.JsonSpelling.{jspell};
-ghost use Rattle.cdx_json.specs.ByRows.{IsListOf};
+ghost use Rattle.cdx_json.specs.ByRows.{IsJsonListOf};
 ghost use Rattle.cdx_json.specs.KeptRows.{put_kept, put_filled, late_put, late_kept};
 
 use crate::keeping::Keeping;
@@ -73,7 +73,7 @@ impl ToJson for u32 {
 
 /// What a version keeps of a list, as any of the schema's lists whose items are of the kind of `T`.
 pub fn keep_list<T: Kept + Drop>(held: &List<T>, keeping: Keeping) -> Result<List<T>, AllocError>
-    ensures { (l : Lists) → IsListOf T.kind l → IfOk result
+    ensures { (l : Lists) → IsJsonListOf T.kind l → IfOk result
         (λ r. list_tree T.tree r ≡ kept keeping.version keeping.label (list_tree T.tree held.now)
         (a_list l)) }
 {
@@ -90,7 +90,7 @@ pub fn list_to_value<T: ToJson + Drop>(
     held: &List<T>,
     version: SpecVersion,
 ) -> Result<Value, AllocError>
-    ensures { (l : Lists) → IsListOf T.kind l → IfOk result
+    ensures { (l : Lists) → IsJsonListOf T.kind l → IfOk result
         (λ v. view v
         ≡ jspell (keep version (list_tree T.tree held.now) (a_list l)) version (a_list l)) }
 {
@@ -164,7 +164,7 @@ pub fn put_required_list<T: ToJson + Drop>(
     held: &List<T>,
     target: Target,
 ) -> Result<(), AllocError>
-    ensures { (l : Lists) → IsListOf T.kind l → OnOk result (members_view map.new.entries
+    ensures { (l : Lists) → IsJsonListOf T.kind l → OnOk result (members_view map.new.entries
         ≡ put_kept name.now (a_list l) (list_tree T.tree held.now) target.version
         (members_view map.old.entries)) }
 {
@@ -183,7 +183,7 @@ pub fn put_list<T: ToJson + Drop>(
     held: &List<T>,
     target: Target,
 ) -> Result<(), AllocError>
-    ensures { (l : Lists) → IsListOf T.kind l → OnOk result (members_view map.new.entries
+    ensures { (l : Lists) → IsJsonListOf T.kind l → OnOk result (members_view map.new.entries
         ≡ put_filled name.now (a_list l) (list_tree T.tree held.now) target.version
         (members_view map.old.entries)) }
 {
@@ -205,7 +205,7 @@ pub fn put_optional_list<T: ToJson + Drop>(
     held: &Option<List<T>>,
     target: Target,
 ) -> Result<(), AllocError>
-    ensures { (l : Lists) → IsListOf T.kind l → OnOk result (members_view map.new.entries
+    ensures { (l : Lists) → IsJsonListOf T.kind l → OnOk result (members_view map.new.entries
         ≡ put_kept name.now (a_list l) (present (list_tree T.tree) held.now) target.version
         (members_view map.old.entries)) }
 {
@@ -223,7 +223,7 @@ pub fn put_optional_list_since<T: ToJson + Drop>(
     since: SpecVersion,
     target: Target,
 ) -> Result<(), AllocError>
-    ensures { (l : Lists) → IsListOf T.kind l → OnOk result (members_view map.new.entries
+    ensures { (l : Lists) → IsJsonListOf T.kind l → OnOk result (members_view map.new.entries
         ≡ late_put since target.version (members_view map.old.entries)
         (put_kept name.now (a_list l) (present (list_tree T.tree) held.now) target.version
         (members_view map.old.entries))) }
@@ -271,7 +271,7 @@ pub fn keep_optional_list<T: Kept + Drop>(
     held: &Option<List<T>>,
     keeping: Keeping,
 ) -> Result<Option<List<T>>, AllocError>
-    ensures { (l : Lists) → IsListOf T.kind l → IfOk result
+    ensures { (l : Lists) → IsJsonListOf T.kind l → IfOk result
         (λ r. present (list_tree T.tree) r
         ≡ kept keeping.version keeping.label (present (list_tree T.tree) held.now) (a_list l)) }
 {
@@ -287,7 +287,7 @@ pub fn keep_optional_list_since<T: Kept + Drop>(
     since: SpecVersion,
     keeping: Keeping,
 ) -> Result<Option<List<T>>, AllocError>
-    ensures { (l : Lists) → IsListOf T.kind l → IfOk result (λ r. present (list_tree T.tree) r
+    ensures { (l : Lists) → IsJsonListOf T.kind l → IfOk result (λ r. present (list_tree T.tree) r
         ≡ late_kept since keeping.version
         (kept keeping.version keeping.label (present (list_tree T.tree) held.now) (a_list l))) }
 {

@@ -13,8 +13,8 @@ use Rattle.cdx_schema.specs.Kinds.{Kind, Row, Member, required, optional, a_text
 use Rattle.cdx_schema.specs.JsonReading.{is_required}
 use Rattle.cdx_schema.specs.XmlTexts.{of_text}
 use Rattle.cdx_schema.specs.XmlReading.{attribute_read, parsed, find_attribute, row_attribute, attributes_read}
-use Rattle.cdx_leaf.specs.Fault.{Fails}
-use Rattle.cdx_leaf.specs.Attribute.{or_fault, Gives, known, text_row, value_of}
+use Rattle.cdx_leaf.specs.Fault.{FailsAt}
+use Rattle.cdx_leaf.specs.Attribute.{or_fault, GivesAt, known_since, text_row, value_of}
 use Rattle.cdx_leaf.specs.Numbers.{value_attribute}
 use Rattle.cdx_leaf.specs.Parts.{text_alone}
 use Rattle.cdx_models.specs.Trees.{present}
@@ -29,7 +29,7 @@ optional_text_is r kind need name v el p None = ap (λ x. if is_required x v the
 optional_text_is r kind need name v el p (Some s) = ap (λ k. parsed (of_text k s) p name s k) kind
 
 -- a value that is read is the first, or the only one
-pub gives_into : {X T U : Type 0} (view : X → T) (into : T → U) (place : ℕ) (denoted : Result T XmlReadError) (r : Result X XmlReadError) → Gives view place denoted r → Gives (λ x. into (view x)) place (denoted >>= λ t. Ok (into t)) r
+pub gives_into : {X T U : Type 0} (view : X → T) (into : T → U) (place : ℕ) (denoted : Result T XmlReadError) (r : Result X XmlReadError) → GivesAt view place denoted r → GivesAt (λ x. into (view x)) place (denoted >>= λ t. Ok (into t)) r
 gives_into view into place denoted (Ok x) h = ap (λ q. q >>= λ t. Ok (into t)) h
 gives_into view into place denoted (Err e) h = first_fails e place denoted (λ t. Ok (into t)) h
 
@@ -40,11 +40,11 @@ module _ (as' : List OwnedAttribute) (v : SpecVersion) (el : List ℕ) (p : ℕ)
   unfolding attributes_read
   row_ok r rs t ts e h = ap (λ x. x >>= λ t. attributes_read rs as' v el p >>= λ ts. Ok (more t ts)) e ∙ ap (λ x. x >>= λ ts. Ok (more t ts)) h
 
-  pub row_fails : (r : Row) (rs : List Row) (e : XmlReadError) (q : ℕ) → Fails e q (row_attribute r as' v el p) → Fails e q (attributes_read (r ∷ rs) as' v el p)
+  pub row_fails : (r : Row) (rs : List Row) (e : XmlReadError) (q : ℕ) → FailsAt e q (row_attribute r as' v el p) → FailsAt e q (attributes_read (r ∷ rs) as' v el p)
   unfolding attributes_read
   row_fails r rs e q h = first_fails e q (row_attribute r as' v el p) (λ t. attributes_read rs as' v el p >>= λ ts. Ok (more t ts)) h
 
-  pub later_fails : (r : Row) (rs : List Row) (t : Tree) (e : XmlReadError) (q : ℕ) → row_attribute r as' v el p ≡ Ok t → Fails e q (attributes_read rs as' v el p) → Fails e q (attributes_read (r ∷ rs) as' v el p)
+  pub later_fails : (r : Row) (rs : List Row) (t : Tree) (e : XmlReadError) (q : ℕ) → row_attribute r as' v el p ≡ Ok t → FailsAt e q (attributes_read rs as' v el p) → FailsAt e q (attributes_read (r ∷ rs) as' v el p)
   unfolding attributes_read
   later_fails r rs t e q is h = then_fails e q (row_attribute r as' v el p) t (λ t. attributes_read rs as' v el p >>= λ ts. Ok (more t ts)) is (first_fails e q (attributes_read rs as' v el p) (λ ts. Ok (more t ts)) h)
 
@@ -52,11 +52,11 @@ module _ (as' : List OwnedAttribute) (v : SpecVersion) (el : List ℕ) (p : ℕ)
   pub must_row : (name : List ℕ) (j : Member) (t : List ℕ) → or_fault (find_attribute name as') (lacking p el name) ≡ Ok t → row_attribute (text_row name j None V1_3 required) as' v el p ≡ Ok (text t)
   must_row name j t e = required_text (text_row name j None V1_3 required) refl refl name v el p (find_attribute name as') ∙ ap (λ x. x >>= λ s. Ok (text s)) e
 
-  pub must_row_fails : (name : List ℕ) (j : Member) (e : XmlReadError) (q : ℕ) → Fails e q (or_fault (find_attribute name as') (lacking p el name)) → Fails e q (row_attribute (text_row name j None V1_3 required) as' v el p)
-  must_row_fails name j e q h = subst (λ x. Fails e q x) (sym (required_text (text_row name j None V1_3 required) refl refl name v el p (find_attribute name as'))) (first_fails e q (or_fault (find_attribute name as') (lacking p el name)) (λ s. Ok (text s)) h)
+  pub must_row_fails : (name : List ℕ) (j : Member) (e : XmlReadError) (q : ℕ) → FailsAt e q (or_fault (find_attribute name as') (lacking p el name)) → FailsAt e q (row_attribute (text_row name j None V1_3 required) as' v el p)
+  must_row_fails name j e q h = subst (λ x. FailsAt e q x) (sym (required_text (text_row name j None V1_3 required) refl refl name v el p (find_attribute name as'))) (first_fails e q (or_fault (find_attribute name as') (lacking p el name)) (λ s. Ok (text s)) h)
 
   -- a text that may be there, where the version knows it
-  pub maybe_row : (name : List ℕ) (j : Member) (old : Option (List ℕ)) (since : SpecVersion) (x : Option (List ℕ)) → x ≡ known since v (find_attribute name as') → row_attribute (text_row name j old since optional) as' v el p ≡ Ok (present text x)
+  pub maybe_row : (name : List ℕ) (j : Member) (old : Option (List ℕ)) (since : SpecVersion) (x : Option (List ℕ)) → x ≡ known_since since v (find_attribute name as') → row_attribute (text_row name j old since optional) as' v el p ≡ Ok (present text x)
   maybe_row name j old since x e = go (knows since v) ∙ ap (λ o. Ok (present text o)) (sym e)
     where
       go : (b : Bool) → (if b then attribute_read (find_attribute name as') name (text_row name j old since optional) v el p else Ok absent) ≡ Ok (present text (if b then find_attribute name as' else None))
@@ -71,8 +71,8 @@ module _ (as' : List OwnedAttribute) (v : SpecVersion) (el : List ℕ) (p : ℕ)
   pub value_row : (K : Kind) (name : List ℕ) (j : Member) (t : Tree) → value_attribute K p name (find_attribute name as') ≡ Ok t → row_attribute (value_of K name j) as' v el p ≡ Ok t
   value_row K name j t e = value_is (value_of K name j) refl name (find_attribute name as') ∙ e
 
-  pub value_row_fails : (K : Kind) (name : List ℕ) (j : Member) (e : XmlReadError) (q : ℕ) → Fails e q (value_attribute K p name (find_attribute name as')) → Fails e q (row_attribute (value_of K name j) as' v el p)
-  value_row_fails K name j e q h = subst (λ x. Fails e q x) (sym (value_is (value_of K name j) refl name (find_attribute name as'))) h
+  pub value_row_fails : (K : Kind) (name : List ℕ) (j : Member) (e : XmlReadError) (q : ℕ) → FailsAt e q (value_attribute K p name (find_attribute name as')) → FailsAt e q (row_attribute (value_of K name j) as' v el p)
+  value_row_fails K name j e q h = subst (λ x. FailsAt e q x) (sym (value_is (value_of K name j) refl name (find_attribute name as'))) h
 
   pub rows_end : attributes_read [] as' v el p ≡ Ok none
   unfolding attributes_read
@@ -90,6 +90,6 @@ or_fault_err (Some x) fault f e = absurd cc
 
 -- An attribute that has to be there stands before the text.
 pub text_first : (as' : List OwnedAttribute) (v : SpecVersion) (el : List ℕ) (p : ℕ) (name : List ℕ) (j : Member) (other : Row) → row_attribute other as' v el p ≡ Ok absent → (place : ℕ) (r : Result (List ℕ) XmlReadError)
-    → Gives (λ t. t) place (or_fault (find_attribute name as') (lacking p el name)) r → Gives text_alone place (attributes_read (text_row name j None V1_3 required ∷ other ∷ []) as' v el p) r
+    → GivesAt (λ t. t) place (or_fault (find_attribute name as') (lacking p el name)) r → GivesAt text_alone place (attributes_read (text_row name j None V1_3 required ∷ other ∷ []) as' v el p) r
 text_first as' v el p name j other alone place (Ok s) h = row_ok as' v el p (text_row name j None V1_3 required) (other ∷ []) (text s) (more absent none) (must_row as' v el p name j s h) (row_ok as' v el p other [] absent none alone (rows_end as' v el p))
 text_first as' v el p name j other alone place (Err e) h = row_fails as' v el p (text_row name j None V1_3 required) (other ∷ []) e place (must_row_fails as' v el p name j e place h)

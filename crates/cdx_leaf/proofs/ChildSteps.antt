@@ -21,14 +21,14 @@ use Rattle.cdx_schema.specs.Depth.{Depth}
 use Rattle.cdx_schema.specs.Kinds.{Kind}
 use Rattle.cdx_schema.specs.Kinds as sorts
 use Rattle.cdx_schema.specs.Nodes.{places, places_of}
-use Rattle.cdx_schema.specs.XmlReading.{Reading, Plan, Child, find_child, child_read, unknown, is_second, stored, appended, all, xread, nodes_read, node_read}
+use Rattle.cdx_schema.specs.XmlReading.{ElementReading, Plan, Child, find_child, child_read, unknown, is_second, stored, appended, all, xread, nodes_read, node_read}
 use Rattle.cdx_leaf.specs.declared.taken.Taken.{Taken}
 use Rattle.cdx_leaf.specs.declared.taken.Taken.TheVariants as answers
 use Rattle.cdx_leaf.specs.declared.rule.Rule.{Rule}
 use Rattle.cdx_leaf.specs.declared.rule.Rule.TheVariants.{Lax, Strict, Passing}
 use Rattle.cdx_leaf.specs.Rules.{skips, passes, as_rule}
-use Rattle.cdx_leaf.specs.Each.{each, plan_step}
-use Rattle.cdx_leaf.specs.Reading.{kind_of_node, after, ReadsAs}
+use Rattle.cdx_leaf.specs.Each.{each_node, plan_step}
+use Rattle.cdx_leaf.specs.Reading.{kind_of_node, behind_end, ReadsAs}
 use Rattle.cdx_leaf.specs.Children.{Met, nothing, second, found, meet, met, ReadsChild, TakesChild, Took, TakesOne, TakesMore}
 use Rattle.cdx_leaf.specs.Trees.{collected}
 use Rattle.cdx_models.specs.Trees.{list_tree, present}
@@ -40,17 +40,17 @@ pub both : {A B : Type 0} (r : Result A XmlReadError) (f g : A → Result B XmlR
 both (Ok us) f g h = h us
 both (Err e) f g h = refl
 
-pub each_is : (nodes : Nodes) (plan : Plan) (el : List ℕ) (v : SpecVersion) (d : Depth) (q : ℕ) (s : Trees) → nodes_read nodes plan el v d q s ≡ each (plan_step plan v d el) nodes q s
+pub each_is : (nodes : Nodes) (plan : Plan) (el : List ℕ) (v : SpecVersion) (d : Depth) (q : ℕ) (s : Trees) → nodes_read nodes plan el v d q s ≡ each_node (plan_step plan v d el) nodes q s
 unfolding nodes_read
 each_is no_nodes plan el v d q s = refl
-each_is (node k ks) plan el v d q s = both (node_read k (xread k) plan el v d q s) (λ us. nodes_read ks plan el v d (q + places k) us) (λ us. each (plan_step plan v d el) ks (q + places k) us) (λ us. each_is ks plan el v d (q + places k) us)
+each_is (node k ks) plan el v d q s = both (node_read k (xread k) plan el v d q s) (λ us. nodes_read ks plan el v d (q + places k) us) (λ us. each_node (plan_step plan v d el) ks (q + places k) us) (λ us. each_is ks plan el v d (q + places k) us)
 
 abbrev pub then_read : Met → sorts.Rule → List ℕ → ℕ → Trees → Result Trees XmlReadError
 then_read nothing r el q s = unknown r el q s
 then_read second r el q s = Err (unexpected q el kinds.StartElement)
 then_read (found x) r el q s = x
 
-meet_is : (o : Option Child) (r : sorts.Rule) (read : Reading) (el : List ℕ) (v : SpecVersion) (d : Depth) (q : ℕ) (s : Trees) → child_read o r read el v d q s ≡ then_read (meet o (λ k. read v k q d) s) r el q s
+meet_is : (o : Option Child) (r : sorts.Rule) (read : ElementReading) (el : List ℕ) (v : SpecVersion) (d : Depth) (q : ℕ) (s : Trees) → child_read o r read el v d q s ≡ then_read (meet o (λ k. read v k q d) s) r el q s
 meet_is None r read el v d q s = refl
 meet_is (Some c) r read el v d q s = go (is_second c.place (field c.field s))
   where
@@ -165,13 +165,13 @@ pub takes_one : (plan : Plan) (v : SpecVersion) (n : OwnedName) (a : List OwnedA
     → n.local_name ≡ c.name → find_child v c.name plan.children ≡ Some c → is_second c.place (field c.field s) ≡ false → now ≡ stored c.place c.field t s
     → TakesOne t old new v c.kind depth n a r → TakesChild s now old new v plan depth n a r
 takes_one plan v n a s now old new c depth t r is found_is first now_is takes d ns p nodes rest st =
-    arm plan v (depth d) n a ns p nodes s now old new (after old nodes rest) c t r is found_is first now_is (takes d ns p nodes rest st)
+    arm plan v (depth d) n a ns p nodes s now old new (behind_end old nodes rest) c t r is found_is first now_is (takes d ns p nodes rest st)
 
 pub takes_more : (plan : Plan) (v : SpecVersion) (n : OwnedName) (a : List OwnedAttribute) (s now : Trees) (old new : Cursor) (c : Child) (depth : Depth → Depth) (t : Tree) (r : Result Taken XmlReadError)
     → n.local_name ≡ c.name → find_child v c.name plan.children ≡ Some c → c.place ≡ all → now ≡ with_field c.field t s
     → TakesMore (field c.field s) t old new v c.kind depth n a r → TakesChild s now old new v plan depth n a r
 takes_more plan v n a s now old new c depth t r is found_is collects now_is takes d ns p nodes rest st =
-    arm_more plan v (depth d) n a ns p nodes s now old new (after old nodes rest) c t r is found_is collects now_is (takes d ns p nodes rest st)
+    arm_more plan v (depth d) n a ns p nodes s now old new (behind_end old nodes rest) c t r is found_is collects now_is (takes d ns p nodes rest st)
 
 -- no child of the plan has the name
 pub takes_none : (plan : Plan) (v : SpecVersion) (n : OwnedName) (a : List OwnedAttribute) (s : Trees) (old : Cursor) (depth : Depth → Depth) → find_child v n.local_name plan.children ≡ None → TakesChild s s old old v plan depth n a (Ok answers.Unknown)

@@ -18,8 +18,8 @@ use Rattle.cdx_schema.specs.Kinds.{a_record}
 use Rattle.cdx_schema.specs.Table.{rows}
 use Rattle.cdx_schema.specs.Nodes.{places_of}
 use Rattle.cdx_schema.specs.XmlReading.{any_text, one_text_alone, content_from, content_read, simple_text, exact_text, attributes_read, in_force, ended, Element, record_read, xread, nodes_read}
-use Rattle.cdx_leaf.specs.Attribute.{Gives}
-use Rattle.cdx_leaf.specs.Reading.{Reads, ReadsAs, after}
+use Rattle.cdx_leaf.specs.Attribute.{GivesAt}
+use Rattle.cdx_leaf.specs.Reading.{Reads, ReadsAs, behind_end}
 use Rattle.cdx_leaf.specs.Content.{with_text, ReadsContent}
 use Rattle.cdx_leaf.proofs.Records.{first_fails}
 use Rattle.cdx_leaf.proofs.Whole.{finished, start_is}
@@ -66,13 +66,13 @@ module _ (name : Name) (i : ℕ) (read : Nodes → List ℕ → ℕ → Result (
   -- What is read of the content is a whole record, of which nothing has to be there at the end.
   pub whole_content : {A : Type 0} (view : A → Trees) (v : SpecVersion) (n : OwnedName) (a : List OwnedAttribute) (old new : Cursor) (k : ℕ) (begun : Result A XmlReadError) (result : Result (A × List ℕ) XmlReadError)
       → ((x : A) (s : List ℕ) (q : ℕ) → ended (rows name) (with_field i (text s) (view x)) v n.local_name q ≡ Ok (with_field i (text s) (view x)))
-      → old.place ≡ k → Gives view ((k - 1) + 1) (attributes_read (rows name) (in_force name a) v n.local_name (k - 1)) begun
+      → old.place ≡ k → GivesAt view ((k - 1) + 1) (attributes_read (rows name) (in_force name a) v n.local_name (k - 1)) begun
       → ReadsContent read old new n begun result
       → ReadsAs (λ (x : A × List ℕ). fields name (with_field i (text x.1) (view x.0))) old new n a v (a_record name) (λ d. d) result
   whole_content {A = A} view v n a old new k begun result ends at gives reads d ns p nodes rest st =
       let first : ℕ → Result Trees XmlReadError = λ x. attributes_read (rows name) (in_force name a) v n.local_name x in
-      let gives' : Gives view (p + 1) (first p) begun = subst (λ x. Gives view (x + 1) (first x) begun) (start_is old.place k p at st.place) gives in
-      subst (λ x. Reads (λ (x : A × List ℕ). fields name (with_field i (text x.1) (view x.0))) old new (after old nodes rest) x result) (sym (content_is v n a ns d p nodes))
+      let gives' : GivesAt view (p + 1) (first p) begun = subst (λ x. GivesAt view (x + 1) (first x) begun) (start_is old.place k p at st.place) gives in
+      subst (λ x. Reads (λ (x : A × List ℕ). fields name (with_field i (text x.1) (view x.0))) old new (behind_end old nodes rest) x result) (sym (content_is v n a ns d p nodes))
       (as_it_is result (reads view (first p) p nodes rest st gives'))
     where
       denoted : Result (Trees × List ℕ) XmlReadError
@@ -81,6 +81,6 @@ module _ (name : Name) (i : ℕ) (read : Nodes → List ℕ → ℕ → Result (
       last : Trees × List ℕ → Result Tree XmlReadError
       last x = finished name v n.local_name (suc (p + places_of nodes)) (with_field i (text x.1) x.0)
 
-      as_it_is : (r : Result (A × List ℕ) XmlReadError) → Reads (λ (x : A × List ℕ). (view x.0, x.1)) old new (after old nodes rest) denoted r → Reads (λ (x : A × List ℕ). fields name (with_field i (text x.1) (view x.0))) old new (after old nodes rest) (denoted >>= last) r
+      as_it_is : (r : Result (A × List ℕ) XmlReadError) → Reads (λ (x : A × List ℕ). (view x.0, x.1)) old new (behind_end old nodes rest) denoted r → Reads (λ (x : A × List ℕ). fields name (with_field i (text x.1) (view x.0))) old new (behind_end old nodes rest) (denoted >>= last) r
       as_it_is (Ok x) h = (ap (λ q. q >>= last) h.0 ∙ ap (λ r. r >>= λ us. Ok (fields name us)) (ends x.0 x.1 (suc (p + places_of nodes))), h.1)
       as_it_is (Err e) h = (h.0, first_fails e new.place denoted last h.1)

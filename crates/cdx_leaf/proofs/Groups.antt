@@ -13,11 +13,11 @@ use Rattle.cdx_schema.specs.Results.{◌>>=◌}
 use Rattle.cdx_schema.specs.Depth.{Depth, top}
 use Rattle.cdx_schema.specs.Kinds as sorts
 use Rattle.cdx_schema.specs.Kinds.{Kind, Row, Spelled, attribute, attribute_or, content, one_text, as_cdata, child, filled_child, children, either_child, the_version}
-use Rattle.cdx_schema.specs.XmlReading.{Plan, Child, Place, last, once, all, find_child, row_children, children_from, is_second, stored, appended, attributes_read, row_attribute, ended, lacks, owed, lacking_row, filled, xread}
+use Rattle.cdx_schema.specs.XmlReading.{Plan, Child, Place, last, once, all, find_child, row_children, children_from, is_second, stored, appended, attributes_read, row_attribute, ended, lacks, name_owed, lacking_row, filled, xread}
 use Rattle.cdx_schema.proofs.XmlBack.{children_append}
 use Rattle.cdx_leaf.specs.declared.taken.Taken.{Taken}
 use Rattle.cdx_leaf.specs.declared.taken.Taken.TheVariants as answers
-use Rattle.cdx_leaf.specs.Reading.{Stands, IsIn, after}
+use Rattle.cdx_leaf.specs.Reading.{Stands, IsIn, behind_end}
 use Rattle.cdx_leaf.specs.Children.{Met, nothing, second, found, meet, ReadsChild, TakesChild}
 use Rattle.cdx_leaf.specs.Groups.{rows_plan, size}
 use Rattle.cdx_leaf.specs.NextChild.{is_unknown}
@@ -219,14 +219,14 @@ module _ (rule : sorts.Rule) (v : SpecVersion) (n : OwnedName) (a : List OwnedAt
       read : Kind → Result Tree XmlReadError
       read k = xread (element n a ns nodes) v k p (depth d)
 
-      go : (o : Option Child) → find_child v n.local_name (children_from 0 rs) ≡ o → ReadsChild before now old new (after old nodes rest) (meet o read before) r
-          → ReadsChild (before ⧺ us) (now ⧺ us) old new (after old nodes rest) (meet (find_child v n.local_name (children_from 0 (rs ++ qs))) read (before ⧺ us)) r
-      go None e h = absurd (no_child before now old new (after old nodes rest) r other h)
+      go : (o : Option Child) → find_child v n.local_name (children_from 0 rs) ≡ o → ReadsChild before now old new (behind_end old nodes rest) (meet o read before) r
+          → ReadsChild (before ⧺ us) (now ⧺ us) old new (behind_end old nodes rest) (meet (find_child v n.local_name (children_from 0 (rs ++ qs))) read (before ⧺ us)) r
+      go None e h = absurd (no_child before now old new (behind_end old nodes rest) r other h)
       go (Some c) e h =
           let below : c.field < length rs = found_below v n.local_name (length rs) (children_from 0 rs) c (rows_below (length rs) 0 rs (omega arith)) e in
           let small : c.field < size before = subst (λ m. c.field < m) long below in
           let is = ap (λ o. meet o read (before ⧺ us)) (find_of_two v n.local_name rs qs ∙ ap (λ o. or_else o (moved_found (length rs) (find_child v n.local_name (children_from 0 qs)))) e) ∙ meet_front c read before us small in
-          subst (λ m. ReadsChild (before ⧺ us) (now ⧺ us) old new (after old nodes rest) m r) (sym is) (reads_lifted (λ x. x ⧺ us) before now old new (after old nodes rest) (meet (Some c) read before) r h)
+          subst (λ m. ReadsChild (before ⧺ us) (now ⧺ us) old new (behind_end old nodes rest) m r) (sym is) (reads_lifted (λ x. x ⧺ us) before now old new (behind_end old nodes rest) (meet (Some c) read before) r h)
 
   -- The front knows no child of the name, and the back has read it, refuses it, or knows none either.
   pub takes_back : (front back : sorts.Rule) (ts ts' before now : Trees) (old mid new : Cursor) (r : Result Taken XmlReadError) → length rs ≡ size ts
@@ -239,10 +239,10 @@ module _ (rule : sorts.Rule) (v : SpecVersion) (n : OwnedName) (a : List OwnedAt
       let o = find_child v n.local_name (children_from 0 qs) in
       let gone : find_child v n.local_name (children_from 0 rs) ≡ None = none_met (find_child v n.local_name (children_from 0 rs)) read ts h.0 in
       let there : Stands mid n p nodes rest = subst (λ c. Stands c n p nodes rest) (sym h.2) st in
-      let g = subst (λ c. ReadsChild before now c new (after c nodes rest) (meet o read before) r) h.2 (then' d ns p nodes rest there) in
+      let g = subst (λ c. ReadsChild before now c new (behind_end c nodes rest) (meet o read before) r) h.2 (then' d ns p nodes rest there) in
       let is = ap (λ x. meet x read (ts ⧺ before)) (find_of_two v n.local_name rs qs ∙ ap (λ x. or_else x (moved_found (length rs) o)) gone ∙ ap (λ k. moved_found k o) long) ∙ meet_back o read ts before in
-      let all' = subst (λ m. ReadsChild (ts ⧺ before) (ts ⧺ now) old new (after old nodes rest) m r) (sym is) (reads_lifted (λ x. ts ⧺ x) before now old new (after old nodes rest) (meet o read before) r g) in
-      subst (λ x. ReadsChild (ts ⧺ before) (x ⧺ now) old new (after old nodes rest) (meet (find_child v n.local_name (children_from 0 (rs ++ qs))) read (ts ⧺ before)) r) (sym h.1) all'
+      let all' = subst (λ m. ReadsChild (ts ⧺ before) (ts ⧺ now) old new (behind_end old nodes rest) m r) (sym is) (reads_lifted (λ x. ts ⧺ x) before now old new (behind_end old nodes rest) (meet o read before) r g) in
+      subst (λ x. ReadsChild (ts ⧺ before) (x ⧺ now) old new (behind_end old nodes rest) (meet (find_child v n.local_name (children_from 0 (rs ++ qs))) read (ts ⧺ before)) r) (sym h.1) all'
 
 -- ---- attributes and ends of groups
 
@@ -274,7 +274,7 @@ unfolding ended
 ended_of_two [] qs none us v el p long = ok_again (ended qs us v el p)
 ended_of_two [] qs (more t ts) us v el p long = absurd (omega (arith, long))
 ended_of_two (r ∷ rs) qs none us v el p long = absurd (omega (arith, long))
-ended_of_two (r ∷ rs) qs (more t ts) us v el p long = by (owed r.xml) (lacks (owed r.xml) r t v) refl (ended_of_two rs qs ts us v el p (omega (arith, long)))
+ended_of_two (r ∷ rs) qs (more t ts) us v el p long = by (name_owed r.xml) (lacks (name_owed r.xml) r t v) refl (ended_of_two rs qs ts us v el p (omega (arith, long)))
   where
     whole : Result Trees XmlReadError
     whole = ended (rs ++ qs) (ts ⧺ us) v el p

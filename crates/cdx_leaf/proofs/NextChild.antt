@@ -25,10 +25,10 @@ use Rattle.cdx_leaf.specs.declared.rule.Rule.{Rule}
 use Rattle.cdx_leaf.specs.declared.taken.Taken.{Taken}
 use Rattle.cdx_leaf.specs.declared.taken.Taken.TheVariants as answers
 use Rattle.cdx_leaf.specs.Children.{Met, nothing, second, found, met, ReadsChild, TakesChild}
-use Rattle.cdx_leaf.specs.Each.{each, plan_step}
-use Rattle.cdx_leaf.specs.Fault.{Fails, Refused, within}
+use Rattle.cdx_leaf.specs.Each.{each_node, plan_step}
+use Rattle.cdx_leaf.specs.Fault.{FailsAt, Refused, within}
 use Rattle.cdx_leaf.specs.NextChild.{no_more, past_texts, IsLeft, MeetsChild, Meets, Leaves}
-use Rattle.cdx_leaf.specs.Reading.{At, IsAt, IsIn, after, kind_of_node}
+use Rattle.cdx_leaf.specs.Reading.{WithinElement, IsAt, IsIn, behind_end, kind_of_node}
 use Rattle.cdx_leaf.specs.Rules.{skips, passes, as_rule}
 use Rattle.cdx_leaf.proofs.ChildSteps.{then_read, child_step, text_passes, cdata_passes, stray_fails, unknown_passes, unknown_fails, was_unknown}
 use Rattle.cdx_leaf.proofs.Loop.{InLoop, fails_along}
@@ -40,7 +40,7 @@ use Rattle.cdx_leaf.proofs.Steps.{Took, cursor_is, at_end, at_start, at_text, at
 -- Of the nodes of an element that is read from old on, some are left at c, and only texts that the rule passes over stand before them.
 pub record PastTexts (r : Rule) (old c : Cursor) (name : OwnedName) (nodes : Nodes) (rest : List XmlEvent) : Type 0 where
   pub left : Nodes
-  pub at : At c name left rest
+  pub at : WithinElement c name left rest
   pub is_left : IsLeft old nodes c.place left
   pub grown : old.place ≤ c.place
   pub same : past_texts r left ≡ past_texts r nodes
@@ -58,12 +58,12 @@ stays r (node (characters t) ks) never = ap (λ b. if b then past_texts r ks els
 stays r (node (cdata t) ks) never = ap (λ b. if b then past_texts r ks else node (cdata t) ks) never
 stays r (node (element n a s kids) ks) never = refl
 
-refused_fails : (X : Type 0) (e : XmlReadError) (p place : ℕ) (el : List ℕ) (kind k : EventKind) → Refused {X = X} (Err e) (unexpected p el kind) → k ≡ kind → place ≤ p + 1 → Fails e place (no_more (unexpected p el k))
+refused_fails : (X : Type 0) (e : XmlReadError) (p place : ℕ) (el : List ℕ) (kind k : EventKind) → Refused {X = X} (Err e) (unexpected p el kind) → k ≡ kind → place ≤ p + 1 → FailsAt e place (no_more (unexpected p el k))
 refused_fails X (errors.Memory m) p place el kind k h is near = tt
 refused_fails X e p place el kind k h is near = (ap (λ x. Err (unexpected p el x)) is ∙ ap (λ f. Err f) (sym h), subst (λ f. within place f) (sym h) near)
 
 module _ (r : Rule) (old : Cursor) (name : OwnedName) (nodes : Nodes) (rest : List XmlEvent) where
-  pub texts_init : At old name nodes rest → PastTexts r old old name nodes rest
+  pub texts_init : WithinElement old name nodes rest → PastTexts r old old name nodes rest
   texts_init a = record { left = nodes; at = a; is_left = refl; grown = omega arith; same = refl }
 
   -- the element's end was taken
@@ -71,7 +71,7 @@ module _ (r : Rule) (old : Cursor) (name : OwnedName) (nodes : Nodes) (rest : Li
   texts_end mid new event m is took l =
       let e = at_end mid new event name m l.left rest is l.at took in
       let z : places_of l.left ≡ 0 = ap places_of e.nodes_are in
-      (sym l.same ∙ ap (past_texts r) e.nodes_are, cursor_is new (after old nodes rest) (omega (arith, l.is_left, took.1)) e.ahead)
+      (sym l.same ∙ ap (past_texts r) e.nodes_are, cursor_is new (behind_end old nodes rest) (omega (arith, l.is_left, took.1)) e.ahead)
 
   -- a child's start was taken
   pub texts_start : (mid new : Cursor) (event : XmlEvent) (child : Start) (ns : Namespace) → event ≡ StartElement child.element.now child.attributes.now ns → child.place ≡ mid.place → Took mid new event → PastTexts r old mid name nodes rest → Meets r old new name nodes rest (Ok (Some child))
@@ -160,17 +160,17 @@ module _ (plan : Plan) (v : SpecVersion) (d : Depth) (el : List ℕ) (r : Rule) 
   abbrev step : Node → ℕ → Trees → Result Trees XmlReadError
   step = plan_step plan v d el
 
-  text_step : (b : Bool) (k : Node) (ks left : Nodes) (q p : ℕ) (s : Trees) → places k ≡ 1 → (b ≡ true → step k q s ≡ Ok s) → (p + places_of left ≡ (q + 1) + places_of ks → each step left p s ≡ each step ks (q + 1) s)
-      → p + places_of (if b then left else node k ks) ≡ q + places_of (node k ks) → each step (if b then left else node k ks) p s ≡ each step (node k ks) q s
+  text_step : (b : Bool) (k : Node) (ks left : Nodes) (q p : ℕ) (s : Trees) → places k ≡ 1 → (b ≡ true → step k q s ≡ Ok s) → (p + places_of left ≡ (q + 1) + places_of ks → each_node step left p s ≡ each_node step ks (q + 1) s)
+      → p + places_of (if b then left else node k ks) ≡ q + places_of (node k ks) → each_node step (if b then left else node k ks) p s ≡ each_node step (node k ks) q s
   text_step true k ks left q p s one passed rest e =
-      rest (omega (arith, e, one)) ∙ ap (λ x. each step ks (q + x) s) (sym one) ∙ sym (ap (λ x. x >>= λ next. each step ks (q + places k) next) (passed refl))
-  text_step false k ks left q p s one passed rest e = let same : p ≡ q = omega (arith, e) in ap (λ x. each step (node k ks) x s) same
+      rest (omega (arith, e, one)) ∙ ap (λ x. each_node step ks (q + x) s) (sym one) ∙ sym (ap (λ x. x >>= λ next. each_node step ks (q + places k) next) (passed refl))
+  text_step false k ks left q p s one passed rest e = let same : p ≡ q = omega (arith, e) in ap (λ x. each_node step (node k ks) x s) same
 
-  each_past : (nodes : Nodes) (q p : ℕ) (s : Trees) → p + places_of (past_texts r nodes) ≡ q + places_of nodes → each step (past_texts r nodes) p s ≡ each step nodes q s
+  each_past : (nodes : Nodes) (q p : ℕ) (s : Trees) → p + places_of (past_texts r nodes) ≡ q + places_of nodes → each_node step (past_texts r nodes) p s ≡ each_node step nodes q s
   each_past no_nodes q p s e = refl
   each_past (node (characters t) ks) q p s e = text_step (passes r) (characters t) ks (past_texts r ks) q p s refl (text_passes plan v d el r t q s ruled) (λ h. each_past ks (q + 1) p s h) e
   each_past (node (cdata t) ks) q p s e = text_step (passes r) (cdata t) ks (past_texts r ks) q p s refl (cdata_passes plan v d el r t q s ruled) (λ h. each_past ks (q + 1) p s h) e
-  each_past (node (element n a ns kids) ks) q p s e = let same : p ≡ q = omega (arith, e) in ap (λ x. each step (node (element n a ns kids) ks) x s) same
+  each_past (node (element n a ns kids) ks) q p s e = let same : p ≡ q = omega (arith, e) in ap (λ x. each_node step (node (element n a ns kids) ks) x s) same
 
 never_skips : (b : Bool) → (if b then false else true) ≡ true → b ≡ false
 never_skips true x = absurd cc
@@ -192,26 +192,26 @@ module _ (plan : Plan) (v : SpecVersion) (depth : Depth → Depth) (d : Depth) (
   Inside c s = InLoop reading old c name nodes rest start s
 
   -- what all nodes make, of the first that is left
-  from_here : (mid : Cursor) (s : Trees) (l : Inside mid s) (k : Node) (others : Nodes) (p : ℕ) → past_texts r l.left ≡ node k others → IsLeft mid l.left p (past_texts r l.left) → each reading nodes old.place start ≡ (reading k p s >>= λ next. each reading others (p + places k) next)
+  from_here : (mid : Cursor) (s : Trees) (l : Inside mid s) (k : Node) (others : Nodes) (p : ℕ) → past_texts r l.left ≡ node k others → IsLeft mid l.left p (past_texts r l.left) → each_node reading nodes old.place start ≡ (reading k p s >>= λ next. each_node reading others (p + places k) next)
   from_here mid s l k others p first left =
-      sym l.same ∙ sym (each_past plan v (depth d) name.local_name r ruled l.left mid.place p s left) ∙ ap (λ ks. each reading ks p s) first
+      sym l.same ∙ sym (each_past plan v (depth d) name.local_name r ruled l.left mid.place p s left) ∙ ap (λ ks. each_node reading ks p s) first
 
   -- the end was taken
-  pub no_child_left : (mid new : Cursor) (s : Trees) (l : Inside mid s) (o : Option Start) → Meets r mid new name l.left rest (Ok o) → ((child : Start) → o ≡ Some child → ⊥) → (each reading nodes old.place start ≡ Ok s) × (new ≡ after old nodes rest)
+  pub no_child_left : (mid new : Cursor) (s : Trees) (l : Inside mid s) (o : Option Start) → Meets r mid new name l.left rest (Ok o) → ((child : Start) → o ≡ Some child → ⊥) → (each_node reading nodes old.place start ≡ Ok s) × (new ≡ behind_end old nodes rest)
   no_child_left mid new s l (Some child) m other = absurd (other child refl)
   no_child_left mid new s l None m other =
       let p = mid.place + places_of l.left in
       let none : places_of (past_texts r l.left) ≡ 0 = ap places_of m.0 in
       let left : p + places_of (past_texts r l.left) ≡ mid.place + places_of l.left = omega arith in
       let placed : new.place ≡ mid.place + places_of l.left + 1 = ap (λ (c : Cursor). c.place) m.1 in
-      (sym l.same ∙ sym (each_past plan v (depth d) name.local_name r ruled l.left mid.place p s left) ∙ ap (λ ks. each reading ks p s) m.0, cursor_is new (after old nodes rest) (omega (arith, l.place)) (ap (λ (c : Cursor). c.ahead) m.1))
+      (sym l.same ∙ sym (each_past plan v (depth d) name.local_name r ruled l.left mid.place p s left) ∙ ap (λ ks. each_node reading ks p s) m.0, cursor_is new (behind_end old nodes rest) (omega (arith, l.place)) (ap (λ (c : Cursor). c.ahead) m.1))
 
   -- a text was refused
-  pub next_fails : (mid new : Cursor) (s : Trees) (l : Inside mid s) (e : XmlReadError) → Meets r mid new name l.left rest (Err e) → (old.place ≤ new.place) × Fails e new.place (each reading nodes old.place start)
+  pub next_fails : (mid new : Cursor) (s : Trees) (l : Inside mid s) (e : XmlReadError) → Meets r mid new name l.left rest (Err e) → (old.place ≤ new.place) × FailsAt e new.place (each_node reading nodes old.place start)
   next_fails mid new s l e m =
       let along : reading m.text m.place s ≡ Err (unexpected m.place name.local_name (kind_of_node m.text)) = stray_fails plan v (depth d) name.local_name r m.text m.place s ruled (never_passes r l.left m.text m.others m.first m.no_child) (λ n a ns kids x. m.no_child (ap kind_of_node x)) in
-      let is : each reading nodes old.place start ≡ Err (unexpected m.place name.local_name (kind_of_node m.text)) = from_here mid s l m.text m.others m.place m.first m.is_left ∙ ap (λ x. x >>= λ next. each reading m.others (m.place + places m.text) next) along in
-      (omega (arith, l.grown, m.grown), fails_along e new.place (no_more (unexpected m.place name.local_name (kind_of_node m.text))) (each reading nodes old.place start) (λ f x. is ∙ (let same : unexpected m.place name.local_name (kind_of_node m.text) ≡ f = cc in ap (λ g. Err g) same)) m.fails)
+      let is : each_node reading nodes old.place start ≡ Err (unexpected m.place name.local_name (kind_of_node m.text)) = from_here mid s l m.text m.others m.place m.first m.is_left ∙ ap (λ x. x >>= λ next. each_node reading m.others (m.place + places m.text) next) along in
+      (omega (arith, l.grown, m.grown), fails_along e new.place (no_more (unexpected m.place name.local_name (kind_of_node m.text))) (each_node reading nodes old.place start) (λ f x. is ∙ (let same : unexpected m.place name.local_name (kind_of_node m.text) ≡ f = cc in ap (λ g. Err g) same)) m.fails)
 
   pub child_begins : (mid new : Cursor) (s : Trees) (l : Inside mid s) (o : Option Start) (child : Start) → o ≡ Some child → Meets r mid new name l.left rest (Ok o) → MeetsChild mid new name l.left (past_texts r l.left) rest child
   child_begins mid new s l o child is m = subst (λ x. Meets r mid new name l.left rest (Ok x)) is m
@@ -227,7 +227,7 @@ module _ (plan : Plan) (v : SpecVersion) (depth : Depth → Depth) (d : Depth) (
     pub is_in : IsIn new child.element.now
     is_in = record { p = child.place; nodes = m.kids; rest = tail; stands = m.stands }
 
-    all_is : each reading nodes old.place start ≡ (reading item child.place s >>= λ next. each reading m.others (child.place + places item) next)
+    all_is : each_node reading nodes old.place start ≡ (reading item child.place s >>= λ next. each_node reading m.others (child.place + places item) next)
     all_is = from_here mid s l item m.others child.place m.first m.is_left
 
     grown : old.place ≤ child.place
@@ -239,46 +239,46 @@ module _ (plan : Plan) (v : SpecVersion) (depth : Depth → Depth) (d : Depth) (
     step_is : (x : Met) → child_met ≡ x → reading item child.place s ≡ then_read x plan.rule name.local_name child.place s
     step_is x e = child_step plan v (depth d) name.local_name child.element.now child.attributes.now m.namespace m.kids child.place s x e
 
-    fault_is : (f : XmlReadError) → reading item child.place s ≡ Err f → each reading nodes old.place start ≡ Err f
-    fault_is f e = all_is ∙ ap (λ x. x >>= λ next. each reading m.others (child.place + places item) next) e
+    fault_is : (f : XmlReadError) → reading item child.place s ≡ Err f → each_node reading nodes old.place start ≡ Err f
+    fault_is f e = all_is ∙ ap (λ x. x >>= λ next. each_node reading m.others (child.place + places item) next) e
 
     -- it is refused
-    pub child_fails : (next : Cursor) (s' : Trees) (e : XmlReadError) → TakesChild s s' new next v plan depth child.element.now child.attributes.now (Err e) → (old.place ≤ next.place) × Fails e next.place (each reading nodes old.place start)
+    pub child_fails : (next : Cursor) (s' : Trees) (e : XmlReadError) → TakesChild s s' new next v plan depth child.element.now child.attributes.now (Err e) → (old.place ≤ next.place) × FailsAt e next.place (each_node reading nodes old.place start)
     child_fails next s' e takes =
         let t = takes d m.namespace child.place m.kids tail m.stands in
-        (omega (arith, grown, m.stands.place, t.grown), fails_along e next.place t.read (each reading nodes old.place start) (λ f x. fault_is f (step_is (found t.read) t.child_is ∙ x)) t.fails)
+        (omega (arith, grown, m.stands.place, t.grown), fails_along e next.place t.read (each_node reading nodes old.place start) (λ f x. fault_is f (step_is (found t.read) t.child_is ∙ x)) t.fails)
 
     -- it is unknown, and the reader stands where it stood
     pub still_open : (next : Cursor) (s' : Trees) (taken : Taken) → TakesChild s s' new next v plan depth child.element.now child.attributes.now (Ok taken) → taken ≡ answers.Unknown → IsAt next child.element.now
     still_open next s' taken takes is =
-        let u = was_unknown taken s s' new next (after new m.kids tail) child_met is (takes d m.namespace child.place m.kids tail m.stands) in
-        record { nodes = m.kids; rest = tail; at = subst (λ c. At c child.element.now m.kids tail) (sym u.2) m.stands.at }
+        let u = was_unknown taken s s' new next (behind_end new m.kids tail) child_met is (takes d m.namespace child.place m.kids tail m.stands) in
+        record { nodes = m.kids; rest = tail; at = subst (λ c. WithinElement c child.element.now m.kids tail) (sym u.2) m.stands.at }
 
     abbrev fault : XmlReadError
     fault = unexpected child.place name.local_name kinds.StartElement
 
     -- it is refused once it was offered
-    pub leaving_fails : (next last : Cursor) (s' : Trees) (taken : Taken) (e : XmlReadError) → TakesChild s s' new next v plan depth child.element.now child.attributes.now (Ok taken) → Leaves r taken next last name child (Err e) → (old.place ≤ last.place) × Fails e last.place (each reading nodes old.place start)
+    pub leaving_fails : (next last : Cursor) (s' : Trees) (taken : Taken) (e : XmlReadError) → TakesChild s s' new next v plan depth child.element.now child.attributes.now (Ok taken) → Leaves r taken next last name child (Err e) → (old.place ≤ last.place) × FailsAt e last.place (each_node reading nodes old.place start)
     leaving_fails next last s' taken e takes leaves = go taken (takes d m.namespace child.place m.kids tail m.stands) leaves
       where
-        refused : next ≡ new → last ≡ next → reading item child.place s ≡ Err fault → Refused (no_more e) fault → (old.place ≤ last.place) × Fails e last.place (each reading nodes old.place start)
+        refused : next ≡ new → last ≡ next → reading item child.place s ≡ Err fault → Refused (no_more e) fault → (old.place ≤ last.place) × FailsAt e last.place (each_node reading nodes old.place start)
         refused at left is h =
             let place : last.place ≡ child.place + 1 = ap (λ (c : Cursor). c.place) (left ∙ at) ∙ (let p : new.place ≡ child.place + 1 = omega (arith, m.stands.place) in p) in
-            (omega (arith, grown), fails_along e last.place (no_more fault) (each reading nodes old.place start) (λ f x. fault_is f (is ∙ (let same : fault ≡ f = cc in ap (λ g. Err g) same))) (refused_fails (Unit {0}) e child.place last.place name.local_name kinds.StartElement kinds.StartElement h refl (omega arith)))
+            (omega (arith, grown), fails_along e last.place (no_more fault) (each_node reading nodes old.place start) (λ f x. fault_is f (is ∙ (let same : fault ≡ f = cc in ap (λ g. Err g) same))) (refused_fails (Unit {0}) e child.place last.place name.local_name kinds.StartElement kinds.StartElement h refl (omega arith)))
 
-        go : (t : Taken) → ReadsChild s s' new next (after new m.kids tail) child_met (Ok t) → Leaves r t next last name child (Err e) → (old.place ≤ last.place) × Fails e last.place (each reading nodes old.place start)
+        go : (t : Taken) → ReadsChild s s' new next (behind_end new m.kids tail) child_met (Ok t) → Leaves r t next last name child (Err e) → (old.place ≤ last.place) × FailsAt e last.place (each_node reading nodes old.place start)
         go answers.Read t h = absurd cc
         go answers.Unknown t h = refused t.2 h.1 (step_is nothing t.0 ∙ ap (λ x. unknown x name.local_name child.place s) ruled ∙ unknown_fails plan v (depth d) name.local_name r child.place s (never_skips (skips r) h.0)) h.2
         go answers.Second t h = refused t.2 h.1 (step_is second t.0) h.2
 
-    left_behind : (next last : Cursor) (s' : Trees) (taken : Taken) → TakesChild s s' new next v plan depth child.element.now child.attributes.now (Ok taken) → Leaves r taken next last name child (Ok tt) → (last ≡ after new m.kids tail) × (reading item child.place s ≡ Ok s')
+    left_behind : (next last : Cursor) (s' : Trees) (taken : Taken) → TakesChild s s' new next v plan depth child.element.now child.attributes.now (Ok taken) → Leaves r taken next last name child (Ok tt) → (last ≡ behind_end new m.kids tail) × (reading item child.place s ≡ Ok s')
     left_behind next last s' taken takes leaves = go taken (takes d m.namespace child.place m.kids tail m.stands) leaves
       where
-        go : (t : Taken) → ReadsChild s s' new next (after new m.kids tail) child_met (Ok t) → Leaves r t next last name child (Ok tt) → (last ≡ after new m.kids tail) × (reading item child.place s ≡ Ok s')
+        go : (t : Taken) → ReadsChild s s' new next (behind_end new m.kids tail) child_met (Ok t) → Leaves r t next last name child (Ok tt) → (last ≡ behind_end new m.kids tail) × (reading item child.place s ≡ Ok s')
         go answers.Read t h = (h.1 ∙ t.1, step_is (found (Ok s')) t.0)
         go answers.Unknown t h =
-            let there : At next child.element.now m.kids tail = subst (λ c. At c child.element.now m.kids tail) (sym t.2) m.stands.at in
-            (h.1 m.kids tail there ∙ ap (λ c. after c m.kids tail) t.2, step_is nothing t.0 ∙ ap (λ x. unknown x name.local_name child.place s) ruled ∙ unknown_passes plan v (depth d) name.local_name r child.place s (does_skip (skips r) h.0) ∙ ap (λ x. Ok x) (sym t.1))
+            let there : WithinElement next child.element.now m.kids tail = subst (λ c. WithinElement c child.element.now m.kids tail) (sym t.2) m.stands.at in
+            (h.1 m.kids tail there ∙ ap (λ c. behind_end c m.kids tail) t.2, step_is nothing t.0 ∙ ap (λ x. unknown x name.local_name child.place s) ruled ∙ unknown_passes plan v (depth d) name.local_name r child.place s (does_skip (skips r) h.0) ∙ ap (λ x. Ok x) (sym t.1))
         go answers.Second t h = absurd cc
 
     -- nothing of it is left, and the loop goes on after it
@@ -293,7 +293,7 @@ module _ (plan : Plan) (v : SpecVersion) (depth : Depth → Depth) (d : Depth) (
           at = record { ahead = ap (λ (c : Cursor). c.ahead) h.0 };
           place = omega (arith, l.place, m.is_left);
           grown = omega (arith, grown);
-          same = sym (all_is ∙ ap (λ x. x >>= λ next. each reading m.others (child.place + suc (suc (places_of m.kids))) next) h.1 ∙ ap (λ y. each reading m.others y s') q);
+          same = sym (all_is ∙ ap (λ x. x >>= λ next. each_node reading m.others (child.place + suc (suc (places_of m.kids))) next) h.1 ∙ ap (λ y. each_node reading m.others y s') q);
         }
 
     -- less is ahead

@@ -15,12 +15,12 @@ use Rattle.cdx_schema.specs.Kinds.{a_text, a_boolean, a_number, a_list, Lists, l
 use Rattle.cdx_schema.specs.XmlReading.{Plan, xread, number_in, simple_text, list_of, nodes_read, plan_of_list, choice_plan}
 use Rattle.cdx_schema.specs.Table.{list}
 use Rattle.cdx_schema.specs.Nodes.{places_of}
-use Rattle.cdx_leaf.specs.Attribute.{Gives}
+use Rattle.cdx_leaf.specs.Attribute.{GivesAt}
 use Rattle.cdx_leaf.specs.Numbers.{value_read}
 use Rattle.cdx_leaf.specs.Tags.{boolean_in}
-use Rattle.cdx_leaf.specs.Fault.{Fails}
-use Rattle.cdx_leaf.specs.Each.{each, plan_step}
-use Rattle.cdx_leaf.specs.Reading.{Stands, Reads, ReadsRest, ReadsAs, after}
+use Rattle.cdx_leaf.specs.Fault.{FailsAt}
+use Rattle.cdx_leaf.specs.Each.{each_node, plan_step}
+use Rattle.cdx_leaf.specs.Reading.{Stands, Reads, ReadsRest, ReadsAs, behind_end}
 use Rattle.cdx_leaf.specs.Trees.{collected}
 use Rattle.cdx_models.specs.Trees.{list_tree}
 use Rattle.cdx_models.specs.Trees as trees
@@ -33,11 +33,11 @@ use Rattle.cdx_leaf.proofs.Records.{first_fails}
 
 -- what is read of the rest is made into something
 pub reads_into : {X T U : Type 0} (view : X → T) (f : T → U) (old new : Cursor) (n : OwnedName) (denoted : ℕ → Nodes → Result T XmlReadError) (result : Result X XmlReadError) → ReadsRest view old new n denoted result
-    → (p : ℕ) (nodes : Nodes) (rest : List XmlEvent) → Stands old n p nodes rest → Reads (λ x. f (view x)) old new (after old nodes rest) (denoted (suc p) nodes >>= λ t. Ok (f t)) result
+    → (p : ℕ) (nodes : Nodes) (rest : List XmlEvent) → Stands old n p nodes rest → Reads (λ x. f (view x)) old new (behind_end old nodes rest) (denoted (suc p) nodes >>= λ t. Ok (f t)) result
 reads_into {X = X} {T = T} view f old new n denoted result reads p nodes rest st =
-    go result (subst (λ q. Reads view old new (after old nodes rest) (denoted q nodes) result) st.place (reads nodes rest st.at))
+    go result (subst (λ q. Reads view old new (behind_end old nodes rest) (denoted q nodes) result) st.place (reads nodes rest st.at))
   where
-    go : (r : Result X XmlReadError) → Reads view old new (after old nodes rest) (denoted (suc p) nodes) r → Reads (λ x. f (view x)) old new (after old nodes rest) (denoted (suc p) nodes >>= λ t. Ok (f t)) r
+    go : (r : Result X XmlReadError) → Reads view old new (behind_end old nodes rest) (denoted (suc p) nodes) r → Reads (λ x. f (view x)) old new (behind_end old nodes rest) (denoted (suc p) nodes >>= λ t. Ok (f t)) r
     go (Ok x) h = (ap (λ r. r >>= λ t. Ok (f t)) h.0, h.1)
     go (Err e) h = (h.0, first_fails e new.place (denoted (suc p) nodes) (λ t. Ok (f t)) h.1)
 
@@ -48,7 +48,7 @@ text_is v n a ns d p nodes = refl
 -- a text under any view
 pub reads_text : {X : Type 0} (view : X → List ℕ) (v : SpecVersion) (n : OwnedName) (a : List OwnedAttribute) (old new : Cursor) (result : Result X XmlReadError) → ReadsRest view old new n (λ q nodes. simple_text nodes n.local_name q) result → ReadsAs (λ x. text (view x)) old new n a v a_text (λ d. d) result
 reads_text view v n a old new result reads d ns p nodes rest st =
-    subst (λ x. Reads (λ x. text (view x)) old new (after old nodes rest) x result) (sym (text_is v n a ns d p nodes))
+    subst (λ x. Reads (λ x. text (view x)) old new (behind_end old nodes rest) x result) (sym (text_is v n a ns d p nodes))
     (reads_into view (λ t. text t) old new n (λ q nodes. simple_text nodes n.local_name q) result reads p nodes rest st)
 
 -- ---- lists
@@ -57,12 +57,12 @@ pub list_is : {X : Type 0} (f : X → Tree) (xs : List X) → list_of (field 0 (
 list_is f [] = refl
 list_is f (x ∷ xs) = refl
 
-pub items_are : {X : Type 0} (f : X → Tree) (xs : List X) (plan : Plan) (el : List ℕ) (v : SpecVersion) (d : Depth) (p : ℕ) (nodes : Nodes) → each (plan_step plan v d el) nodes (suc p) (one absent) ≡ Ok (one (collected f xs)) → items_read plan el v d p nodes ≡ Ok (list_tree f xs)
+pub items_are : {X : Type 0} (f : X → Tree) (xs : List X) (plan : Plan) (el : List ℕ) (v : SpecVersion) (d : Depth) (p : ℕ) (nodes : Nodes) → each_node (plan_step plan v d el) nodes (suc p) (one absent) ≡ Ok (one (collected f xs)) → items_read plan el v d p nodes ≡ Ok (list_tree f xs)
 items_are f xs plan el v d p nodes e = ap (λ r. r >>= λ ts. Ok (list_of (field 0 ts))) (each_is nodes plan el v d (suc p) (one absent) ∙ e) ∙ ap (λ t. Ok t) (list_is f xs)
 
-pub items_fail : (e : XmlReadError) (place : ℕ) (plan : Plan) (el : List ℕ) (v : SpecVersion) (d : Depth) (p : ℕ) (nodes : Nodes) → Fails e place (each (plan_step plan v d el) nodes (suc p) (one absent)) → Fails e place (items_read plan el v d p nodes)
+pub items_fail : (e : XmlReadError) (place : ℕ) (plan : Plan) (el : List ℕ) (v : SpecVersion) (d : Depth) (p : ℕ) (nodes : Nodes) → FailsAt e place (each_node (plan_step plan v d el) nodes (suc p) (one absent)) → FailsAt e place (items_read plan el v d p nodes)
 items_fail e place plan el v d p nodes h =
-    first_fails e place (nodes_read nodes plan el v d (suc p) (one absent)) (λ ts. Ok (list_of (field 0 ts))) (subst (λ x. Fails e place x) (sym (each_is nodes plan el v d (suc p) (one absent))) h)
+    first_fails e place (nodes_read nodes plan el v d (suc p) (one absent)) (λ ts. Ok (list_of (field 0 ts))) (subst (λ x. FailsAt e place x) (sym (each_is nodes plan el v d (suc p) (one absent))) h)
 
 -- a list whose items have one kind
 pub list_reads : (l : Lists) (v : SpecVersion) (n : OwnedName) (a : List OwnedAttribute) (ns : Namespace) (d : Depth) (p : ℕ) (nodes : Nodes) → xread (element n a ns nodes) v (a_list l) p d ≡ items_read (plan_of_list l) n.local_name v d p nodes
@@ -87,13 +87,13 @@ reads_list f K depth old new v n inner r (Err e) reads d p nodes rest st =
 pub whole_list : {X : Type 0} (f : X → Tree) (l : Lists) (K : Kind) (depth : Depth → Depth) (inner : List ℕ) (r : Rule) (v : SpecVersion) (n : OwnedName) (a : List OwnedAttribute) (old new : Cursor) (result : Result (List X) XmlReadError)
     → plan_of_list l ≡ listing_plan r inner K → ReadsItems f K depth old new v n inner r result → ReadsAs (list_tree f) old new n a v (a_list l) depth result
 whole_list f l K depth inner r v n a old new result is reads d ns p nodes rest st =
-    subst (λ x. Reads (list_tree f) old new (after old nodes rest) x result) (sym (list_reads l v n a ns (depth d) p nodes ∙ ap (λ x. items_read x n.local_name v (depth d) p nodes) is)) (reads_list f K depth old new v n inner r result reads d p nodes rest st)
+    subst (λ x. Reads (list_tree f) old new (behind_end old nodes rest) x result) (sym (list_reads l v n a ns (depth d) p nodes ∙ ap (λ x. items_read x n.local_name v (depth d) p nodes) is)) (reads_list f K depth old new v n inner r result reads d p nodes rest st)
 
 -- A field that is a list of the schema's.
 pub takes_list : (now : Tree) (K : Kind) (depth : Depth → Depth) (old new : Cursor) (v : SpecVersion) (n : OwnedName) (a : List OwnedAttribute) (inner : List ℕ) (r : Rule) (result : Result Taken XmlReadError) (l : Lists)
     → plan_of_list l ≡ listing_plan r inner K → TakesList now K depth old new v n inner r result → TakesOne now old new v (a_list l) depth n a result
 takes_list now K depth old new v n a inner r result l is takes d ns p nodes rest st =
-    subst (λ x. Took now old new (after old nodes rest) x result) (sym (list_reads l v n a ns (depth d) p nodes ∙ ap (λ x. items_read x n.local_name v (depth d) p nodes) is)) (takes d p nodes rest st)
+    subst (λ x. Took now old new (behind_end old nodes rest) x result) (sym (list_reads l v n a ns (depth d) p nodes ∙ ap (λ x. items_read x n.local_name v (depth d) p nodes) is)) (takes d p nodes rest st)
 
 abbrev filled_tree : Tree → Tree
 filled_tree trees.absent = trees.items trees.none
@@ -122,12 +122,12 @@ number_kind_is v n a ns d p nodes = refl
 
 -- something that is told of the element's end, which stands so many places further
 pub told_at_end : {X T : Type 0} (view : X → T) (old new : Cursor) (k : ℕ) (nodes : Nodes) (rest : List XmlEvent) (denoted : ℕ → Result T XmlReadError) (r : Result X XmlReadError)
-    → new ≡ after old nodes rest → new.place ≡ k → Gives view ((k - 1) + 1) (denoted (k - 1)) r → Reads view old new (after old nodes rest) (denoted (old.place + places_of nodes)) r
+    → new ≡ behind_end old nodes rest → new.place ≡ k → GivesAt view ((k - 1) + 1) (denoted (k - 1)) r → Reads view old new (behind_end old nodes rest) (denoted (old.place + places_of nodes)) r
 told_at_end {X = X} {T = T} view old new k nodes rest denoted r is at gives =
     let placed : new.place ≡ old.place + places_of nodes + 1 = ap (λ (c : Cursor). c.place) is in
     let end : k - 1 ≡ old.place + places_of nodes = omega (arith, at, placed) in
-    last r (subst (λ x. Gives view (x + 1) (denoted x) r) end gives) placed
+    last r (subst (λ x. GivesAt view (x + 1) (denoted x) r) end gives) placed
   where
-    last : (r : Result X XmlReadError) → Gives view (old.place + places_of nodes + 1) (denoted (old.place + places_of nodes)) r → new.place ≡ old.place + places_of nodes + 1 → Reads view old new (after old nodes rest) (denoted (old.place + places_of nodes)) r
+    last : (r : Result X XmlReadError) → GivesAt view (old.place + places_of nodes + 1) (denoted (old.place + places_of nodes)) r → new.place ≡ old.place + places_of nodes + 1 → Reads view old new (behind_end old nodes rest) (denoted (old.place + places_of nodes)) r
     last (Ok x) h placed = (h, is)
-    last (Err e) h placed = (omega (arith, placed), subst (λ y. Fails e y (denoted (old.place + places_of nodes))) (sym placed) h)
+    last (Err e) h placed = (omega (arith, placed), subst (λ y. FailsAt e y (denoted (old.place + places_of nodes))) (sym placed) h)

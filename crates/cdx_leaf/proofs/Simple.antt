@@ -11,20 +11,20 @@ use Rattle.cdx_schema.specs.Faults.{unexpected}
 use Rattle.cdx_schema.specs.Nodes.{places, places_of}
 use Rattle.cdx_schema.specs.Results.{◌>>=◌}
 use Rattle.cdx_schema.specs.XmlReading.{after_text, text_in}
-use Rattle.cdx_leaf.specs.Reading.{At, after, kind_of_node}
+use Rattle.cdx_leaf.specs.Reading.{WithinElement, behind_end, kind_of_node}
 use Rattle.cdx_leaf.specs.Tags.{text_or_none}
 use Rattle.cdx_leaf.proofs.Steps.{Took, cursor_is, Ends, at_end, at_text, at_cdata, at_other}
 
 -- after the end
-pub after_end : (old new : Cursor) (nodes : Nodes) (rest : List XmlEvent) → new.place ≡ old.place + 1 → Ends new nodes rest → new ≡ after old nodes rest
+pub after_end : (old new : Cursor) (nodes : Nodes) (rest : List XmlEvent) → new.place ≡ old.place + 1 → Ends new nodes rest → new ≡ behind_end old nodes rest
 after_end old new nodes rest p e =
     let z : places_of nodes ≡ 0 = ap places_of e.nodes_are in
-    cursor_is new (after old nodes rest) (omega arith) e.ahead
+    cursor_is new (behind_end old nodes rest) (omega arith) e.ahead
 
 -- ---- nothing but the end
 
-pub closing_end : {T : Type 0} (old new : Cursor) (event : XmlEvent) (name m : OwnedName) (t : T) (nodes : Nodes) (rest : List XmlEvent) → event ≡ EndElement m → Took old new event → At old name nodes rest
-    → (after_text t nodes name.local_name old.place ≡ Ok t) × (new ≡ after old nodes rest)
+pub closing_end : {T : Type 0} (old new : Cursor) (event : XmlEvent) (name m : OwnedName) (t : T) (nodes : Nodes) (rest : List XmlEvent) → event ≡ EndElement m → Took old new event → WithinElement old name nodes rest
+    → (after_text t nodes name.local_name old.place ≡ Ok t) × (new ≡ behind_end old nodes rest)
 closing_end old new event name m t nodes rest is took at =
     let e = at_end old new event name m nodes rest is at took in
     (ap (λ k. after_text t k name.local_name old.place) e.nodes_are, after_end old new nodes rest took.1 e)
@@ -34,7 +34,7 @@ refused_node t (characters s) nodes el q = refl
 refused_node t (cdata s) nodes el q = refl
 refused_node t (element n a ns kids) nodes el q = refl
 
-pub closing_other : {T : Type 0} (old new : Cursor) (event : XmlEvent) (name : OwnedName) (t : T) (nodes : Nodes) (rest : List XmlEvent) → ((m : OwnedName) → event ≡ EndElement m → ⊥) → Took old new event → At old name nodes rest
+pub closing_other : {T : Type 0} (old new : Cursor) (event : XmlEvent) (name : OwnedName) (t : T) (nodes : Nodes) (rest : List XmlEvent) → ((m : OwnedName) → event ≡ EndElement m → ⊥) → Took old new event → WithinElement old name nodes rest
     → after_text t nodes name.local_name old.place ≡ Err (unexpected old.place name.local_name (kind_of event))
 closing_other old new event name t nodes rest other took at =
     let b = at_other old new event name nodes rest other at took in
@@ -42,29 +42,29 @@ closing_other old new event name t nodes rest other took at =
 
 -- ---- one text at most, or exactly one
 
-pub simple_end : (empty : Result (List ℕ) XmlReadError) (old new : Cursor) (event : XmlEvent) (name m : OwnedName) (nodes : Nodes) (rest : List XmlEvent) → event ≡ EndElement m → Took old new event → At old name nodes rest
-    → (text_in empty nodes name.local_name old.place ≡ empty) × (new ≡ after old nodes rest)
+pub simple_end : (empty : Result (List ℕ) XmlReadError) (old new : Cursor) (event : XmlEvent) (name m : OwnedName) (nodes : Nodes) (rest : List XmlEvent) → event ≡ EndElement m → Took old new event → WithinElement old name nodes rest
+    → (text_in empty nodes name.local_name old.place ≡ empty) × (new ≡ behind_end old nodes rest)
 simple_end empty old new event name m nodes rest is took at =
     let e = at_end old new event name m nodes rest is at took in
     (ap (λ k. text_in empty k name.local_name old.place) e.nodes_are, after_end old new nodes rest took.1 e)
 
 -- a node of one place was taken, and the rest read to its end
-pub past_node : (old mid : Cursor) (item : Node) (nodes others : Nodes) (rest : List XmlEvent) → places item ≡ 1 → nodes ≡ node item others → mid.place ≡ old.place + 1 → after mid others rest ≡ after old nodes rest
+pub past_node : (old mid : Cursor) (item : Node) (nodes others : Nodes) (rest : List XmlEvent) → places item ≡ 1 → nodes ≡ node item others → mid.place ≡ old.place + 1 → behind_end mid others rest ≡ behind_end old nodes rest
 past_node old mid item nodes others rest one is p =
     let w : places_of nodes ≡ places item + places_of others = ap places_of is in
-    cursor_is (after mid others rest) (after old nodes rest) (omega arith) refl
+    cursor_is (behind_end mid others rest) (behind_end old nodes rest) (omega arith) refl
 
 next_place : (old mid : Cursor) → mid.place ≡ old.place + 1 → suc old.place ≡ mid.place
 next_place old mid p = omega arith
 
-pub simple_text : (empty : Result (List ℕ) XmlReadError) (old mid : Cursor) (event : XmlEvent) (name : OwnedName) (u : List ℕ) (nodes : Nodes) (rest : List XmlEvent) → event ≡ Characters u → Took old mid event → At old name nodes rest
-    → (others : Nodes) × At mid name others rest × (text_in empty nodes name.local_name old.place ≡ after_text u others name.local_name mid.place) × (after mid others rest ≡ after old nodes rest)
+pub simple_text : (empty : Result (List ℕ) XmlReadError) (old mid : Cursor) (event : XmlEvent) (name : OwnedName) (u : List ℕ) (nodes : Nodes) (rest : List XmlEvent) → event ≡ Characters u → Took old mid event → WithinElement old name nodes rest
+    → (others : Nodes) × WithinElement mid name others rest × (text_in empty nodes name.local_name old.place ≡ after_text u others name.local_name mid.place) × (behind_end mid others rest ≡ behind_end old nodes rest)
 simple_text empty old mid event name u nodes rest is took at =
     let f = at_text old mid event name u nodes rest is at took in
     (f.others, f.at, ap (λ k. text_in empty k name.local_name old.place) f.nodes_are ∙ ap (λ q. after_text u f.others name.local_name q) (next_place old mid took.1), past_node old mid (characters u) nodes f.others rest refl f.nodes_are took.1)
 
-pub simple_cdata : (empty : Result (List ℕ) XmlReadError) (old mid : Cursor) (event : XmlEvent) (name : OwnedName) (u : List ℕ) (nodes : Nodes) (rest : List XmlEvent) → event ≡ CData u → Took old mid event → At old name nodes rest
-    → (others : Nodes) × At mid name others rest × (text_in empty nodes name.local_name old.place ≡ after_text u others name.local_name mid.place) × (after mid others rest ≡ after old nodes rest)
+pub simple_cdata : (empty : Result (List ℕ) XmlReadError) (old mid : Cursor) (event : XmlEvent) (name : OwnedName) (u : List ℕ) (nodes : Nodes) (rest : List XmlEvent) → event ≡ CData u → Took old mid event → WithinElement old name nodes rest
+    → (others : Nodes) × WithinElement mid name others rest × (text_in empty nodes name.local_name old.place ≡ after_text u others name.local_name mid.place) × (behind_end mid others rest ≡ behind_end old nodes rest)
 simple_cdata empty old mid event name u nodes rest is took at =
     let f = at_cdata old mid event name u nodes rest is at took in
     (f.others, f.at, ap (λ k. text_in empty k name.local_name old.place) f.nodes_are ∙ ap (λ q. after_text u f.others name.local_name q) (next_place old mid took.1), past_node old mid (cdata u) nodes f.others rest refl f.nodes_are took.1)
@@ -104,8 +104,8 @@ optional_ok k nodes others el u q is e = optional_more k nodes others el q is �
 pub optional_fault : (k : Node) (nodes others : Nodes) (el : List ℕ) (q : ℕ) (f : XmlReadError) → nodes ≡ node k others → text_in (Ok []) nodes el q ≡ Err f → text_or_none nodes el q ≡ Err f
 optional_fault k nodes others el q f is e = optional_more k nodes others el q is ∙ ap (λ (x : Result (List ℕ) XmlReadError). x >>= λ s. Ok (Some s)) e
 
-pub optional_end : (old new : Cursor) (event : XmlEvent) (name m : OwnedName) (nodes : Nodes) (rest : List XmlEvent) → event ≡ EndElement m → Took old new event → At old name nodes rest
-    → (text_or_none nodes name.local_name old.place ≡ Ok None) × (new ≡ after old nodes rest)
+pub optional_end : (old new : Cursor) (event : XmlEvent) (name m : OwnedName) (nodes : Nodes) (rest : List XmlEvent) → event ≡ EndElement m → Took old new event → WithinElement old name nodes rest
+    → (text_or_none nodes name.local_name old.place ≡ Ok None) × (new ≡ behind_end old nodes rest)
 optional_end old new event name m nodes rest is took at =
     let e = at_end old new event name m nodes rest is at took in
     (ap (λ k. text_or_none k name.local_name old.place) e.nodes_are, after_end old new nodes rest took.1 e)

@@ -8,7 +8,7 @@ use Rattle.cdx_events.specs.declared.event.XmlEvent.TheVariants.{StartDocument, 
 use Rattle.cdx_events.specs.Nodes.{Node, Nodes, characters, cdata, element, no_nodes, node, events_of, events_of_all}
 use Rattle.cdx_events.specs.Cursor.{Cursor}
 use Rattle.cdx_schema.specs.Nodes.{places, places_of}
-use Rattle.cdx_leaf.specs.Reading.{At, after}
+use Rattle.cdx_leaf.specs.Reading.{WithinElement, behind_end}
 use Rattle.cdx_leaf.proofs.Steps.{Took, cursor_is, at_end, at_text, at_cdata, at_start, at_document, at_document_end}
 
 mutual
@@ -30,7 +30,7 @@ pub record Skips (old c : Cursor) (depth : ℕ) (rest : List XmlEvent) : Type 0 
   pub inner : OwnedName
   pub left : Nodes
   pub tail : List XmlEvent
-  pub at : At c inner left tail
+  pub at : WithinElement c inner left tail
   pub unwinds : Unwinds depth tail rest
   pub total : c.place + length c.ahead ≡ old.place + length old.ahead
 
@@ -39,7 +39,7 @@ took_total old mid new event t e =
     let l : length mid.ahead ≡ suc (length new.ahead) = ap length t.0 in
     omega (arith, t.1)
 
-pub skips_init : (old : Cursor) (name : OwnedName) (nodes : Nodes) (rest : List XmlEvent) → At old name nodes rest → Skips old old 0 rest
+pub skips_init : (old : Cursor) (name : OwnedName) (nodes : Nodes) (rest : List XmlEvent) → WithinElement old name nodes rest → Skips old old 0 rest
 skips_init old name nodes rest a = record { inner = name; left = nodes; tail = rest; at = a; unwinds = refl; total = refl }
 
 pub skips_start : (old mid new : Cursor) (depth : ℕ) (event : XmlEvent) (n : OwnedName) (a : List OwnedAttribute) (s : Namespace) (rest : List XmlEvent) → event ≡ StartElement n a s → Took mid new event → Skips old mid depth rest → Skips old new (depth + 1) rest
@@ -58,14 +58,14 @@ skips_up old mid new depth event m rest deep is took k =
     let e : depth ≡ suc (depth - 1) = omega arith in
     skips_end old mid new (depth - 1) event m rest is took (subst (λ d. Skips old mid d rest) e k)
 
-pub skips_done : (old mid new : Cursor) (event : XmlEvent) (name m : OwnedName) (nodes : Nodes) (rest : List XmlEvent) → event ≡ EndElement m → Took mid new event → At old name nodes rest → Skips old mid 0 rest → new ≡ after old nodes rest
+pub skips_done : (old mid new : Cursor) (event : XmlEvent) (name m : OwnedName) (nodes : Nodes) (rest : List XmlEvent) → event ≡ EndElement m → Took mid new event → WithinElement old name nodes rest → Skips old mid 0 rest → new ≡ behind_end old nodes rest
 skips_done old mid new event name m nodes rest is took a k =
     let e = at_end mid new event k.inner m k.left k.tail is k.at took in
     let ahead : new.ahead ≡ rest = e.ahead ∙ k.unwinds in
     let total = took_total old mid new event took k.total in
     let l : length new.ahead ≡ length rest = ap length ahead in
     let w : length old.ahead ≡ length (events_of_all nodes ++ EndElement name ∷ rest) = ap length a.ahead in
-    cursor_is new (after old nodes rest) (omega (arith, length_all nodes, length-append (events_of_all nodes) (EndElement name ∷ rest))) ahead
+    cursor_is new (behind_end old nodes rest) (omega (arith, length_all nodes, length-append (events_of_all nodes) (EndElement name ∷ rest))) ahead
 
 pub skips_other : (old mid new : Cursor) (depth : ℕ) (event : XmlEvent) (rest : List XmlEvent) → ((n : OwnedName) (a : List OwnedAttribute) (s : Namespace) → event ≡ StartElement n a s → ⊥) → ((m : OwnedName) → event ≡ EndElement m → ⊥) → Took mid new event → Skips old mid depth rest → Skips old new depth rest
 skips_other old mid new depth StartDocument rest x y took k = absurd (at_document mid new k.inner k.left k.tail k.at took)

@@ -8,7 +8,7 @@ use Rattle.cdx_events.specs.declared.event.XmlEvent.TheVariants.{StartDocument, 
 use Rattle.cdx_events.specs.Event.{kind_of}
 use Rattle.cdx_events.specs.Nodes.{Node, Nodes, characters, cdata, element, no_nodes, node, events_of_all}
 use Rattle.cdx_events.specs.Cursor.{Cursor}
-use Rattle.cdx_leaf.specs.Reading.{At, Stands, kind_of_node}
+use Rattle.cdx_leaf.specs.Reading.{WithinElement, Stands, kind_of_node}
 
 -- the next event was taken
 abbrev pub Took : Cursor → Cursor → XmlEvent → Type 0
@@ -20,7 +20,7 @@ cursor_is c d p a =
     ap (λ x. made x c.ahead) p ∙ ap (λ y. made d.place y) a
 
 -- What is ahead begins with the event.
-meets : (old new : Cursor) (event : XmlEvent) (name : OwnedName) (nodes : Nodes) (rest : List XmlEvent) → At old name nodes rest → Took old new event → events_of_all nodes ++ EndElement name ∷ rest ≡ event ∷ new.ahead
+meets : (old new : Cursor) (event : XmlEvent) (name : OwnedName) (nodes : Nodes) (rest : List XmlEvent) → WithinElement old name nodes rest → Took old new event → events_of_all nodes ++ EndElement name ∷ rest ≡ event ∷ new.ahead
 meets old new event name nodes rest a t = sym a.ahead ∙ t.0
 
 -- ---- by the event
@@ -35,7 +35,7 @@ end_of (node (characters t) ks) name m rest ahead e = absurd cc
 end_of (node (cdata t) ks) name m rest ahead e = absurd cc
 end_of (node (element n a s kids) ks) name m rest ahead e = absurd cc
 
-pub at_end : (old new : Cursor) (event : XmlEvent) (name m : OwnedName) (nodes : Nodes) (rest : List XmlEvent) → event ≡ EndElement m → At old name nodes rest → Took old new event → Ends new nodes rest
+pub at_end : (old new : Cursor) (event : XmlEvent) (name m : OwnedName) (nodes : Nodes) (rest : List XmlEvent) → event ≡ EndElement m → WithinElement old name nodes rest → Took old new event → Ends new nodes rest
 at_end old new event name m nodes rest is a t =
     let e = end_of nodes name m rest new.ahead (meets old new event name nodes rest a t ∙ ap (λ x. x ∷ new.ahead) is) in
     record { nodes_are = e.0; ahead = e.1 }
@@ -43,7 +43,7 @@ at_end old new event name m nodes rest is a t =
 pub record Follows (new : Cursor) (name : OwnedName) (nodes : Nodes) (item : Node) (rest : List XmlEvent) : Type 0 where
   pub others : Nodes
   pub nodes_are : nodes ≡ node item others
-  pub at : At new name others rest
+  pub at : WithinElement new name others rest
 
 text_of : (nodes : Nodes) (name : OwnedName) (t : List ℕ) (rest ahead : List XmlEvent) → events_of_all nodes ++ EndElement name ∷ rest ≡ Characters t ∷ ahead → (ks : Nodes) × (nodes ≡ node (characters t) ks) × (ahead ≡ events_of_all ks ++ EndElement name ∷ rest)
 text_of no_nodes name t rest ahead e = absurd cc
@@ -51,7 +51,7 @@ text_of (node (characters u) ks) name t rest ahead e = (ks, (let same : u ≡ t 
 text_of (node (cdata u) ks) name t rest ahead e = absurd cc
 text_of (node (element n a s kids) ks) name t rest ahead e = absurd cc
 
-pub at_text : (old new : Cursor) (event : XmlEvent) (name : OwnedName) (u : List ℕ) (nodes : Nodes) (rest : List XmlEvent) → event ≡ Characters u → At old name nodes rest → Took old new event → Follows new name nodes (characters u) rest
+pub at_text : (old new : Cursor) (event : XmlEvent) (name : OwnedName) (u : List ℕ) (nodes : Nodes) (rest : List XmlEvent) → event ≡ Characters u → WithinElement old name nodes rest → Took old new event → Follows new name nodes (characters u) rest
 at_text old new event name u nodes rest is a t =
     let e = text_of nodes name u rest new.ahead (meets old new event name nodes rest a t ∙ ap (λ x. x ∷ new.ahead) is) in
     record { others = e.0; nodes_are = e.1; at = record { ahead = e.2 } }
@@ -62,7 +62,7 @@ cdata_of (node (characters u) ks) name t rest ahead e = absurd cc
 cdata_of (node (cdata u) ks) name t rest ahead e = (ks, (let same : u ≡ t = cc in ap (λ x. node (cdata x) ks) same), cc)
 cdata_of (node (element n a s kids) ks) name t rest ahead e = absurd cc
 
-pub at_cdata : (old new : Cursor) (event : XmlEvent) (name : OwnedName) (u : List ℕ) (nodes : Nodes) (rest : List XmlEvent) → event ≡ CData u → At old name nodes rest → Took old new event → Follows new name nodes (cdata u) rest
+pub at_cdata : (old new : Cursor) (event : XmlEvent) (name : OwnedName) (u : List ℕ) (nodes : Nodes) (rest : List XmlEvent) → event ≡ CData u → WithinElement old name nodes rest → Took old new event → Follows new name nodes (cdata u) rest
 at_cdata old new event name u nodes rest is a t =
     let e = cdata_of nodes name u rest new.ahead (meets old new event name nodes rest a t ∙ ap (λ x. x ∷ new.ahead) is) in
     record { others = e.0; nodes_are = e.1; at = record { ahead = e.2 } }
@@ -89,7 +89,7 @@ start_of (node (element m b r kids) ks) name n a s rest ahead e =
     append_assoc (events_of_all kids ++ EndElement m ∷ []) (events_of_all ks) (EndElement name ∷ rest) ∙ append_assoc (events_of_all kids) (EndElement m ∷ []) tail in
     (kids, ks, same, sym w ∙ regrouped ∙ ap (λ v. events_of_all kids ++ EndElement v ∷ tail) x)
 
-pub at_start : (old new : Cursor) (event : XmlEvent) (name n : OwnedName) (a : List OwnedAttribute) (s : Namespace) (nodes : Nodes) (rest : List XmlEvent) → event ≡ StartElement n a s → At old name nodes rest → Took old new event → Enters old new name nodes n a s rest
+pub at_start : (old new : Cursor) (event : XmlEvent) (name n : OwnedName) (a : List OwnedAttribute) (s : Namespace) (nodes : Nodes) (rest : List XmlEvent) → event ≡ StartElement n a s → WithinElement old name nodes rest → Took old new event → Enters old new name nodes n a s rest
 at_start old new event name n a s nodes rest is at t =
     let e = start_of nodes name n a s rest new.ahead (meets old new event name nodes rest at t ∙ ap (λ x. x ∷ new.ahead) is) in
     record { kids = e.0; others = e.1; nodes_are = e.2; stands = record { place = omega (arith, t.1); at = record { ahead = e.3 } } }
@@ -101,7 +101,7 @@ empty_of (node (characters u) ks) name rest e = absurd cc
 empty_of (node (cdata u) ks) name rest e = absurd cc
 empty_of (node (element m b r kids) ks) name rest e = absurd cc
 
-pub at_none : (old : Cursor) (name : OwnedName) (nodes : Nodes) (rest : List XmlEvent) → At old name nodes rest → old.ahead ≡ [] → ⊥
+pub at_none : (old : Cursor) (name : OwnedName) (nodes : Nodes) (rest : List XmlEvent) → WithinElement old name nodes rest → old.ahead ≡ [] → ⊥
 at_none old name nodes rest a e = empty_of nodes name rest (sym a.ahead ∙ e)
 
 -- any event but the end is the first of a node
@@ -125,7 +125,7 @@ begins_of (node (characters u) ks) name event rest ahead other e = let is : even
 begins_of (node (cdata u) ks) name event rest ahead other e = let is : event ≡ CData u = cc in record { item = cdata u; others = ks; nodes_are = refl; kind_is = ap kind_of (sym is); started = λ n a s kids x. absurd cc }
 begins_of (node (element m b r kids) ks) name event rest ahead other e = let is : event ≡ StartElement m b r = cc in record { item = element m b r kids; others = ks; nodes_are = refl; kind_is = ap kind_of (sym is); started = λ n a s inner x. is ∙ element_start x }
 
-pub at_other : (old new : Cursor) (event : XmlEvent) (name : OwnedName) (nodes : Nodes) (rest : List XmlEvent) → ((m : OwnedName) → event ≡ EndElement m → ⊥) → At old name nodes rest → Took old new event → Begins event nodes
+pub at_other : (old new : Cursor) (event : XmlEvent) (name : OwnedName) (nodes : Nodes) (rest : List XmlEvent) → ((m : OwnedName) → event ≡ EndElement m → ⊥) → WithinElement old name nodes rest → Took old new event → Begins event nodes
 at_other old new event name nodes rest other a t = begins_of nodes name event rest new.ahead other (meets old new event name nodes rest a t)
 
 -- no document starts or ends inside
@@ -141,8 +141,8 @@ ends_of (node (characters u) ks) name rest ahead e = absurd cc
 ends_of (node (cdata u) ks) name rest ahead e = absurd cc
 ends_of (node (element m b r kids) ks) name rest ahead e = absurd cc
 
-pub at_document : (old new : Cursor) (name : OwnedName) (nodes : Nodes) (rest : List XmlEvent) → At old name nodes rest → Took old new StartDocument → ⊥
+pub at_document : (old new : Cursor) (name : OwnedName) (nodes : Nodes) (rest : List XmlEvent) → WithinElement old name nodes rest → Took old new StartDocument → ⊥
 at_document old new name nodes rest a t = starts_of nodes name rest new.ahead (meets old new StartDocument name nodes rest a t)
 
-pub at_document_end : (old new : Cursor) (name : OwnedName) (nodes : Nodes) (rest : List XmlEvent) → At old name nodes rest → Took old new EndDocument → ⊥
+pub at_document_end : (old new : Cursor) (name : OwnedName) (nodes : Nodes) (rest : List XmlEvent) → WithinElement old name nodes rest → Took old new EndDocument → ⊥
 at_document_end old new name nodes rest a t = ends_of nodes name rest new.ahead (meets old new EndDocument name nodes rest a t)

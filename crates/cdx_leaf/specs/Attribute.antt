@@ -10,7 +10,7 @@ use Rattle.cdx_events.specs.declared.name.OwnedAttribute.{OwnedAttribute}
 use Rattle.cdx_models.specs.Trees.{Name, Trees}
 use Rattle.cdx_schema.specs.Table.{rows}
 use Rattle.cdx_schema.specs.XmlReading.{attributes_read, in_force}
-use Rattle.cdx_leaf.specs.Fault.{Fails}
+use Rattle.cdx_leaf.specs.Fault.{FailsAt}
 
 -- there is a value, or the fault is what is denoted
 abbrev pub or_fault : {T : Type 0} → Option T → XmlReadError → Result T XmlReadError
@@ -18,13 +18,13 @@ or_fault None fault = Err fault
 or_fault (Some t) fault = Ok t
 
 -- What was returned, seen by view, is what is denoted, with a reader at this place.
-abbrev pub Gives : {X T : Type 0} → (X → T) → ℕ → Result T XmlReadError → Result X XmlReadError → Type 0
-Gives view place denoted (Ok x) = denoted ≡ Ok (view x)
-Gives view place denoted (Err e) = Fails e place denoted
+abbrev pub GivesAt : {X T : Type 0} → (X → T) → ℕ → Result T XmlReadError → Result X XmlReadError → Type 0
+GivesAt view place denoted (Ok x) = denoted ≡ Ok (view x)
+GivesAt view place denoted (Err e) = FailsAt e place denoted
 
 -- something that is there from `since` on
-abbrev pub known : {A : Type 0} → SpecVersion → SpecVersion → Option A → Option A
-known since v o = if knows since v then o else None
+abbrev pub known_since : {A : Type 0} → SpecVersion → SpecVersion → Option A → Option A
+known_since since v o = if knows since v then o else None
 
 abbrev pub text_row : List ℕ → Member → Option (List ℕ) → SpecVersion → Need → Row
 text_row name j old since need = record { kind = a_text; xml = attribute name; json = j; old_name = old; since = since; need = need }

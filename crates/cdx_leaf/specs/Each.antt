@@ -10,9 +10,9 @@ use Rattle.cdx_schema.specs.Nodes.{places}
 use Rattle.cdx_schema.specs.XmlReading.{Plan, node_read, xread}
 
 -- each node takes what was read so far further, or is the first fault
-abbrev pub each : {S : Type 0} → (Node → ℕ → S → Result S XmlReadError) → Nodes → ℕ → S → Result S XmlReadError
-each step no_nodes q s = Ok s
-each step (node item nodes) q s = step item q s >>= λ next. each step nodes (q + places item) next
+abbrev pub each_node : {S : Type 0} → (Node → ℕ → S → Result S XmlReadError) → Nodes → ℕ → S → Result S XmlReadError
+each_node step no_nodes q s = Ok s
+each_node step (node item nodes) q s = step item q s >>= λ next. each_node step nodes (q + places item) next
 
 -- a node of an element of this name
 abbrev pub plan_step : Plan → SpecVersion → Depth → List ℕ → Node → ℕ → Trees → Result Trees XmlReadError

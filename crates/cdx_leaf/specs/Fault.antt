@@ -11,9 +11,9 @@ within place (TooDeep p) = place ≤ p + 1
 within place e = Unit {0}
 
 -- A refusal, with the reader at a place, is what is denoted, and the reader is at most one past it. Want of memory is the exception.
-abbrev pub Fails : {T : Type 0} → XmlReadError → ℕ → Result T XmlReadError → Type 0
-Fails (Memory m) place denoted = Unit {0}
-Fails e place denoted = (denoted ≡ Err e) × within place e
+abbrev pub FailsAt : {T : Type 0} → XmlReadError → ℕ → Result T XmlReadError → Type 0
+FailsAt (Memory m) place denoted = Unit {0}
+FailsAt e place denoted = (denoted ≡ Err e) × within place e
 
 -- refused with this fault, or for want of memory
 abbrev pub Refused : {X : Type 0} → Result X XmlReadError → XmlReadError → Type 0

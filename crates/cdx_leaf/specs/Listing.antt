@@ -15,9 +15,9 @@ use Rattle.cdx_schema.specs.XmlReading.{Plan, all, list_of, nodes_read}
 use Rattle.cdx_leaf.specs.declared.rule.Rule.{Rule}
 use Rattle.cdx_leaf.specs.declared.taken.Taken.{Taken}
 use Rattle.cdx_leaf.specs.Rules.{as_rule}
-use Rattle.cdx_leaf.specs.Each.{each, plan_step}
+use Rattle.cdx_leaf.specs.Each.{each_node, plan_step}
 use Rattle.cdx_leaf.specs.Children.{Took}
-use Rattle.cdx_leaf.specs.Reading.{Stands, Reads, after}
+use Rattle.cdx_leaf.specs.Reading.{Stands, Reads, behind_end}
 use Rattle.cdx_leaf.specs.Trees.{collected}
 
 -- the items that were met so far
@@ -34,14 +34,14 @@ items_read plan el v d p nodes = nodes_read nodes plan el v d (suc p) (one absen
 
 abbrev pub ReadsList : {X : Type 0} → (X → Tree) → Kind → (Depth → Depth) → Cursor → Cursor → SpecVersion → OwnedName → List ℕ → Rule → Result (List X) XmlReadError → Type 0
 ReadsList tree K depth old new v n inner r result =
-    (d : Depth) (p : ℕ) (nodes : Nodes) (rest : List XmlEvent) → Stands old n p nodes rest → Reads (list_tree tree) old new (after old nodes rest) (items_read (listing_plan r inner K) n.local_name v (depth d) p nodes) result
+    (d : Depth) (p : ℕ) (nodes : Nodes) (rest : List XmlEvent) → Stands old n p nodes rest → Reads (list_tree tree) old new (behind_end old nodes rest) (items_read (listing_plan r inner K) n.local_name v (depth d) p nodes) result
 
 -- The same, seen as the fields of a record of one row.
 abbrev pub ReadsItems : {X : Type 0} → (X → Tree) → Kind → (Depth → Depth) → Cursor → Cursor → SpecVersion → OwnedName → List ℕ → Rule → Result (List X) XmlReadError → Type 0
 ReadsItems tree K depth old new v n inner r result =
-    (d : Depth) (p : ℕ) (nodes : Nodes) (rest : List XmlEvent) → Stands old n p nodes rest → Reads (listing_slots tree) old new (after old nodes rest) (each (plan_step (listing_plan r inner K) v (depth d) n.local_name) nodes (suc p) (one absent)) result
+    (d : Depth) (p : ℕ) (nodes : Nodes) (rest : List XmlEvent) → Stands old n p nodes rest → Reads (listing_slots tree) old new (behind_end old nodes rest) (each_node (plan_step (listing_plan r inner K) v (depth d) n.local_name) nodes (suc p) (one absent)) result
 
 -- A list was read into a field. The answer is always Read.
 abbrev pub TakesList : Tree → Kind → (Depth → Depth) → Cursor → Cursor → SpecVersion → OwnedName → List ℕ → Rule → Result Taken XmlReadError → Type 0
 TakesList now K depth old new v n inner r result =
-    (d : Depth) (p : ℕ) (nodes : Nodes) (rest : List XmlEvent) → Stands old n p nodes rest → Took now old new (after old nodes rest) (items_read (listing_plan r inner K) n.local_name v (depth d) p nodes) result
+    (d : Depth) (p : ℕ) (nodes : Nodes) (rest : List XmlEvent) → Stands old n p nodes rest → Took now old new (behind_end old nodes rest) (items_read (listing_plan r inner K) n.local_name v (depth d) p nodes) result

@@ -14,8 +14,8 @@ use Rattle.cdx_leaf.specs.declared.start.Start.{Start}
 use Rattle.cdx_leaf.specs.declared.rule.Rule.{Rule}
 use Rattle.cdx_leaf.specs.declared.taken.Taken.{Taken}
 use Rattle.cdx_leaf.specs.declared.taken.Taken.TheVariants as answers
-use Rattle.cdx_leaf.specs.Fault.{Fails, Refused}
-use Rattle.cdx_leaf.specs.Reading.{At, Stands, after, kind_of_node}
+use Rattle.cdx_leaf.specs.Fault.{FailsAt, Refused}
+use Rattle.cdx_leaf.specs.Reading.{WithinElement, Stands, behind_end, kind_of_node}
 use Rattle.cdx_leaf.specs.Rules.{skips, passes}
 
 -- what is left after the texts that the rule passes over
@@ -51,10 +51,10 @@ pub record MeetsText (old new : Cursor) (el : OwnedName) (nodes left : Nodes) (e
   pub no_child : kind_of_node text ≡ kinds.StartElement → ⊥
   pub is_left : IsLeft old nodes place left
   pub grown : old.place ≤ new.place
-  pub fails : Fails e new.place (no_more (unexpected place el.local_name (kind_of_node text)))
+  pub fails : FailsAt e new.place (no_more (unexpected place el.local_name (kind_of_node text)))
 
 abbrev pub Meets : Rule → Cursor → Cursor → OwnedName → Nodes → List XmlEvent → Result (Option Start) XmlReadError → Type 0
-Meets r old new el nodes rest (Ok None) = (past_texts r nodes ≡ no_nodes) × (new ≡ after old nodes rest)
+Meets r old new el nodes rest (Ok None) = (past_texts r nodes ≡ no_nodes) × (new ≡ behind_end old nodes rest)
 Meets r old new el nodes rest (Ok (Some child)) = MeetsChild old new el nodes (past_texts r nodes) rest child
 Meets r old new el nodes rest (Err e) = MeetsText old new el nodes (past_texts r nodes) e
 
@@ -71,7 +71,7 @@ refuses r answers.Second = true
 
 -- Nothing of the child is left.
 abbrev pub Passed : Taken → Cursor → Cursor → OwnedName → Type 0
-Passed answers.Unknown old new n = (nodes : Nodes) (rest : List XmlEvent) → At old n nodes rest → new ≡ after old nodes rest
+Passed answers.Unknown old new n = (nodes : Nodes) (rest : List XmlEvent) → WithinElement old n nodes rest → new ≡ behind_end old nodes rest
 Passed taken old new n = new ≡ old
 
 abbrev pub Leaves : Rule → Taken → Cursor → Cursor → OwnedName → Start → Result (Unit {0}) XmlReadError → Type 0

@@ -3,7 +3,7 @@
 ghost use Rattle.std.specs.Prelude.{◌≡◌, ◌+◌, option_map, Ok, IfOk, reverse};
 ghost use Rattle.cdx_schema.specs.XmlReading.{find_attribute};
 ghost use Rattle.cdx_schema.specs.Faults.{lacking};
-ghost use Rattle.cdx_leaf.specs.Attribute.{or_fault, Gives, known};
+ghost use Rattle.cdx_leaf.specs.Attribute.{or_fault, GivesAt, known_since};
 
 use crate::error::{Reading, refuse_missing};
 use crate::start::{End, Start};
@@ -49,7 +49,7 @@ pub fn attribute_or_error(
     attributes: &List<OwnedAttribute>,
     expected: &str,
 ) -> Result<Text, XmlReadError>
-    ensures { Gives (λ t. t) (place + 1)
+    ensures { GivesAt (λ t. t) (place + 1)
         (or_fault (find_attribute expected.now attributes.now)
         (lacking place element.now.local_name expected.now))
         result }
@@ -63,7 +63,7 @@ pub fn attribute_or_error(
 /// A copy of the value of the first attribute of that local name. `RequiredDataMissing` at the start exactly where there
 /// is none.
 pub fn required_attribute(opened: &Start<'_>, expected: &str) -> Reading<Text>
-    ensures { Gives (λ t. t) (opened.now.place + 1)
+    ensures { GivesAt (λ t. t) (opened.now.place + 1)
         (or_fault (find_attribute expected.now opened.now.attributes.now)
         (lacking opened.now.place opened.now.element.now.local_name expected.now))
         result }
@@ -84,7 +84,7 @@ pub fn attribute_since(
     expected: &str,
 ) -> Result<Option<Text>, AllocError>
     ensures { IfOk result (λ o. o
-        ≡ known since opened.now.version (find_attribute expected.now opened.now.attributes.now)) }
+        ≡ known_since since opened.now.version (find_attribute expected.now opened.now.attributes.now)) }
 {
     if since.is_known_to(opened.version) {
         attribute_or_none(opened.alloc, opened.attributes, expected)
@@ -115,7 +115,7 @@ pub fn last_attribute(
 
 /// What was read of a child. `RequiredDataMissing` at the element's end where the child isn't there.
 pub fn child_or_error<T: Drop>(closed: &End<'_>, child: Option<T>, expected: &str) -> Reading<T>
-    ensures { Gives (λ t. t) (closed.now.place + 1)
+    ensures { GivesAt (λ t. t) (closed.now.place + 1)
         (or_fault child (lacking closed.now.place closed.now.element.now.local_name expected.now))
         result }
 {

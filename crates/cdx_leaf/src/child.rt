@@ -7,7 +7,7 @@ ghost use Rattle.cdx_events.specs.declared.event.EventKind.TheVariants as kinds;
 ghost use Rattle.cdx_schema.specs.Faults.{unexpected};
 ghost use Rattle.cdx_leaf.specs.declared.taken.Taken.TheVariants as answers;
 ghost use Rattle.cdx_leaf.specs.Fault.{Refused};
-ghost use Rattle.cdx_leaf.specs.Reading.{IsAt, At};
+ghost use Rattle.cdx_leaf.specs.Reading.{IsAt, WithinElement};
 ghost use Rattle.cdx_leaf.specs.NextChild.{Meets, Leaves};
 
 use crate::error::{Reading, refuse};
@@ -27,7 +27,7 @@ pub(crate) fn next_child<'a>(
 ) -> Reading<Option<Start<'a>>>
     requires { IsAt reader.old opened.now.element.now }
     ensures meets { (nodes : Nodes) (rest : List XmlEvent)
-        → At reader.old opened.now.element.now nodes rest
+        → WithinElement reader.old opened.now.element.now nodes rest
         → Meets rule reader.old reader.new opened.now.element.now nodes rest result }
     ensures version { IfOk result
         (λ o. IfSome o (λ child. child.version ≡ opened.now.version)) }

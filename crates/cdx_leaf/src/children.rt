@@ -8,8 +8,8 @@ ghost use Rattle.cdx_events.specs.Nodes.{Nodes};
 ghost use Rattle.cdx_events.specs.declared.event.XmlEvent.{XmlEvent};
 ghost use Rattle.std.specs.Prelude.{List};
 ghost use Rattle.cdx_schema.specs.Depth.{Depth};
-ghost use Rattle.cdx_leaf.specs.Reading.{IsAt, IsIn, At, after, Reads};
-ghost use Rattle.cdx_leaf.specs.Each.{each, plan_step};
+ghost use Rattle.cdx_leaf.specs.Reading.{IsAt, IsIn, WithinElement, behind_end, Reads};
+ghost use Rattle.cdx_leaf.specs.Each.{each_node, plan_step};
 ghost use Rattle.cdx_leaf.specs.Begun.{ReadsBegun};
 
 use crate::child::{after_child, next_child};
@@ -63,9 +63,9 @@ fn read_children<R: Children>(
 ) -> Reading<()>
     requires { IsAt reader.old opened.now.element.now }
     ensures { (d : Depth) (nodes : Nodes) (rest : List XmlEvent)
-        → At reader.old opened.now.element.now nodes rest
-        → Reads (λ _. R.slots target.new) reader.old reader.new (after reader.old nodes rest)
-        (each (plan_step (R.plan target.old) opened.now.version (R.depth target.old d)
+        → WithinElement reader.old opened.now.element.now nodes rest
+        → Reads (λ _. R.slots target.new) reader.old reader.new (behind_end reader.old nodes rest)
+        (each_node (plan_step (R.plan target.old) opened.now.version (R.depth target.old d)
         opened.now.element.now.local_name) nodes reader.old.place (R.slots target.old))
         result }
 {

@@ -54,7 +54,7 @@ pub trait FromXml: Kinded + Drop {
 
 /// What is read from a whole document, as its kind.
 pub trait FromXmlDocument: Kinded + Drop {
-    ghost use Rattle.cdx_leaf.specs.Reading.{ReadsDocument};
+    ghost use Rattle.cdx_leaf.specs.Reading.{ReadsRoot};
 
     /// What the document denotes in `version`, or its first fault. Places are those of the events.
     fn read_xml_document(
@@ -62,5 +62,5 @@ pub trait FromXmlDocument: Kinded + Drop {
         events: &Events,
         version: SpecVersion,
     ) -> Result<Self, XmlReadError>
-        ensures { ReadsDocument Self.tree events.now.list version Self.kind result };
+        ensures { ReadsRoot Self.tree events.now.list version Self.kind result };
 }

@@ -65,6 +65,30 @@ pub fn read_items<X: FromXml>(
     Ok(listing.items)
 }
 
+// The items of the element that the reader is in, as above: its attributes aren't asked for.
+fn read_list_by_rule<X: FromXml>(
+    alloc: Global,
+    reader: &mut EventReader<'_>,
+    version: SpecVersion,
+    element: &OwnedName,
+    inner: &str,
+    rule: Rule,
+) -> Reading<List<X>>
+    requires { IsIn reader.old element.now }
+    ensures { ReadsList X.tree X.kind X.depth reader.old reader.new version element.now
+        inner.now rule result }
+{
+    let none = List::new(alloc);
+    let opened = Start {
+        alloc,
+        place: reader.place() - 1,
+        version,
+        element,
+        attributes: &none,
+    };
+    read_items(reader, &opened, inner, rule)
+}
+
 /// The items of the element in their order: each child is named `inner`. Any other event is unexpected at its place.
 pub fn read_list_tag<X: FromXml>(
     alloc: Global,
@@ -77,15 +101,7 @@ pub fn read_list_tag<X: FromXml>(
     ensures { ReadsList X.tree X.kind X.depth reader.old reader.new version element.now
         inner.now rules.Strict result }
 {
-    let none = List::new(alloc);
-    let opened = Start {
-        alloc,
-        place: reader.place() - 1,
-        version,
-        element,
-        attributes: &none,
-    };
-    read_items(reader, &opened, inner, Rule::Strict)
+    read_list_by_rule(alloc, reader, version, element, inner, Rule::Strict)
 }
 
 /// The items of the element in their order: the children named `inner`. Children of other names are skipped whole; a
@@ -101,13 +117,5 @@ pub fn read_lax_validation_list_tag<X: FromXml>(
     ensures { ReadsList X.tree X.kind X.depth reader.old reader.new version element.now
         inner.now rules.Lax result }
 {
-    let none = List::new(alloc);
-    let opened = Start {
-        alloc,
-        place: reader.place() - 1,
-        version,
-        element,
-        attributes: &none,
-    };
-    read_items(reader, &opened, inner, Rule::Lax)
+    read_list_by_rule(alloc, reader, version, element, inner, Rule::Lax)
 }

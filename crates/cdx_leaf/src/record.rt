@@ -10,7 +10,7 @@ use crate::error::Reading;
 use crate::from_xml::FromXml;
 use crate::start::{End, Start};
 use cdx_events::{EventReader, List, Text};
-use cdx_models::{SpecVersion, XmlReadError};
+use cdx_models::SpecVersion;
 use cdx_schema::Record;
 
 /// A record that is read child by child, by its rows of the schema.
@@ -20,21 +20,21 @@ pub trait XmlRecord: Record + Drop {
     ghost use Rattle.cdx_schema.specs.Table.{rows};
     ghost use Rattle.cdx_schema.specs.XmlReading.{content_from, record_plan, ended};
     ghost use Rattle.cdx_schema.specs.XmlReading as xml;
-    ghost use Rattle.cdx_leaf.specs.Attribute.{Gives, start_read};
+    ghost use Rattle.cdx_leaf.specs.Attribute.{GivesAt, start_read};
 
     /// The record while its children are read.
     type Part: Children;
 
     /// What the attributes give, or the fault of the first row that is lacking or that no value can be read from, at
     /// the element's start.
-    fn begin(opened: &Start<'_>) -> Result<Self::Part, XmlReadError>
-        ensures { Gives Self.Part.slots (opened.now.place + 1)
+    fn begin(opened: &Start<'_>) -> Reading<Self::Part>
+        ensures { GivesAt Self.Part.slots (opened.now.place + 1)
             (start_read Self.name opened.now.version opened.now.element.now.local_name
             opened.now.attributes.now opened.now.place) result };
 
     /// The record that was read, or the fault of the first required child that is missing, at the element's end.
-    fn finish(closed: &End<'_>, part: Self::Part) -> Result<Self, XmlReadError>
-        ensures { Gives (λ x. fields_of (Self.tree x)) (closed.now.place + 1)
+    fn finish(closed: &End<'_>, part: Self::Part) -> Reading<Self>
+        ensures { GivesAt (λ x. fields_of (Self.tree x)) (closed.now.place + 1)
             (ended (rows Self.name) (Self.Part.slots part) closed.now.version
             closed.now.element.now.local_name closed.now.place) result };
 
@@ -87,7 +87,7 @@ pub trait TextRecord: Record + Drop {
     ghost use Rattle.cdx_models.specs.Trees.{Trees, fields, with_field, text};
     ghost use Rattle.cdx_schema.specs.Table.{rows};
     ghost use Rattle.cdx_schema.specs.XmlReading.{any_text, content_from, ended};
-    ghost use Rattle.cdx_leaf.specs.Attribute.{Gives, start_read};
+    ghost use Rattle.cdx_leaf.specs.Attribute.{GivesAt, start_read};
 
     /// What the attributes give.
     type Start: Drop;
@@ -99,8 +99,8 @@ pub trait TextRecord: Record + Drop {
     ghost at: { ℕ };
 
     /// What the attributes give, or the fault of the first row that is lacking, at the element's start.
-    fn begin(opened: &Start<'_>) -> Result<Self::Start, XmlReadError>
-        ensures { Gives start (opened.now.place + 1)
+    fn begin(opened: &Start<'_>) -> Reading<Self::Start>
+        ensures { GivesAt start (opened.now.place + 1)
             (start_read Self.name opened.now.version opened.now.element.now.local_name
             opened.now.attributes.now opened.now.place) result };
 

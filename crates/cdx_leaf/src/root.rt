@@ -1,6 +1,6 @@
 //! The root of a document.
 
-ghost use Rattle.cdx_leaf.specs.Reading.{IsIn, IsAt, ReadsDocument};
+ghost use Rattle.cdx_leaf.specs.Reading.{IsIn, IsAt, ReadsRoot};
 ghost use Rattle.cdx_leaf.specs.Roots.{IsRootOf};
 
 use crate::from_xml::FromXml;
@@ -54,7 +54,7 @@ pub fn read_root<X: FromXml>(
     events: &Events,
     version: SpecVersion,
 ) -> Result<X, XmlReadError>
-    ensures { ReadsDocument X.tree events.now.list version X.kind result }
+    ensures { ReadsRoot X.tree events.now.list version X.kind result }
 {
     let Root {
         mut reader,

@@ -9,7 +9,8 @@ use std::alloc::Global;
 pub struct Start<'a> {
     /// Where memory comes from.
     pub alloc: Global,
-    /// The place of the start.
+    /// The place of the start, which the faults of its attributes name. What reads on with a reader goes by the reader's
+    /// own place.
     pub place: usize,
     /// The version.
     pub version: SpecVersion,

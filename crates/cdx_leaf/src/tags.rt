@@ -7,7 +7,7 @@ ghost use Rattle.cdx_events.specs.Nodes.{Nodes};
 ghost use Rattle.cdx_models.specs.Trees.{number, boolean};
 ghost use Rattle.cdx_schema.specs.XmlTexts.{number_of};
 ghost use Rattle.cdx_schema.specs.XmlReading.{simple_text, exact_text, after_text, number_alone, number_in};
-ghost use Rattle.cdx_leaf.specs.Reading.{At, IsAt, Reads, ReadsRest, after};
+ghost use Rattle.cdx_leaf.specs.Reading.{WithinElement, IsAt, Reads, ReadsRest, behind_end};
 ghost use Rattle.cdx_leaf.specs.Tags.{text_or_none, boolean_in, event_text, event_text_or_end, ReadsNext};
 
 use crate::error::{invalid_parse_error, refuse};
@@ -180,8 +180,8 @@ fn number_after(
 ) -> Result<u32, XmlReadError>
     requires at { IsAt reader.old element.now }
     requires place { reader.old.place ≡ suc place }
-    ensures { (nodes : Nodes) (rest : List XmlEvent) → At reader.old element.now nodes rest
-        → Reads number reader.old reader.new (after reader.old nodes rest)
+    ensures { (nodes : Nodes) (rest : List XmlEvent) → WithinElement reader.old element.now nodes rest
+        → Reads number reader.old reader.new (behind_end reader.old nodes rest)
         (number_alone (number_of (trim text.now)) text.now nodes element.now.local_name place)
         result }
 {
@@ -224,8 +224,8 @@ pub fn read_u32_tag(
 /// Moves past the element's end, whatever stands in it and however deep. It takes no memory.
 pub fn read_lax_validation_tag(reader: &mut EventReader<'_>, element: &OwnedName)
     requires { IsAt reader.old element.now }
-    ensures { (nodes : Nodes) (rest : List XmlEvent) → At reader.old element.now nodes rest
-        → reader.new ≡ after reader.old nodes rest }
+    ensures { (nodes : Nodes) (rest : List XmlEvent) → WithinElement reader.old element.now nodes rest
+        → reader.new ≡ behind_end reader.old nodes rest }
 {
     let mut depth: usize = 0;
     while let Some(event) = reader.next() {

@@ -4,7 +4,7 @@ ghost use Rattle.std.specs.Prelude.{◌≡◌, ◌+◌};
 ghost use Rattle.cdx_models.specs.Trees.{present};
 ghost use Rattle.cdx_schema.specs.XmlReading.{find_attribute};
 ghost use Rattle.cdx_schema.specs.XmlTexts.{boolean_of, number_of};
-ghost use Rattle.cdx_leaf.specs.Attribute.{Gives};
+ghost use Rattle.cdx_leaf.specs.Attribute.{GivesAt};
 ghost use Rattle.cdx_leaf.specs.Numbers.{value_attribute};
 
 use crate::attribute::optional_attribute;
@@ -18,7 +18,7 @@ pub trait FromXmlType: HasTree + Drop {
     ghost use Rattle.std.specs.Prelude.{◌≡◌, ◌+◌};
     ghost use Rattle.cdx_schema.specs.Kinds.{Kind};
     ghost use Rattle.cdx_schema.specs.XmlTexts.{type_name};
-    ghost use Rattle.cdx_leaf.specs.Attribute.{Gives};
+    ghost use Rattle.cdx_leaf.specs.Attribute.{GivesAt};
     ghost use Rattle.cdx_leaf.specs.Numbers.{value_read};
 
     /// The kind as which a text is read.
@@ -36,7 +36,7 @@ pub trait FromXmlType: HasTree + Drop {
         element: &str,
         value: &str,
     ) -> Result<Self, XmlReadError>
-        ensures { Gives Self.tree (place + 1) (value_read value_kind place element.now value.now)
+        ensures { GivesAt Self.tree (place + 1) (value_read value_kind place element.now value.now)
             result };
 }
 
@@ -114,7 +114,7 @@ impl FromXmlType for u32 {
 /// The value of the first attribute of that local name, where there is one. A text that is no value is refused at the
 /// start.
 pub fn attribute_value<T: FromXmlType>(opened: &Start<'_>, expected: &str) -> Reading<Option<T>>
-    ensures { Gives (present T.tree) (opened.now.place + 1)
+    ensures { GivesAt (present T.tree) (opened.now.place + 1)
         (value_attribute T.value_kind opened.now.place expected.now
         (find_attribute expected.now opened.now.attributes.now))
         result }

@@ -23,7 +23,7 @@ use Rattle.cdx_schema.specs.Table.{rows}
 use Rattle.cdx_schema.specs.Depth.{Depth}
 use Rattle.cdx_schema.specs.Results.{◌>>=◌}
 use Rattle.cdx_schema.specs.Faults.{to_member, missing, JsonFault, under, here}
-use Rattle.cdx_schema.specs.JsonReading.{jread, seen, as_found, Reading, Object, Found, nothing, a_null, found, id_read, name_read, choice_read, license_read, is_lone_license}
+use Rattle.cdx_schema.specs.JsonReading.{jread, seen, as_found, ValueReading, Object, Found, nothing, a_null, found, id_read, name_read, choice_read, license_read, is_lone_license}
 use Rattle.cdx_schema.specs.JsonSpelling.{jspell}
 use Rattle.cdx_schema.specs.Keeping.{kept, keep}
 use Rattle.cdx_models.specs.declared.errors.JsonReadError.{JsonReadError}
@@ -152,7 +152,7 @@ flipped a b = by (bytes_eq a b) (bytes_eq b a) refl refl
     by true false h k = sym ((bytes_eq-Decides b a).1 (sym ((bytes_eq-Decides a b).0 h))) ∙ k
     by false true h k = sym h ∙ (bytes_eq-Decides a b).1 (sym ((bytes_eq-Decides b a).0 k))
 
-found_stands : (x : Data) (read : Reading) → stands (as_found x read) ≡ true
+found_stands : (x : Data) (read : ValueReading) → stands (as_found x read) ≡ true
 found_stands json.null read = refl
 found_stands (json.boolean b) read = refl
 found_stands (json.number n) read = refl
@@ -164,7 +164,7 @@ seen_alone : (l : List ℕ) (x : Data) (n : List ℕ) → stands (seen (json.mem
 unfolding jread
 seen_alone l x n = by (slice_cmp nat_cmp n l) (jread x) ∙ is_eq-slice_cmp n l ∙ flipped n l
   where
-    by : (o : Ordering) (read : Reading) → stands (match_ordering o nothing (as_found x read) nothing) ≡ is_eq o
+    by : (o : Ordering) (read : ValueReading) → stands (match_ordering o nothing (as_found x read) nothing) ≡ is_eq o
     by Less read = refl
     by Equal read = found_stands x read
     by Greater read = refl

@@ -16,7 +16,7 @@ use cdx_leaf::{
     attribute_since, child_or_error, read_exact_content, read_record, read_text_record,
     refuse_missing, take_into, take_one,
 };
-use cdx_models::{SpecVersion, XmlReadError};
+use cdx_models::SpecVersion;
 
 /// An `id` or a `name`. An element of another name lacks `id or name`, at its start.
 impl FromXml for LicenseIdentifier {
@@ -87,7 +87,7 @@ impl XmlRecord for License {
 
     ghost by_rows = { λ part. (refl, refl) };
 
-    fn begin(opened: &Start<'_>) -> Result<LicensePart, XmlReadError> {
+    fn begin(opened: &Start<'_>) -> Reading<LicensePart> {
         Ok(LicensePart {
             bom_ref: attribute_since(opened, SpecVersion::V1_5, "bom-ref")?,
             license_identifier: None,
@@ -97,7 +97,7 @@ impl XmlRecord for License {
         })
     }
 
-    fn finish(closed: &End<'_>, part: LicensePart) -> Result<License, XmlReadError> {
+    fn finish(closed: &End<'_>, part: LicensePart) -> Reading<License> {
         let license_identifier = child_or_error(closed, part.license_identifier, "id or name")?;
         Ok(License {
             bom_ref: part.bom_ref,
@@ -120,7 +120,7 @@ impl TextRecord for Expression {
 
     ghost whole = { expression_whole };
 
-    fn begin(opened: &Start<'_>) -> Result<Option<Text>, XmlReadError> {
+    fn begin(opened: &Start<'_>) -> Reading<Option<Text>> {
         Ok(attribute_or_none(opened.alloc, opened.attributes, "bom-ref")?)
     }
 

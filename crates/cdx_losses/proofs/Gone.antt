@@ -58,12 +58,12 @@ unchanged u k (fields m ts) h = fixed_record u k m ts h
 trip_reason : (u : SpecVersion) (n : ℕ) (k : Kind) (x : Spelled) (s : String) (t : Tree) → is_fixed k ≡ true → is_absent t ≡ false → field_reason u n (table.row k x s) t ≡ if_so (is_tripped n (table.row k x s) t) Xml
 trip_reason u n k x s t f h = reason_there u n (table.row k x s) t h ∙ ap (λ o. or_else o (if_so (is_tripped n (table.row k x s) t) Xml)) (unchanged u k t f)
 
-listed_tripped : (n : ℕ) (l : Lists) (s : String) (t : Tree) → is_tripped n (table.each l s) t ≡ after_a_trip n (is_left_out t)
+listed_tripped : (n : ℕ) (l : Lists) (s : String) (t : Tree) → is_tripped n (table.every l s) t ≡ after_a_trip n (is_left_out t)
 listed_tripped zero l s t = refl
 listed_tripped (suc zero) l s t = refl
 listed_tripped (suc (suc n)) l s t = or_end (is_left_out t)
 
-pub listed_reason : (u : SpecVersion) (n : ℕ) (l : Lists) (s : String) (t : Tree) → is_absent t ≡ false → field_reason u n (table.each l s) t ≡ if_so (after_a_trip n (is_left_out t)) Xml
+pub listed_reason : (u : SpecVersion) (n : ℕ) (l : Lists) (s : String) (t : Tree) → is_absent t ≡ false → field_reason u n (table.every l s) t ≡ if_so (after_a_trip n (is_left_out t)) Xml
 listed_reason u n l s t h = trip_reason u n (a_list l) (children (codes s)) s t refl h ∙ ap (λ b. if_so b Xml) (listed_tripped n l s t)
 
 filled_gone : (t : Tree) → is_absent t ≡ false → is_absent (if is_hollow t then absent else bare t) ≡ is_hollow t

@@ -39,7 +39,7 @@ use Rattle.cdx_service.specs.Laws.{service_tree-out, services_tree-out}
 use Rattle.cdx_nest.specs.Trees.{object_tree, tools_tree, metadata_tree}
 use Rattle.cdx_nest.specs.declared.metadata.Metadata.{Metadata}
 use Rattle.cdx_bom.specs.declared.bom.Bom.{Bom}
-use Rattle.cdx_bom.specs.Trees.{bom_tree, inventory, relations}
+use Rattle.cdx_bom.specs.Trees.{bom_tree, inventory_groups, relations}
 use Rattle.cdx_bom.proofs.Names.{lacks}
 use Rattle.cdx_bom.proofs.Leaves.{texts_lack, row_lacks, list_lacks, text_lacks, number_lacks, boolean_lacks, mime_type_lacks, cpe_lacks, urn_lacks}
 use Rattle.cdx_schema.specs.Kinds.{properties, licenses, compositions, vulnerabilities, patches, resolved, components, services, authors, external_references, a_text, a_list, a_record, a_data, a_tools, a_bill, Row}
@@ -267,7 +267,7 @@ pub pedigree_lost : (u : SpecVersion) (n : ℕ) (p : Pedigree) → lost u n (ped
 unfolding lost
 pedigree_lost u n p = ap (λ t. lost u n t (a_record pedigree)) (pedigree_tree-out p) ∙ pedigree_level u n components_tree (out-Pedigree p)
 
-pub components_lost : (u : SpecVersion) (n : ℕ) (cs : Components) → lost u n (components_tree cs) (a_list components) ≡ items_lost u n (each component_tree (nested.listed cs)) (a_record component) 0
+pub components_lost : (u : SpecVersion) (n : ℕ) (cs : Components) → lost u n (components_tree cs) (a_list components) ≡ items_lost u n (each component_tree (nested.listed_components cs)) (a_record component) 0
 unfolding lost list
 components_lost u n cs = ap (λ t. lost u n t (a_list components)) (components_tree-out cs)
 
@@ -321,5 +321,5 @@ pub bill_lost : (u : SpecVersion) (n : ℕ) (b : Bom) → lost u n (bom_tree b) 
     ++ (row_lost u n (of (a_list services) "services") (present services_tree b.services) ++ (row_lost u n (of (a_list compositions) "compositions") (present compositions_tree b.compositions)
     ++ (row_lost u n properties_row (present properties_tree b.properties) ++ (row_lost u n signature_row (present signature_tree b.signature) ++ [])))))
 unfolding lost lacks rows
-bill_lost u n b = rows_spared u n (inventory b ⧺ relations b) (rows bill)
+bill_lost u n b = rows_spared u n (inventory_groups b ⧺ relations b) (rows bill)
     (rw (maybe urn_tree (urn_lacks is_losing) b.serial_number, maybe references_tree references_spared b.external_references, maybe dependencies_tree dependencies_spared b.dependencies) refl)

@@ -17,12 +17,12 @@ use Rattle.cdx_bom.specs.declared.bom.Bom.{Bom}
 use Rattle.cdx_bom.specs.declared.doc.RoadError.{RoadError}
 use Rattle.cdx_bom.specs.declared.doc.RoadError.TheVariants as error
 use Rattle.cdx_bom.specs.Docs.{Refuses, refusal_of}
-use Rattle.cdx_bom.specs.Hops.{Denotes}
+use Rattle.cdx_bom.specs.Hops.{DenotesBill}
 use Rattle.cdx_request.specs.Requests.{Misread, not_json, shape, unbalanced, Request, request_in}
 use Rattle.cdx_request.specs.Replies.{Reply, reply, line_of, no_request, limit, reply_to_misread}
 use Rattle.cdx_request.specs.Served.{IsValid}
 use Rattle.cdx_request.proofs.AnswerFloats.{put_clear}
-use Rattle.cdx_tool.specs.Reads.{Reads, IsRequest}
+use Rattle.cdx_tool.specs.Reads.{ReadsOwed, IsRequest}
 use Rattle.cdx_tool.specs.declared.answer.Answer.{Answer}
 use Rattle.cdx_tool.specs.declared.request.RequestError.{RequestError}
 use Rattle.cdx_tool.specs.declared.request.RequestError.TheVariants as misreading
@@ -33,7 +33,7 @@ use Rattle.cdx_ask.specs.Asks.{Lack, misread, billed, Lacks, reply_to_bill}
 use Rattle.cdx_ask.specs.declared.NoBill.TheVariants as lack
 use Rattle.cdx_ways.specs.Ways.{At}
 use Rattle.cdx_losses.specs.Answers.{reason_word, loss_value, losses_answer}
-use Rattle.cdx_losses.specs.Report.{if_fit, carried, answer_to, reply_to_request, owed}
+use Rattle.cdx_losses.specs.Report.{if_fit, carried, answer_to, losses_reply, owed}
 use Rattle.cdx_losses.specs.Told.{told, all_told}
 use Rattle.cdx_losses.specs.declared.loss.Loss.{Loss}
 use Rattle.cdx_losses.specs.declared.loss.Reason.{Reason}
@@ -66,8 +66,8 @@ unfitted hops b (error.Xml f) unfit h = (version_missing, h, rw unfit refl)
 unfitted hops b (error.Bom f) unfit h = (version_missing, h, rw unfit refl)
 
 -- what fits of the bill that is denoted is what is carried
-pub carried_on : (hops : List Hop) (denoted : Result Tree Refusal) (b : Tree) (r : Result Bom RoadError) → denoted ≡ Ok b → Denotes (if_fit hops b) r → Denotes (denoted >>= λ b. if_fit hops b) r
-carried_on hops denoted b r is h = subst (λ (d : Result Tree Refusal). Denotes (d >>= λ b. if_fit hops b) r) (sym is) h
+pub carried_on : (hops : List Hop) (denoted : Result Tree Refusal) (b : Tree) (r : Result Bom RoadError) → denoted ≡ Ok b → DenotesBill (if_fit hops b) r → DenotesBill (denoted >>= λ b. if_fit hops b) r
+carried_on hops denoted b r is h = subst (λ (d : Result Tree Refusal). DenotesBill (d >>= λ b. if_fit hops b) r) (sym is) h
 
 -- ---- the answers
 
@@ -79,7 +79,7 @@ lacks owed (error.Xml f) h = (h.0, h.1, ap billed h.2)
 lacks owed (error.Bom f) h = (h.0, h.1, ap billed h.2)
 
 -- what is carried along these hops is what is asked for
-pub same_bill : (q : Request) (v : SpecVersion) (hops : List Hop) → v ≡ q.from → hops ≡ q.hops → reply_to_bill (answer_to hops) (billed (carried q.doc v hops)) ≡ reply_to_request (Ok q)
+pub same_bill : (q : Request) (v : SpecVersion) (hops : List Hop) → v ≡ q.from → hops ≡ q.hops → reply_to_bill (answer_to hops) (billed (carried q.doc v hops)) ≡ losses_reply (Ok q)
 same_bill q v hops i j = ap (λ (u : SpecVersion). reply_to_bill (answer_to hops) (billed (carried q.doc u hops))) i ∙ ap (λ (hs : List Hop). reply_to_bill (answer_to hs) (billed (carried q.doc q.from hs))) j
 
 pub bill_reply : (hops : List Hop) (owed : Result Tree Refusal) (b : Tree) → owed ≡ Ok b → reply 0 (answer_to hops b) ≡ reply_to_bill (answer_to hops) (billed owed)
@@ -94,11 +94,11 @@ abbrev pub answer_in : Result Request Misread → Tree → Data
 answer_in (Ok q) = answer_to q.hops
 answer_in (Err e) = answer_to []
 
-pub reply_in : (o : Result Request Misread) → reply_to_bill (answer_in o) (asked_for o) ≡ reply_to_request o
+pub reply_in : (o : Result Request Misread) → reply_to_bill (answer_in o) (asked_for o) ≡ losses_reply o
 reply_in (Ok q) = refl
 reply_in (Err e) = refl
 
-pub misreads : (o : Result Request Misread) (e : RequestError) → Reads IsRequest o (Err e) → Lacks (asked_for o) (lack.Misread e)
+pub misreads : (o : Result Request Misread) (e : RequestError) → ReadsOwed IsRequest o (Err e) → Lacks (asked_for o) (lack.Misread e)
 misreads o misreading.Shape h = ap asked_for h
 misreads o (misreading.Unbalanced place) h = ap asked_for h
 misreads o (misreading.Memory m) h = tt
@@ -114,7 +114,7 @@ carried_settled : (f : Tree → Data) (r : Result Tree Refusal) → IsSettled (r
 carried_settled f (Ok b) = inl refl
 carried_settled f (Err r) = inr (inl refl)
 
-request_settled : (r : Result Request Misread) → IsSettled (reply_to_request r).status
+request_settled : (r : Result Request Misread) → IsSettled (losses_reply r).status
 request_settled (Ok q) = carried_settled (answer_to q.hops) (carried q.doc q.from q.hops)
 request_settled (Err e) = misread_settled e
 
@@ -146,7 +146,7 @@ fits_hops hops (Ok c) b h = by (fits_all hops c) refl h
     by true e i = let same : c ≡ b = cc in (i, subst (λ (x : Tree). fits_all hops x ≡ true) same e)
     by false e i = absurd cc
 
-requested : (r : Result Request Misread) → (reply_to_request r).status ≡ 0 → (q : Request) × (r ≡ Ok q) × ((v : IsValid q) × ((reply_to_request r).text ≡ line_of (answer_to q.hops v.the_bill)))
+requested : (r : Result Request Misread) → (losses_reply r).status ≡ 0 → (q : Request) × (r ≡ Ok q) × ((v : IsValid q) × ((losses_reply r).text ≡ line_of (answer_to q.hops v.the_bill)))
 requested (Ok q) h =
     let c = served_bill (answer_to q.hops) (carried q.doc q.from q.hops) h in
     let f = fits_hops q.hops (denotes q.doc q.from) c.0 c.1 in

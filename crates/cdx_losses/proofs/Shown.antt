@@ -14,7 +14,7 @@ use Rattle.cdx_models.specs.Same.{same}
 use Rattle.cdx_schema.specs.Kinds.{a_bill}
 use Rattle.cdx_schema.specs.JsonReading.{json_denotes}
 use Rattle.cdx_schema.specs.XmlReading.{xml_denotes}
-use Rattle.cdx_schema.specs.Trips.{in_json, in_xml, Hop, settled, after, last_of}
+use Rattle.cdx_schema.specs.Trips.{in_json, in_xml, Hop, settled, after_road, last_of}
 use Rattle.cdx_ways.specs.Ways.{found}
 use Rattle.cdx_losses.specs.Losses.{lost, taken, struck, struck_in}
 use Rattle.cdx_losses.specs.Laws.{are_apart}
@@ -54,7 +54,7 @@ holds (Some b) f = f b
 
 -- Whether a bill, less what a road takes, is the same as after it.
 abbrev pub are_struck_well : Hop → List Hop → Option Tree → Bool
-are_struck_well h hs o = holds o (λ b. same (settled (struck b (taken b (h ∷ hs)) (last_of h.version hs)) a_bill) (settled (after b h hs) a_bill))
+are_struck_well h hs o = holds o (λ b. same (settled (struck b (taken b (h ∷ hs)) (last_of h.version hs)) a_bill) (settled (after_road b h hs) a_bill))
 
 -- Whether each entry leads to something, and none lies below another.
 abbrev pub are_found : List Hop → Option Tree → Bool

@@ -25,7 +25,7 @@ use Rattle.cdx_losses.specs.declared.road.Road.{Road}
 use Rattle.cdx_losses.specs.declared.walk.Walk.{Walk}
 use Rattle.cdx_losses.specs.Losses.{changed_by, is_tripped, if_so, field_reason, item_reason, entry_or, lost, items_lost}
 use Rattle.cdx_losses.specs.Told.{told, all_told}
-use Rattle.cdx_losses.specs.Walks.{below, Adds, value_lost}
+use Rattle.cdx_losses.specs.Walks.{below, AddsLosses, value_lost}
 use Rattle.cdx_losses.proofs.Spared.{is_lasting, is_always, row_lost, reason_there, first_known, lasting_stays, version_reason, no_field_reason, no_item_reason, not_skipped, spared_unchanged, nothing_lost}
 use Rattle.cdx_losses.proofs.Levels.{Spared}
 
@@ -39,26 +39,26 @@ below_step : (p : List Step) (s : Step) (xs : Entries) → below (p ++ s ∷ [])
 below_step p s [] = refl
 below_step p s (x ∷ xs) = ap (λ q. (q, x.1) ∷ below (p ++ s ∷ []) xs) (append_assoc p (s ∷ []) x.0) ∙ ap (λ es. (p ++ s ∷ x.0, x.1) ∷ es) (below_step p s xs)
 
-pub adds_same : (xs ys : Entries) (a b : Walk) → ys ≡ xs → Adds xs a b → Adds ys a b
-adds_same xs ys a b h e = subst (λ (zs : Entries). Adds zs a b) (sym h) e
+pub adds_same : (xs ys : Entries) (a b : Walk) → ys ≡ xs → AddsLosses xs a b → AddsLosses ys a b
+adds_same xs ys a b h e = subst (λ (zs : Entries). AddsLosses zs a b) (sym h) e
 
 -- the same of the result of a last call
-pub ok_same : {T E : Type 0} (r : Result T E) (xs ys : Entries) (a b : Walk) → ys ≡ xs → OnOk r (Adds xs a b) → OnOk r (Adds ys a b)
-ok_same r xs ys a b h e = IfOk-weaker r (λ z. Adds xs a b) (λ z. Adds ys a b) (λ z f. adds_same xs ys a b h f) e
+pub ok_same : {T E : Type 0} (r : Result T E) (xs ys : Entries) (a b : Walk) → ys ≡ xs → OnOk r (AddsLosses xs a b) → OnOk r (AddsLosses ys a b)
+ok_same r xs ys a b h e = IfOk-weaker r (λ z. AddsLosses xs a b) (λ z. AddsLosses ys a b) (λ z f. adds_same xs ys a b h f) e
 
-pub adds_none : (a : Walk) → Adds [] a a
+pub adds_none : (a : Walk) → AddsLosses [] a a
 adds_none a = (refl, sym (append-nil (all_told a.losses)))
 
-pub adds_both : (xs ys : Entries) (a b c : Walk) → Adds xs a b → Adds ys b c → Adds (xs ++ ys) a c
+pub adds_both : (xs ys : Entries) (a b c : Walk) → AddsLosses xs a b → AddsLosses ys b c → AddsLosses (xs ++ ys) a c
 adds_both xs ys a b c e f = (
   f.0 ∙ e.0,
   f.1 ∙ (ap (λ z. all_told b.losses ++ below z ys) e.0 ∙ (ap (λ z. z ++ below a.path.items ys) e.1 ∙ (append_assoc (all_told a.losses) (below a.path.items xs) (below a.path.items ys) ∙ ap (λ z. all_told a.losses ++ z) (sym (below_append a.path.items xs ys))))),
 )
 
-pub adds_end : (xs : Entries) (a b : Walk) → Adds xs a b → Adds (xs ++ []) a b
+pub adds_end : (xs : Entries) (a b : Walk) → AddsLosses xs a b → AddsLosses (xs ++ []) a b
 adds_end xs a b e = adds_same xs (xs ++ []) a b (append-nil xs) e
 
-pub adds_one : (why : Reason) (a b : Walk) (x : Loss) → b.path.items ≡ a.path.items → b.losses ≡ a.losses ++ x ∷ [] → told x ≡ (a.path.items, why) → Adds (([], why) ∷ []) a b
+pub adds_one : (why : Reason) (a b : Walk) (x : Loss) → b.path.items ≡ a.path.items → b.losses ≡ a.losses ++ x ∷ [] → told x ≡ (a.path.items, why) → AddsLosses (([], why) ∷ []) a b
 adds_one why a b x same is h = (same, ap all_told is ∙ (map-append told a.losses (x ∷ []) ∙ ap (λ z. all_told a.losses ++ z ∷ []) (h ∙ ap (λ q. (q, why)) (sym (append-nil a.path.items)))))
 
 -- a path that went on by a step and is cut back
@@ -66,8 +66,8 @@ cut_back : (p q r t : List Step) (s : Step) (n : ℕ) → q ≡ p ++ s ∷ [] �
 cut_back p q r t s n is same long cut = cut ∙ (ap (λ m. take m r) long ∙ (ap (take (length p)) (same ∙ is) ∙ take-append_seam p (s ∷ [])))
 
 -- What is added between a step and the way back is added behind the step: a enters at b, adds up to c, and goes back to d.
-pub adds_behind : (s : Step) (xs : Entries) (a b c d : Walk) (n : ℕ) → b.path.items ≡ a.path.items ++ s ∷ [] → b.losses ≡ a.losses → Adds xs b c
-    → n ≡ length a.path.items → d.path.items ≡ take n c.path.items → d.losses ≡ c.losses → Adds (behind_step s xs) a d
+pub adds_behind : (s : Step) (xs : Entries) (a b c d : Walk) (n : ℕ) → b.path.items ≡ a.path.items ++ s ∷ [] → b.losses ≡ a.losses → AddsLosses xs b c
+    → n ≡ length a.path.items → d.path.items ≡ take n c.path.items → d.losses ≡ c.losses → AddsLosses (behind_step s xs) a d
 adds_behind s xs a b c d n is same e long cut kept = (
   cut_back a.path.items b.path.items c.path.items d.path.items s n is e.0 long cut,
   ap all_told kept ∙ (e.1 ∙ (ap (λ z. all_told z ++ below b.path.items xs) same ∙ ap (λ z. all_told a.losses ++ z) (ap (λ z. below z xs) is ∙ below_step a.path.items s xs))),
@@ -78,7 +78,7 @@ whole [] = refl
 whole (x ∷ xs) = ap (λ ys. x ∷ ys) (whole xs)
 
 -- what is added from the root on, where nothing was found before
-pub adds_root : (xs : Entries) (a b : Walk) → a.path.items ≡ [] → a.losses ≡ [] → Adds xs a b → all_told b.losses ≡ xs
+pub adds_root : (xs : Entries) (a b : Walk) → a.path.items ≡ [] → a.losses ≡ [] → AddsLosses xs a b → all_told b.losses ≡ xs
 adds_root xs a b start empty e = e.1 ∙ (ap (λ z. all_told z ++ below a.path.items xs) empty ∙ (ap (λ z. below z xs) start ∙ whole xs))
 
 -- ---- values
@@ -93,12 +93,12 @@ unfolding lost
 absent_lost road k = ap (λ b. entry_or (if_so b Xml) []) (not_skipped road.trips absent refl)
 
 -- a member that isn't there
-pub adds_absent : {A : Type 0} (f : A → Tree) (g : Tree → Entries) (s : Step) (o : Option A) (a : Walk) → g absent ≡ [] → o ≡ None → Adds (behind_step s (g (present f o))) a a
+pub adds_absent : {A : Type 0} (f : A → Tree) (g : Tree → Entries) (s : Step) (o : Option A) (a : Walk) → g absent ≡ [] → o ≡ None → AddsLosses (behind_step s (g (present f o))) a a
 adds_absent f g s o a none is = adds_same [] (behind_step s (g (present f o))) a a (ap (λ z. behind_step s (g (present f z))) is ∙ ap (behind_step s) none) (adds_none a)
 
 -- a member that is there: a enters it at b, adds up to c, and goes back to d
-pub adds_row : {A : Type 0} (f : A → Tree) (g : Tree → Entries) (s : Step) (x : A) (o : Option A) (a b c d : Walk) (n : ℕ) → o ≡ Some x → b.path.items ≡ a.path.items ++ s ∷ [] → b.losses ≡ a.losses → Adds (g (f x)) b c
-    → n ≡ length a.path.items → d.path.items ≡ take n c.path.items → d.losses ≡ c.losses → Adds (behind_step s (g (present f o))) a d
+pub adds_row : {A : Type 0} (f : A → Tree) (g : Tree → Entries) (s : Step) (x : A) (o : Option A) (a b c d : Walk) (n : ℕ) → o ≡ Some x → b.path.items ≡ a.path.items ++ s ∷ [] → b.losses ≡ a.losses → AddsLosses (g (f x)) b c
+    → n ≡ length a.path.items → d.path.items ≡ take n c.path.items → d.losses ≡ c.losses → AddsLosses (behind_step s (g (present f o))) a d
 adds_row f g s x o a b c d n is entered same added long cut kept =
     adds_same (behind_step s (g (f x))) (behind_step s (g (present f o))) a d (ap (λ z. behind_step s (g (present f z))) is) (adds_behind s (g (f x)) a b c d n entered same added long cut kept)
 
@@ -114,7 +114,7 @@ unknown_row f u n r (Some x) s h g =
     ∙ ap (λ xs. behind_row r.json (entry_or (if_so (not (knows r.since u)) Version) xs)) (nothing_lost u n (f x) r.kind (h x))
 
 pub adds_unknown : {A : Type 0} (f : A → Tree) (u : SpecVersion) (n : ℕ) (r : Row) (s : List ℕ) (o : Option A) (why : Option Reason) (a b : Walk) → is_lasting r.xml r.need ≡ true → Spared f → ((x : A) → is_absent (f x) ≡ false)
-    → r.json ≡ kinds.member s → why ≡ if_so (is_some o && not (knows r.since u)) Version → Adds (behind_step (to_member s) (entry_or why [])) a b → Adds (row_lost u n r (present f o)) a b
+    → r.json ≡ kinds.member s → why ≡ if_so (is_some o && not (knows r.since u)) Version → AddsLosses (behind_step (to_member s) (entry_or why [])) a b → AddsLosses (row_lost u n r (present f o)) a b
 adds_unknown f u n r s o why a b l h g j is e =
     adds_same (behind_step (to_member s) (entry_or why [])) (row_lost u n r (present f o)) a b
     (unknown_row f u n r o l h g ∙ (ap (λ m. behind_row m (entry_or (if_so (is_some o && not (knows r.since u)) Version) [])) j ∙ ap (λ w. behind_step (to_member s) (entry_or w [])) (sym is))) e
@@ -133,7 +133,7 @@ value_row u n r t a p = by (is_absent t) refl
         ∙ sym (ap (λ b. or_else (changed_by u r.kind t) (if_so b Xml)) (not_skipped n t p))))
 
 pub adds_value : (road : Road) (r : Row) (s : List ℕ) (t : Tree) (a b : Walk) → is_always r ≡ true → is_passed_over t ≡ false → r.json ≡ kinds.member s
-    → Adds (behind_step (to_member s) (value_lost road t r.kind)) a b → Adds (row_lost road.version road.trips r t) a b
+    → AddsLosses (behind_step (to_member s) (value_lost road t r.kind)) a b → AddsLosses (row_lost road.version road.trips r t) a b
 adds_value road r s t a b l p j e =
     adds_same (behind_step (to_member s) (value_lost road t r.kind)) (row_lost road.version road.trips r t) a b
     (ap (λ m. behind_row m (entry_or (field_reason road.version road.trips r t) (lost road.version road.trips t r.kind))) j
@@ -141,7 +141,7 @@ adds_value road r s t a b l p j e =
 
 -- A row that no road takes whole.
 pub adds_inside : (u : SpecVersion) (n : ℕ) (r : Row) (s : List ℕ) (t : Tree) (a b : Walk) → is_always r ≡ true → changed_by u r.kind t ≡ None → r.json ≡ kinds.member s
-    → Adds (behind_step (to_member s) (lost u n t r.kind)) a b → Adds (row_lost u n r t) a b
+    → AddsLosses (behind_step (to_member s) (lost u n t r.kind)) a b → AddsLosses (row_lost u n r t) a b
 adds_inside u n r s t a b l c j e =
     adds_same (behind_step (to_member s) (lost u n t r.kind)) (row_lost u n r t) a b
     (ap (λ m. behind_row m (entry_or (field_reason u n r t) (lost u n t r.kind))) j
@@ -149,7 +149,7 @@ adds_inside u n r s t a b l c j e =
 
 -- A row for a reason, or what is taken inside it.
 pub adds_or : (u : SpecVersion) (n : ℕ) (r : Row) (s : List ℕ) (t : Tree) (why : Option Reason) (xs : Entries) (a b : Walk) → lost u n t r.kind ≡ xs → r.json ≡ kinds.member s → why ≡ field_reason u n r t
-    → Adds (behind_step (to_member s) (entry_or why xs)) a b → Adds (row_lost u n r t) a b
+    → AddsLosses (behind_step (to_member s) (entry_or why xs)) a b → AddsLosses (row_lost u n r t) a b
 adds_or u n r s t why xs a b h j is e =
     adds_same (behind_step (to_member s) (entry_or why xs)) (row_lost u n r t) a b
     (ap (λ m. behind_row m (entry_or (field_reason u n r t) (lost u n t r.kind))) j
@@ -185,7 +185,7 @@ remains_next f k road p xs i x e g whole h is a r =
 -- A round of the loop: the walk a, which stands where the loop began, enters the item at b, adds it up to c, and goes back to d.
 pub round : {X : Type 0} (f : X → Tree) (k : Kind) (road : Road) (xs : List X) (i : ℕ) (x : X) (began a b c d : Walk) (n : ℕ) (whole : Entries) → i < length xs → x ≡ get_or xs i x
     → (a.path.items ≡ began.path.items) × Remains f k road began.path.items xs i a.losses whole
-    → b.path.items ≡ a.path.items ++ to_item i ∷ [] → b.losses ≡ a.losses → Adds (value_lost road (f x) k) b c
+    → b.path.items ≡ a.path.items ++ to_item i ∷ [] → b.losses ≡ a.losses → AddsLosses (value_lost road (f x) k) b c
     → n ≡ length began.path.items → d.path.items ≡ take n c.path.items → d.losses ≡ c.losses
     → (d.path.items ≡ began.path.items) × Remains f k road began.path.items xs (i + 1) d.losses whole
 round f k road xs i x began a b c d n whole h is before entered same added long cut kept =

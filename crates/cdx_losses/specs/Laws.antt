@@ -4,7 +4,7 @@ use Rattle.std.specs.List.{list_all}
 use Rattle.cdx_models.specs.declared.errors.Step.{Step}
 use Rattle.cdx_models.specs.Trees.{Tree}
 use Rattle.cdx_schema.specs.Kinds.{a_bill}
-use Rattle.cdx_schema.specs.Trips.{IsSame, Hop, after, last_of}
+use Rattle.cdx_schema.specs.Trips.{IsSame, Hop, after_road, last_of}
 use Rattle.cdx_schema.specs.Laws.{HasBillShape}
 use Rattle.cdx_ways.specs.Ways.{begins, found}
 use Rattle.cdx_losses.specs.declared.loss.Reason.{Reason}
@@ -13,7 +13,7 @@ use Rattle.cdx_losses.specs.Losses.{taken, struck}
 -- Less what a road takes, a bill is the same as after the road.
 abbrev pub StrikesRoads : Type 0
 StrikesRoads = (b : Tree) (h : Hop) (hs : List Hop) → HasBillShape b
-    → IsSame (struck b (taken b (h ∷ hs)) (last_of h.version hs)) (after b h hs)
+    → IsSame (struck b (taken b (h ∷ hs)) (last_of h.version hs)) (after_road b h hs)
 
 -- Each entry's path leads to something that the bill holds.
 abbrev pub LeadsToLosses : Type 0

@@ -2,7 +2,7 @@
 use Rattle.std.specs.Prelude.{ℕ, zero, suc, Bool, false, codes}
 use Rattle.cdx_models.specs.Trees.{Tree, diff, source, entity, evidence, is_absent}
 use Rattle.cdx_schema.specs.Kinds.{urls, contacts, a_record, optional, filled_child, Row}
-use Rattle.cdx_schema.specs.Table.{row, each}
+use Rattle.cdx_schema.specs.Table.{row, every}
 use Rattle.cdx_schema.specs.Trips.{none_is_absent, bare}
 
 -- something that holds where there is a trip
@@ -22,10 +22,10 @@ is_left_out t = is_absent (none_is_absent optional (bare t))
 -- ---- the rows that it may leave out, as the schema has them
 
 abbrev pub urls_row : Row
-urls_row = each urls "url"
+urls_row = every urls "url"
 
 abbrev pub contacts_row : Row
-contacts_row = each contacts "contact"
+contacts_row = every contacts "contact"
 
 abbrev pub diff_row : Row
 diff_row = row (a_record diff) (filled_child (codes "diff")) "diff"

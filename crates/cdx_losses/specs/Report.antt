@@ -35,13 +35,13 @@ carried x v hops = do
 abbrev pub answer_to : List Hop → Tree → Data
 answer_to hops b = losses_answer (taken b hops)
 
-abbrev pub reply_to_request : Result Request Misread → Reply
-reply_to_request (Ok r) = reply_to_bill (answer_to r.hops) (billed (carried r.doc r.from r.hops))
-reply_to_request (Err e) = reply_to_misread e
+abbrev pub losses_reply : Result Request Misread → Reply
+losses_reply (Ok r) = reply_to_bill (answer_to r.hops) (billed (carried r.doc r.from r.hops))
+losses_reply (Err e) = reply_to_misread e
 
 -- to bytes that are no more than the limit
 abbrev pub owed : List ℕ → Reply
-owed bytes = reply_to_request (request_in bytes)
+owed bytes = losses_reply (request_in bytes)
 
 -- ---- words
 

@@ -15,8 +15,8 @@ abbrev pub below : List Step → List (At Reason) → List (At Reason)
 below p xs = map (λ x. (p ++ x.0, x.1)) xs
 
 -- The walk ends where it began, and adds what is taken below that.
-abbrev pub Adds : List (At Reason) → Walk → Walk → Type 0
-Adds xs before after = (after.path.items ≡ before.path.items) × (all_told after.losses ≡ all_told before.losses ++ below before.path.items xs)
+abbrev pub AddsLosses : List (At Reason) → Walk → Walk → Type 0
+AddsLosses xs before after = (after.path.items ≡ before.path.items) × (all_told after.losses ≡ all_told before.losses ++ below before.path.items xs)
 
 -- what a road takes of a value: it whole, or what stands inside it
 abbrev pub value_lost : Road → Tree → Kind → List (At Reason)

@@ -5,13 +5,13 @@ ghost use Rattle.serde_json.specs.View.{view};
 ghost use Rattle.cdx_schema.specs.Roads as roads;
 ghost use Rattle.cdx_bom.specs.Trees.{bom_tree};
 ghost use Rattle.cdx_bom.specs.Docs.{IsDoc, hops_of};
-ghost use Rattle.cdx_bom.specs.Hops.{Denotes};
+ghost use Rattle.cdx_bom.specs.Hops.{DenotesBill};
 ghost use Rattle.cdx_request.specs.Requests.{Request as Asked, request_of};
 ghost use Rattle.cdx_request.specs.Replies.{reply};
 ghost use Rattle.cdx_tool.specs.Reads.{IsRequest};
 ghost use Rattle.cdx_tool.specs.Shows.{reply_of};
 ghost use Rattle.cdx_losses.specs.Answers.{reason_word, losses_answer as losses_in};
-ghost use Rattle.cdx_losses.specs.Report.{if_fit as bill_if_fit, carried as bill_carried, answer_to, reply_to_request, owed};
+ghost use Rattle.cdx_losses.specs.Report.{if_fit as bill_if_fit, carried as bill_carried, answer_to, losses_reply, owed};
 ghost use Rattle.cdx_losses.specs.Told.{all_told};
 
 use crate::loss::{Loss, Reason};
@@ -73,7 +73,7 @@ fn answer_bill(alloc: Global, bill: &Bom, hops: &[Hop]) -> Result<Answer, AllocE
 
 // The bill, unless a hop's version can't hold it.
 fn if_fit(bill: Bom, hops: &[Hop]) -> Result<Bom, RoadError>
-    ensures { Denotes (bill_if_fit (hops_of hops.now) (bom_tree bill)) result }
+    ensures { DenotesBill (bill_if_fit (hops_of hops.now) (bom_tree bill)) result }
 {
     if fits_all(&bill, hops) {
         return Ok(bill);
@@ -85,7 +85,7 @@ fn if_fit(bill: Bom, hops: &[Hop]) -> Result<Bom, RoadError>
 // The bill that a road of the document along the hops carries.
 fn carried(alloc: Global, doc: Doc, from: SpecVersion, hops: &[Hop]) -> Result<Bom, RoadError>
     ensures { (x : roads.Doc) → IsDoc doc x
-        → Denotes (bill_carried x from (hops_of hops.now)) result }
+        → DenotesBill (bill_carried x from (hops_of hops.now)) result }
 {
     let bill = into_bill(alloc, doc, from)?;
     if_fit(bill, hops)
@@ -96,7 +96,7 @@ fn carried(alloc: Global, doc: Doc, from: SpecVersion, hops: &[Hop]) -> Result<B
 fn answer_request(alloc: Global, request: Request) -> Result<Answer, AllocError>
     requires { (q : Asked) × IsRequest request q }
     ensures { (q : Asked) → IsRequest request q
-        → IfOk result (λ a. reply_of a ≡ reply_to_request (Ok q)) }
+        → IfOk result (λ a. reply_of a ≡ losses_reply (Ok q)) }
 {
     let Request { from, doc, hops } = request;
     let road = hops.as_slice();
@@ -107,7 +107,7 @@ fn answer_request(alloc: Global, request: Request) -> Result<Answer, AllocError>
 }
 
 fn answer_asked(alloc: Global, value: Value) -> Result<Answer, AllocError>
-    ensures { IfOk result (λ a. reply_of a ≡ reply_to_request (request_of (view value))) }
+    ensures { IfOk result (λ a. reply_of a ≡ losses_reply (request_of (view value))) }
 {
     match take_request(alloc, value) {
         Ok(request) => answer_request(alloc, request),

@@ -10,7 +10,7 @@ ghost use Rattle.cdx_service_data.specs.Records.{service_entry, data_tree};
 ghost use Rattle.cdx_relations.specs.Records.{composition_tree, compositions_tree};
 ghost use Rattle.cdx_schema.specs.Kinds.{a_list, a_record, a_license_choice, a_data, an_entry, licenses, authors, compositions, patches, resolved};
 ghost use Rattle.cdx_losses.specs.Losses.{lost};
-ghost use Rattle.cdx_losses.specs.Walks.{Adds};
+ghost use Rattle.cdx_losses.specs.Walks.{AddsLosses};
 
 mod hollow;
 
@@ -33,7 +33,7 @@ use std::alloc::AllocError;
 
 fn lose_license(road: Road, license: &License, walk: &mut Walk) -> Result<(), AllocError>
     ensures { OnOk result
-        (Adds (lost road.version road.trips (license_tree license.now) (a_record license_record))
+        (AddsLosses (lost road.version road.trips (license_tree license.now) (a_record license_record))
         walk.old walk.new) }
 {
     walk.record_member("bom-ref", road.unknown(SpecVersion::V1_5, &license.bom_ref))?;

@@ -6,7 +6,7 @@ ghost use Rattle.cdx_schema.specs.Kinds.{Kind};
 ghost use Rattle.cdx_schema.specs.Faults.{to_member};
 ghost use Rattle.cdx_ways.specs.Ways.{behind_step};
 ghost use Rattle.cdx_losses.specs.Losses.{entry_or, items_lost};
-ghost use Rattle.cdx_losses.specs.Walks.{Adds, value_lost};
+ghost use Rattle.cdx_losses.specs.Walks.{AddsLosses, value_lost};
 
 use crate::loss::Reason;
 use crate::road::Road;
@@ -21,7 +21,7 @@ pub(crate) trait Losing {
 
     /// Adds what the road takes: the value whole, or what stands inside it. Only want of memory refuses.
     fn lose(&self, road: Road, walk: &mut Walk) -> Result<(), AllocError>
-        ensures { OnOk result (Adds (value_lost road (tree self.now) kind) walk.old walk.new) };
+        ensures { OnOk result (AddsLosses (value_lost road (tree self.now) kind) walk.old walk.new) };
 }
 
 /// What the road takes of a member.
@@ -32,7 +32,7 @@ pub(crate) fn lose_row<T: Losing>(
     walk: &mut Walk,
 ) -> Result<(), AllocError>
     ensures { OnOk result
-        (Adds (behind_step (to_member name.now) (value_lost road (present T.tree held.now) T.kind))
+        (AddsLosses (behind_step (to_member name.now) (value_lost road (present T.tree held.now) T.kind))
         walk.old walk.new) }
 {
     match held {
@@ -56,7 +56,7 @@ pub(crate) fn lose_row_or<T: Losing>(
     walk: &mut Walk,
 ) -> Result<(), AllocError>
     ensures { OnOk result
-        (Adds (behind_step (to_member name.now)
+        (AddsLosses (behind_step (to_member name.now)
         (entry_or reason (value_lost road (present T.tree held.now) T.kind))) walk.old walk.new) }
 {
     if reason.is_some() {
@@ -73,7 +73,7 @@ pub(crate) fn lose_items<T: Losing>(
     walk: &mut Walk,
 ) -> Result<(), AllocError>
     ensures { OnOk result
-        (Adds (items_lost road.version road.trips (each T.tree items.now) T.kind 0)
+        (AddsLosses (items_lost road.version road.trips (each T.tree items.now) T.kind 0)
         walk.old walk.new) }
 {
     let depth = walk.depth();

@@ -8,7 +8,7 @@ ghost use Rattle.cdx_component.specs.Trees.{component_tree, components_tree, ped
 ghost use Rattle.cdx_service.specs.Trees.{service_tree, services_tree};
 ghost use Rattle.cdx_ways.specs.Ways.{behind_step};
 ghost use Rattle.cdx_losses.specs.Losses.{lost};
-ghost use Rattle.cdx_losses.specs.Walks.{Adds};
+ghost use Rattle.cdx_losses.specs.Walks.{AddsLosses};
 
 use crate::leaves::{evidence_reason, supplier_reason};
 use crate::losing::{Losing, lose_row, lose_row_or};
@@ -23,7 +23,7 @@ use std::alloc::AllocError;
 #[cycle(components)]
 fn lose_component(road: Road, held: &Component, walk: &mut Walk) -> Result<(), AllocError>
     ensures { OnOk result
-        (Adds (lost road.version road.trips (component_tree held.now) (a_record component))
+        (AddsLosses (lost road.version road.trips (component_tree held.now) (a_record component))
         walk.old walk.new) }
 {
     let supplier = supplier_reason(road, &held.supplier);
@@ -43,7 +43,7 @@ fn lose_component(road: Road, held: &Component, walk: &mut Walk) -> Result<(), A
 #[cycle(components)]
 fn lose_pedigree(road: Road, held: &Pedigree, walk: &mut Walk) -> Result<(), AllocError>
     ensures { OnOk result
-        (Adds (lost road.version road.trips (pedigree_tree held.now) (a_record pedigree))
+        (AddsLosses (lost road.version road.trips (pedigree_tree held.now) (a_record pedigree))
         walk.old walk.new) }
 {
     lose_components_row(road, "ancestors", &held.ancestors, walk)?;
@@ -56,7 +56,7 @@ fn lose_pedigree(road: Road, held: &Pedigree, walk: &mut Walk) -> Result<(), All
 #[cycle(components)]
 fn lose_components(road: Road, held: &Components, walk: &mut Walk) -> Result<(), AllocError>
     ensures { OnOk result
-        (Adds (lost road.version road.trips (components_tree held.now) (a_list components))
+        (AddsLosses (lost road.version road.trips (components_tree held.now) (a_list components))
         walk.old walk.new) }
 {
     let depth = walk.depth();
@@ -70,7 +70,7 @@ fn lose_components(road: Road, held: &Components, walk: &mut Walk) -> Result<(),
 
 #[cycle(components)]
 fn lose_pedigree_row(road: Road, held: &Option<Pedigree>, walk: &mut Walk) -> Result<(), AllocError>
-    ensures { OnOk result (Adds (behind_step (to_member (codes "pedigree"))
+    ensures { OnOk result (AddsLosses (behind_step (to_member (codes "pedigree"))
         (lost road.version road.trips (present pedigree_tree held.now) (a_record pedigree)))
         walk.old walk.new) }
 {
@@ -93,7 +93,7 @@ fn lose_components_row(
     held: &Option<Components>,
     walk: &mut Walk,
 ) -> Result<(), AllocError>
-    ensures { OnOk result (Adds (behind_step (to_member name.now)
+    ensures { OnOk result (AddsLosses (behind_step (to_member name.now)
         (lost road.version road.trips (present components_tree held.now) (a_list components)))
         walk.old walk.new) }
 {
@@ -134,7 +134,7 @@ impl Losing for Components {
 #[cycle(services)]
 fn lose_service(road: Road, held: &Service, walk: &mut Walk) -> Result<(), AllocError>
     ensures { OnOk result
-        (Adds (lost road.version road.trips (service_tree held.now) (a_record service))
+        (AddsLosses (lost road.version road.trips (service_tree held.now) (a_record service))
         walk.old walk.new) }
 {
     lose_row(road, "provider", &held.provider, walk)?;
@@ -155,7 +155,7 @@ fn lose_service(road: Road, held: &Service, walk: &mut Walk) -> Result<(), Alloc
 #[cycle(services)]
 fn lose_services(road: Road, held: &Services, walk: &mut Walk) -> Result<(), AllocError>
     ensures { OnOk result
-        (Adds (lost road.version road.trips (services_tree held.now) (a_list services))
+        (AddsLosses (lost road.version road.trips (services_tree held.now) (a_list services))
         walk.old walk.new) }
 {
     let depth = walk.depth();
@@ -169,7 +169,7 @@ fn lose_services(road: Road, held: &Services, walk: &mut Walk) -> Result<(), All
 
 #[cycle(services)]
 fn lose_services_row(road: Road, held: &Option<Services>, walk: &mut Walk) -> Result<(), AllocError>
-    ensures { OnOk result (Adds (behind_step (to_member (codes "services"))
+    ensures { OnOk result (AddsLosses (behind_step (to_member (codes "services"))
         (lost road.version road.trips (present services_tree held.now) (a_list services)))
         walk.old walk.new) }
 {

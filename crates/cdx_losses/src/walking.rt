@@ -8,7 +8,7 @@ ghost use Rattle.cdx_bom.specs.Trees.{bom_tree};
 ghost use Rattle.cdx_bom.specs.Docs.{hops_of};
 ghost use Rattle.cdx_losses.specs.Losses.{item_reason, lost, taken};
 ghost use Rattle.cdx_losses.specs.Told.{all_told};
-ghost use Rattle.cdx_losses.specs.Walks.{Adds, value_lost};
+ghost use Rattle.cdx_losses.specs.Walks.{AddsLosses, value_lost};
 
 use crate::losing::{Losing, lose_items, lose_row};
 use crate::loss::{Loss, Reason};
@@ -44,7 +44,7 @@ fn lose_tools_parts(
     walk: &mut Walk,
 ) -> Result<(), AllocError>
     ensures { OnOk result
-        (Adds (lost road.version road.trips (object_tree services.now components.now) a_tools)
+        (AddsLosses (lost road.version road.trips (object_tree services.now components.now) a_tools)
         walk.old walk.new) }
 {
     lose_row(road, "services", services, walk)?;
@@ -59,7 +59,7 @@ fn lose_tools_object(
     walk: &mut Walk,
 ) -> Result<(), AllocError>
     ensures { OnOk result
-        (Adds (value_lost road (object_tree services.now components.now) a_tools)
+        (AddsLosses (value_lost road (object_tree services.now components.now) a_tools)
         walk.old walk.new) }
 {
     match tools_reason(road, services, components) {
@@ -102,7 +102,7 @@ impl Losing for Metadata {
 
 fn lose_bill(road: Road, bill: &Bom, walk: &mut Walk) -> Result<(), AllocError>
     ensures { OnOk result
-        (Adds (lost road.version road.trips (bom_tree bill.now) a_bill) walk.old walk.new) }
+        (AddsLosses (lost road.version road.trips (bom_tree bill.now) a_bill) walk.old walk.new) }
 {
     lose_row(road, "metadata", &bill.metadata, walk)?;
     lose_row(road, "components", &bill.components, walk)?;

@@ -19,13 +19,14 @@ use Rattle.cdx_schema.specs.Locality.{fault_place}
 use Rattle.cdx_schema.specs.Nodes.{places, places_of, ◌⊕◌}
 use Rattle.cdx_schema.specs.Results.{◌>>=◌}
 use Rattle.cdx_schema.specs.XmlReading.{xread, after_text}
-use Rattle.cdx_leaf.specs.Fault.{Fails, Refused}
+use Rattle.cdx_leaf.specs.Fault.{FailsAt, Refused}
 use Rattle.cdx_leaf.specs.Tags.{text_or_none}
 use Rattle.cdx_leaf.specs.Reading.{kind_of_node}
-use Rattle.cdx_machine.specs.Begun.{Begun, innermost, around, Next, still, whole, count, next_inside, next, TakesInside, Takes, lone}
+use Rattle.cdx_schema.specs.XmlSpelling.{lone}
+use Rattle.cdx_machine.specs.Begun.{Begun, innermost, around, Next, still, whole, count, next_inside, next, TakesInside, TakesEvent}
 use Rattle.cdx_machine.specs.Contents.{First, TextLast, IsContent, AreText, content_holds, TakesNew, TakesText}
-use Rattle.cdx_leaf.specs.Attribute.{Gives}
-use Rattle.cdx_machine.specs.Machines.{Refuses, IsQuiet, Proceeds, Yields}
+use Rattle.cdx_leaf.specs.Attribute.{GivesAt}
+use Rattle.cdx_machine.specs.Machines.{RefusesBefore, IsQuiet, Proceeds, Yields}
 use Rattle.cdx_machine.proofs.Places.{one_on, places_more}
 use Rattle.cdx_machine.proofs.Faults.{refuses_along, refuses_known, quiet_at}
 
@@ -75,21 +76,21 @@ module _ {C : Type 0} (kind : Kind) (first : First) (last : TextLast) (start : C
       → content_holds first start n.local_name c None v p (innermost n a s no_nodes) × IsQuiet (p + 1) (xread (element n a s no_nodes) v kind p d)
   text_opens c n a s v p d h = ((refl, h, refl), is_quiet c None n a s no_nodes v p d h refl)
 
-  pub text_refuses : (e : XmlReadError) (q : ℕ) (n : OwnedName) (a : List OwnedAttribute) (s : Namespace) (v : SpecVersion) (p : ℕ) (d : Depth) → Fails e q (first n.local_name a v p) → Refuses e (p + 1) (xread (element n a s no_nodes) v kind p d)
+  pub text_refuses : (e : XmlReadError) (q : ℕ) (n : OwnedName) (a : List OwnedAttribute) (s : Namespace) (v : SpecVersion) (p : ℕ) (d : Depth) → FailsAt e q (first n.local_name a v p) → RefusesBefore e (p + 1) (xread (element n a s no_nodes) v kind p d)
   text_refuses e q n a s v p d h =
       refuses_along e q (p + 1) (first n.local_name a v p) _
       (λ f is. (law.refused n a s no_nodes v p d f is, ap suc (law.first_place n.local_name a v p f is) ∙ one_on p)) h
 
   -- an event that may not stand there
   text_fails : (e : XmlReadError) (n : OwnedName) (a : List OwnedAttribute) (s : Namespace) (xs : Nodes) (v : SpecVersion) (p q : ℕ) (d : Depth) (c : C) (fault : XmlReadError) → first n.local_name a v p ≡ Ok (start c)
-      → text_or_none xs n.local_name (suc p) ≡ Err fault → suc (fault_place fault) ≡ q → Refused {X = Bool} (Err e) fault → Refuses e q (xread (element n a s xs) v kind p d)
+      → text_or_none xs n.local_name (suc p) ≡ Err fault → suc (fault_place fault) ≡ q → Refused {X = Bool} (Err e) fault → RefusesBefore e q (xread (element n a s xs) v kind p d)
   text_fails e n a s xs v p q d c fault h t at r =
       refuses_known Bool e fault q (xread (element n a s xs) v kind p d) r
       (law.begun c n a s xs v p d h ∙ ap (λ r. r >>= λ o. last n.local_name (suc (p + places_of xs)) (start c) o) t) at
 
   -- a node that may not stand there is refused
   refused : (old : Option (List ℕ)) (v : SpecVersion) (p place : ℕ) (d : Depth) (n : OwnedName) (a : List OwnedAttribute) (s : Namespace) (xs : Nodes) (m : Node) (q : ℕ) (c : C) (e : XmlReadError) → first n.local_name a v p ≡ Ok (start c) → AreText old xs → NotFirst old m → place ≡ p + suc (places_of xs) → suc place ≡ q
-      → Refused {X = Bool} (Err e) (unexpected place n.local_name (kind_of_node m)) → Refuses e q (xread (element n a s (xs ⊕ lone m)) v kind p d)
+      → Refused {X = Bool} (Err e) (unexpected place n.local_name (kind_of_node m)) → RefusesBefore e q (xread (element n a s (xs ⊕ lone m)) v kind p d)
   refused old v p place d n a s xs m q c e h w i is at r =
       text_fails e n a s (xs ⊕ lone m) v p q d c (unexpected place n.local_name (kind_of_node m)) h
       (stray_text old xs m n.local_name (suc p) w i ∙ ap (λ k. Err (unexpected k n.local_name (kind_of_node m))) (moved (places_of xs) is)) at r
@@ -139,13 +140,13 @@ module _ {C : Type 0} (kind : Kind) (first : First) (last : TextLast) (start : C
     stepped old n a s xs (CData u) r h is t k = new_text (Held (innermost n a s xs)) old n a s xs (cdata u) (CData u) u r h is refl refl (inr refl) k
 
     -- One event of an element that holds one text at most.
-    pub text_steps : (old : Option (List ℕ)) (o : Begun) (event : XmlEvent) (r : Result Bool XmlReadError) → content_holds first start name c old v p o → place ≡ p + count o → Takes o event → TakesText old new name place event r → Stepped (Held o) (next o event) r
+    pub text_steps : (old : Option (List ℕ)) (o : Begun) (event : XmlEvent) (r : Result Bool XmlReadError) → content_holds first start name c old v p o → place ≡ p + count o → TakesEvent o event → TakesText old new name place event r → Stepped (Held o) (next o event) r
     text_steps old (around n a s xs o) event r h is t k = absurd h
     text_steps old (innermost n a s xs) event r h is t k = stepped old n a s xs event r h is t (subst (λ el. TakesText old new el place event r) h.0 k)
 
     -- What it is read as.
     module _ {X : Type 0} (view : X → Tree) (q : ℕ) (r : Result X XmlReadError) where
-      pub text_yields : (o : Begun) (event : XmlEvent) (m : OwnedName) (k : Node) → Held o → place ≡ p + count o → event ≡ EndElement m → Takes o event → next o event ≡ whole k → Gives view q (last m.local_name place (start c) new) r → Yields view (p + places k) (xread k v kind p d) r
+      pub text_yields : (o : Begun) (event : XmlEvent) (m : OwnedName) (k : Node) → Held o → place ≡ p + count o → event ≡ EndElement m → TakesEvent o event → next o event ≡ whole k → GivesAt view q (last m.local_name place (start c) new) r → Yields view (p + places k) (xread k v kind p d) r
       text_yields (around n a s xs o) event m k h is e t w g = absurd h
       text_yields (innermost n a s xs) event m k (ni, h, x) is e t w g =
           let ended : next (innermost n a s xs) (EndElement m) ≡ whole k = ap (next (innermost n a s xs)) (sym e) ∙ w in
@@ -162,6 +163,6 @@ module _ {C : Type 0} (kind : Kind) (first : First) (last : TextLast) (start : C
           reads : n ≡ m → xread (element n a s xs) v kind p d ≡ last m.local_name place (start c) new
           reads same = reads_last c new n a s xs v p d h x ∙ (ap (λ q. last n.local_name q (start c) new) (sym (is ∙ swap)) ∙ ap (λ (z : OwnedName). last z.local_name place (start c) new) same)
 
-          by : (r : Result X XmlReadError) → xread (element n a s xs) v kind p d ≡ last m.local_name place (start c) new → Gives view q (last m.local_name place (start c) new) r → Yields view (p + suc (suc (places_of xs))) (xread (element n a s xs) v kind p d) r
+          by : (r : Result X XmlReadError) → xread (element n a s xs) v kind p d ≡ last m.local_name place (start c) new → GivesAt view q (last m.local_name place (start c) new) r → Yields view (p + suc (suc (places_of xs))) (xread (element n a s xs) v kind p d) r
           by (Ok x) reads g = reads ∙ g
           by (Err f) reads g = refuses_along f q (p + suc (suc (places_of xs))) (last m.local_name place (start c) new) (xread (element n a s xs) v kind p d) (λ f i. (reads ∙ i, ap suc (law.last_place m.local_name place c new f i) ∙ ends)) g

@@ -21,12 +21,13 @@ use Rattle.cdx_schema.specs.Nodes.{places, places_of, ◌⊕◌}
 use Rattle.cdx_schema.specs.Soon.{ends, BeginsElement}
 use Rattle.cdx_schema.specs.XmlReading.{xread}
 use Rattle.cdx_schema.proofs.Local.{element_local}
-use Rattle.cdx_leaf.specs.Fault.{within, Fails}
-use Rattle.cdx_leaf.specs.Reading.{Stands, Reads, after}
+use Rattle.cdx_leaf.specs.Fault.{within, FailsAt}
+use Rattle.cdx_leaf.specs.Reading.{Stands, Reads, behind_end}
 use Rattle.cdx_leaf.proofs.Skip.{length_events}
 use Rattle.cdx_leaf.proofs.Steps.{cursor_is}
-use Rattle.cdx_machine.specs.Begun.{Begun, innermost, around, start_name, so_far, count, lone, ended_now, Next, still, whole, next, Takes}
-use Rattle.cdx_machine.specs.Machines.{Holding, Refuses, Steps, StepsAs}
+use Rattle.cdx_schema.specs.XmlSpelling.{lone}
+use Rattle.cdx_machine.specs.Begun.{Begun, innermost, around, start_name, so_far, count, ended_now, Next, still, whole, next, TakesEvent}
+use Rattle.cdx_machine.specs.Machines.{Holding, RefusesBefore, Steps, StepsAs}
 use Rattle.cdx_machine.specs.Feeding.{IsNoBill}
 use Rattle.cdx_machine.proofs.Places.{one_on, counted, Counted}
 use Rattle.cdx_machine.proofs.Yielding.{ended_with}
@@ -130,7 +131,7 @@ begun_not (around n a s xs o) event e = cc
 
 module _ {M : Type 0} (holds : Holding M) (v : SpecVersion) (n : OwnedName) (a : List OwnedAttribute) (s : Namespace) (p : ℕ) (nodes : Nodes) (rest : List XmlEvent) (d : Depth) (c c' : Cursor) (event : XmlEvent) (took : c.ahead ≡ event ∷ c'.ahead) (moved : c'.place ≡ c.place + 1) where
   -- the event goes on with the element
-  pub feeds_takes : (m : M) (f : Feeding holds v n a s p nodes rest d c m) → Takes f.o event
+  pub feeds_takes : (m : M) (f : Feeding holds v n a s p nodes rest d c m) → TakesEvent f.o event
   feeds_takes m f = begins_takes f.o event (by (cut (so_far f.o) (event ∷ c'.ahead) (events_of (element n a s nodes)) rest (ap (λ es. so_far f.o ++ es) (sym took) ∙ f.ahead)))
     where
       inside : (hs : List XmlEvent) → events_of (element n a s nodes) ≡ so_far f.o ++ hs → event ∷ c'.ahead ≡ hs ++ rest → BeginsElement (so_far f.o ++ event ∷ [])
@@ -151,7 +152,7 @@ module _ {M : Type 0} (holds : Holding M) (v : SpecVersion) (n : OwnedName) (a :
   feeds_on view kind m m' place f at steps =
       by (next f.o event) (events_next f.o event t) (counted f.o event t) (steps v p d f.o f.held (at ∙ f.at) t)
     where
-      t : Takes f.o event
+      t : TakesEvent f.o event
       t = feeds_takes m f
 
       by : (x : Next) → EventsAre (so_far f.o ++ event ∷ []) x → Counted (suc (count f.o)) x → Steps (λ o. holds m' v p d o) view (λ k. xread k v kind p d) p x (Ok None) → Feeding holds v n a s p nodes rest d c' m'
@@ -175,16 +176,16 @@ within_at (InvalidNamespaceError expected actual) place h = tt
 within_at (Memory m) place h = tt
 
 -- A fault of an element that begins with these events is the fault of every element that does.
-pub feed_fails : (kind : Kind) (v : SpecVersion) (p : ℕ) (d : Depth) (e : XmlReadError) (es r r' rest rest' : List XmlEvent) (x k : Node) (place : ℕ) → IsNoBill kind → events_of x ++ r ≡ es ++ rest → events_of k ++ r' ≡ es ++ rest' → place ≡ p + length es → Refuses e place (xread x v kind p d) → Fails e place (xread k v kind p d)
+pub feed_fails : (kind : Kind) (v : SpecVersion) (p : ℕ) (d : Depth) (e : XmlReadError) (es r r' rest rest' : List XmlEvent) (x k : Node) (place : ℕ) → IsNoBill kind → events_of x ++ r ≡ es ++ rest → events_of k ++ r' ≡ es ++ rest' → place ≡ p + length es → RefusesBefore e place (xread x v kind p d) → FailsAt e place (xread k v kind p d)
 feed_fails kind v p d (Memory m) es r r' rest rest' x k place nb f g at h = tt
 feed_fails kind v p d e es r r' rest rest' x k place nb f g at h = (element_local es rest rest' r r' x k v kind p d e nb f g (omega (arith, at, h.1)) h.0, within_at e place h.1)
 
 -- A start that is refused refuses the element.
-pub feeds_refused : {X : Type 0} (view : X → Tree) (kind : Kind) (v : SpecVersion) (n : OwnedName) (a : List OwnedAttribute) (s : Namespace) (p : ℕ) (nodes : Nodes) (rest : List XmlEvent) (d : Depth) (c end : Cursor) (e : XmlReadError) → IsNoBill kind → Stands c n p nodes rest → Refuses e (p + 1) (xread (element n a s no_nodes) v kind p d)
+pub feeds_refused : {X : Type 0} (view : X → Tree) (kind : Kind) (v : SpecVersion) (n : OwnedName) (a : List OwnedAttribute) (s : Namespace) (p : ℕ) (nodes : Nodes) (rest : List XmlEvent) (d : Depth) (c end : Cursor) (e : XmlReadError) → IsNoBill kind → Stands c n p nodes rest → RefusesBefore e (p + 1) (xread (element n a s no_nodes) v kind p d)
     → Reads view c c end (xread (element n a s nodes) v kind p d) (Err e)
 feeds_refused view kind v n a s p nodes rest d c end e nb st h = (
   same c.place,
-  subst (λ (i : ℕ). Fails e i (xread (element n a s nodes) v kind p d)) (sym (st.place ∙ one_on p))
+  subst (λ (i : ℕ). FailsAt e i (xread (element n a s nodes) v kind p d)) (sym (st.place ∙ one_on p))
       (feed_fails kind v p d e (StartElement n a s ∷ []) [] rest (EndElement n ∷ []) (events_of_all nodes ++ EndElement n ∷ rest) (element n a s no_nodes) (element n a s nodes) (p + 1) nb refl (ap (λ es. StartElement n a s ∷ es) (append_assoc (events_of_all nodes) (EndElement n ∷ []) rest)) refl h),
 )
   where
@@ -192,7 +193,7 @@ feeds_refused view kind v n a s p nodes rest d c end e nb st h = (
     same i = omega arith
 
 module _ {M X : Type 0} (holds : Holding M) (view : X → Tree) (kind : Kind) (v : SpecVersion) (n : OwnedName) (a : List OwnedAttribute) (s : Namespace) (p : ℕ) (nodes : Nodes) (rest : List XmlEvent) (d : Depth) (old c c' : Cursor) (event : XmlEvent) (took : c.ahead ≡ event ∷ c'.ahead) (moved : c'.place ≡ c.place + 1) (m m' : M) (place : ℕ) (f : Feeding holds v n a s p nodes rest d c m) (st : Stands old n p nodes rest) (is : place ≡ c.place) where
-  went : Takes f.o event
+  went : TakesEvent f.o event
   went = feeds_takes holds v n a s p nodes rest d c c' event took moved m f
 
   goes : (so_far f.o ++ event ∷ []) ++ c'.ahead ≡ events_of (element n a s nodes) ++ rest
@@ -211,30 +212,30 @@ module _ {M X : Type 0} (holds : Holding M) (view : X → Tree) (kind : Kind) (v
       by : (x : Next) → EventsAre (so_far f.o ++ event ∷ []) x → Counted (suc (count f.o)) x → Steps (λ o. holds m' v p d o) view (λ k. xread k v kind p d) p x (Err e) → Reads view old c' end (xread (element n a s nodes) v kind p d) (Err e)
       by (still o) es ct h = (
         grown (count f.o) (at (suc (count f.o)) refl),
-        subst (λ (i : ℕ). Fails e i (xread (element n a s nodes) v kind p d)) (sym (at (count o) ct))
+        subst (λ (i : ℕ). FailsAt e i (xread (element n a s nodes) v kind p d)) (sym (at (count o) ct))
             (feed_fails kind v p d e (so_far o) [] rest (ends (open_names o)) c'.ahead (ended_now o) (element n a s nodes) (p + count o) nb (append-nil (events_of (ended_now o)) ∙ sym (ended_events o)) (sym goes ∙ ap (λ es. es ++ c'.ahead) (sym es)) (ap (λ i. p + i) (sym (count_is o))) h),
       )
       by (whole x) es ct h = (
         grown (count f.o) (at (suc (count f.o)) refl),
-        subst (λ (i : ℕ). Fails e i (xread (element n a s nodes) v kind p d)) (sym (at (places x) ct))
+        subst (λ (i : ℕ). FailsAt e i (xread (element n a s nodes) v kind p d)) (sym (at (places x) ct))
             (feed_fails kind v p d e (events_of x) [] rest [] c'.ahead x (element n a s nodes) (p + places x) nb refl (sym goes ∙ ap (λ es. es ++ c'.ahead) (sym es)) (ap (λ i. p + i) (sym (length_events x))) h),
       )
 
   -- the element has ended
-  pub feeds_done : (x : X) → StepsAs holds view kind m m' place event (Ok (Some x)) → Reads view old c' (after old nodes rest) (xread (element n a s nodes) v kind p d) (Ok x)
+  pub feeds_done : (x : X) → StepsAs holds view kind m m' place event (Ok (Some x)) → Reads view old c' (behind_end old nodes rest) (xread (element n a s nodes) v kind p d) (Ok x)
   feeds_done x steps = by (next f.o event) (events_next f.o event went) (keeps_name f.o event) (counted f.o event went) (steps v p d f.o f.held (is ∙ f.at) went)
     where
       at_end : (k : ℕ) → k ≡ suc (count f.o) → k ≡ suc (suc (places_of nodes)) → c'.place ≡ old.place + places_of nodes + 1
       at_end k e g = omega (arith, moved, f.at, st.place, e, g)
 
-      by : (o : Next) → EventsAre (so_far f.o ++ event ∷ []) o → Keeps (start_name f.o) o → Counted (suc (count f.o)) o → Steps (λ o. holds m' v p d o) view (λ k. xread k v kind p d) p o (Ok (Some x)) → Reads view old c' (after old nodes rest) (xread (element n a s nodes) v kind p d) (Ok x)
+      by : (o : Next) → EventsAre (so_far f.o ++ event ∷ []) o → Keeps (start_name f.o) o → Counted (suc (count f.o)) o → Steps (λ o. holds m' v p d o) view (λ k. xread k v kind p d) p o (Ok (Some x)) → Reads view old c' (behind_end old nodes rest) (xread (element n a s nodes) v kind p d) (Ok x)
       by (still o) es kn ct h = absurd h
       by (whole k) es kn ct h =
           let q : (element (start_name f.o) kn.0 kn.1 kn.2 ≡ element n a s nodes) × (c'.ahead ≡ rest) = same_element (start_name f.o) n kn.0 a kn.1 s kn.2 nodes c'.ahead rest (ap (λ es. es ++ c'.ahead) (ap events_of (sym kn.3) ∙ es) ∙ goes) in
           let k_is : k ≡ element n a s nodes = kn.3 ∙ q.0 in
-          (ap (λ (z : Node). xread z v kind p d) (sym k_is) ∙ h, cursor_is c' (after old nodes rest) (at_end (places k) ct (ap places k_is)) q.1)
+          (ap (λ (z : Node). xread z v kind p d) (sym k_is) ∙ h, cursor_is c' (behind_end old nodes rest) (at_end (places k) ct (ap places k_is)) q.1)
 
   -- with its value or with its fault
-  pub feeds_ends : (r : Result X XmlReadError) → IsNoBill kind → StepsAs holds view kind m m' place event (ended_with r) → Reads view old c' (after old nodes rest) (xread (element n a s nodes) v kind p d) r
+  pub feeds_ends : (r : Result X XmlReadError) → IsNoBill kind → StepsAs holds view kind m m' place event (ended_with r) → Reads view old c' (behind_end old nodes rest) (xread (element n a s nodes) v kind p d) r
   feeds_ends (Ok x) nb steps = feeds_done x steps
-  feeds_ends (Err e) nb steps = feeds_fails (after old nodes rest) e nb steps
+  feeds_ends (Err e) nb steps = feeds_fails (behind_end old nodes rest) e nb steps

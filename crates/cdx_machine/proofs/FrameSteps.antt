@@ -19,16 +19,17 @@ use Rattle.cdx_schema.specs.XmlReading.{Plan, Child, find_child, is_second, stor
 use Rattle.cdx_schema.proofs.Groups.{one_node_more, under_ok, after}
 use Rattle.cdx_schema.proofs.FaultPlaces.{err_same}
 use Rattle.cdx_leaf.specs.declared.rule.Rule.{Rule}
-use Rattle.cdx_leaf.specs.Attribute.{Gives}
-use Rattle.cdx_leaf.specs.Fault.{Fails, Refused}
+use Rattle.cdx_leaf.specs.Attribute.{GivesAt}
+use Rattle.cdx_leaf.specs.Fault.{FailsAt, Refused}
 use Rattle.cdx_leaf.specs.Reading.{kind_of_node}
 use Rattle.cdx_leaf.specs.Rules.{passes, as_rule}
 use Rattle.cdx_leaf.proofs.ChildSteps.{stray_fails, text_passes, cdata_passes}
 use Rattle.cdx_machine.specs.declared.frame.Inside.{Inside}
 use Rattle.cdx_machine.specs.declared.frame.Inside.TheVariants.{Nothing, Read, Skipped}
-use Rattle.cdx_machine.specs.Begun.{Begun, innermost, around, Next, still, whole, count, levels, start_name, ended_now, into, next, TakesInside, Takes, lone}
+use Rattle.cdx_schema.specs.XmlSpelling.{lone}
+use Rattle.cdx_machine.specs.Begun.{Begun, innermost, around, Next, still, whole, count, levels, start_name, ended_now, into, next, TakesInside, TakesEvent}
 use Rattle.cdx_machine.specs.Contents.{First}
-use Rattle.cdx_machine.specs.Machines.{Refuses, IsQuiet, Proceeds, Yields, StepsRow, StepsChild, ChildHolding}
+use Rattle.cdx_machine.specs.Machines.{RefusesBefore, IsQuiet, Proceeds, Yields, StepsRow, StepsChild, ChildHolding}
 use Rattle.cdx_machine.specs.Frames.{Last, read_so_far, IsForm, IsOpen, Stays, holds_inside, EntersAt, FeedsChild, skipped}
 use Rattle.cdx_machine.proofs.Places.{one_on, places_more, count_below}
 use Rattle.cdx_machine.proofs.Faults.{refuses_along, refuses_on, refuses_known, quiet_at}
@@ -143,7 +144,7 @@ module _ (denotes : Node → SpecVersion → ℕ → Depth → Result Tree XmlRe
           ends k e = omega (arith, e)
 
       -- a text
-      pub own_text : (inside : Inside C) (rule : Rule) (o : Begun) (place : ℕ) (event : XmlEvent) → Own o → Takes o event → plan.rule ≡ as_rule rule → passes rule ≡ true → ((m : OwnedName) (b : List OwnedAttribute) (z : Namespace) → event ≡ StartElement m b z → ⊥) → ((m : OwnedName) → event ≡ EndElement m → ⊥)
+      pub own_text : (inside : Inside C) (rule : Rule) (o : Begun) (place : ℕ) (event : XmlEvent) → Own o → TakesEvent o event → plan.rule ≡ as_rule rule → passes rule ≡ true → ((m : OwnedName) (b : List OwnedAttribute) (z : Namespace) → event ≡ StartElement m b z → ⊥) → ((m : OwnedName) → event ≡ EndElement m → ⊥)
           → inside ≡ Nothing → Stepped (λ o. holds_inside holds first plan name known (slots r) inside v p d o) (next o event) (Ok false)
       own_text inside rule (around n a s xs o) place event h t is does i j e = absurd h
       own_text inside rule (innermost n a s xs) place StartDocument h t is does i j e = absurd t
@@ -173,7 +174,7 @@ module _ (denotes : Node → SpecVersion → ℕ → Depth → Result Tree XmlRe
           ends : (i j : ℕ) → place ≡ p + suc i → j ≡ i + places k → places k ≡ 1 → suc place ≡ p + suc j
           ends i j e f g = omega (arith, e, f, g)
 
-      pub own_text_fails : (held : Begun → Type 0) (rule : Rule) (o : Begun) (place : ℕ) (event : XmlEvent) (x : Result Bool XmlReadError) → Own o → place ≡ p + count o → Takes o event → plan.rule ≡ as_rule rule → passes rule ≡ false → ((m : OwnedName) (b : List OwnedAttribute) (z : Namespace) → event ≡ StartElement m b z → ⊥)
+      pub own_text_fails : (held : Begun → Type 0) (rule : Rule) (o : Begun) (place : ℕ) (event : XmlEvent) (x : Result Bool XmlReadError) → Own o → place ≡ p + count o → TakesEvent o event → plan.rule ≡ as_rule rule → passes rule ≡ false → ((m : OwnedName) (b : List OwnedAttribute) (z : Namespace) → event ≡ StartElement m b z → ⊥)
           → ((m : OwnedName) → event ≡ EndElement m → ⊥) → Refused x (unexpected place name (kind_of event)) → Stepped held (next o event) x
       own_text_fails held rule (around n a s xs o) place event x h is t ru not i j e = absurd h
       own_text_fails held rule (innermost n a s xs) place StartDocument x h is t ru not i j e = absurd t
@@ -197,7 +198,7 @@ module _ (denotes : Node → SpecVersion → ℕ → Depth → Result Tree XmlRe
     -- A child is open.
     module _ (r r' : R) (c c' : C) where
       -- it stays open
-      pub child_goes_on : (o : Begun) (place : ℕ) (event : XmlEvent) (b : Bool) → b ≡ false → holds_inside holds first plan name known (slots r) (Read c) v p d o → place ≡ p + count o → Takes o event → StepsChild holds (slots r) (slots r') c c' place event (Ok b)
+      pub child_goes_on : (o : Begun) (place : ℕ) (event : XmlEvent) (b : Bool) → b ≡ false → holds_inside holds first plan name known (slots r) (Read c) v p d o → place ≡ p + count o → TakesEvent o event → StepsChild holds (slots r) (slots r') c c' place event (Ok b)
           → Stepped (λ o. holds_inside holds first plan name known (slots r') (Read c') v p d o) (next o event) (Ok false)
       child_goes_on (innermost n a s xs) place event b nay h is t e = absurd h
       child_goes_on (around n a s xs o) place event true nay h is t e = absurd (let wrong : true ≡ false = nay in cc)
@@ -217,7 +218,7 @@ module _ (denotes : Node → SpecVersion → ℕ → Depth → Result Tree XmlRe
               )
 
       -- it ends
-      pub child_ends : (o : Begun) (place : ℕ) (event : XmlEvent) (b : Bool) → b ≡ true → holds_inside holds first plan name known (slots r) (Read c) v p d o → place ≡ p + count o → Takes o event → StepsChild holds (slots r) (slots r') c c' place event (Ok b)
+      pub child_ends : (o : Begun) (place : ℕ) (event : XmlEvent) (b : Bool) → b ≡ true → holds_inside holds first plan name known (slots r) (Read c) v p d o → place ≡ p + count o → TakesEvent o event → StepsChild holds (slots r) (slots r') c c' place event (Ok b)
           → Stepped (λ o. holds_inside holds first plan name known (slots r') Nothing v p d o) (next o event) (Ok false)
       child_ends (innermost n a s xs) place event b yea h is t e = absurd h
       child_ends (around n a s xs o) place event false yea h is t e = absurd (let wrong : false ≡ true = yea in cc)
@@ -235,7 +236,7 @@ module _ (denotes : Node → SpecVersion → ℕ → Depth → Result Tree XmlRe
               (record { name_is = h.name_is; version_is = h.version_is; reads = again }, quiet_inside n a s (xs ⊕ lone k) v p d (slots r') again)
 
     -- it is refused
-    pub child_fails : (held : Begun → Type 0) (ts us : Trees) (c c' : C) (o : Begun) (place : ℕ) (event : XmlEvent) (f : XmlReadError) → holds_inside holds first plan name known ts (Read c) v p d o → place ≡ p + count o → Takes o event → StepsChild holds ts us c c' place event (Err f) → Stepped held (next o event) (Err f)
+    pub child_fails : (held : Begun → Type 0) (ts us : Trees) (c c' : C) (o : Begun) (place : ℕ) (event : XmlEvent) (f : XmlReadError) → holds_inside holds first plan name known ts (Read c) v p d o → place ≡ p + count o → TakesEvent o event → StepsChild holds ts us c c' place event (Err f) → Stepped held (next o event) (Err f)
     child_fails held ts us c c' (innermost n a s xs) place event f h is t e = absurd h
     child_fails held ts us c c' (around n a s xs o) place event f (h, i) is t e =
         by (next o event) (keeps_name o event) (e i.row v (suc p + places_of xs) d o i.held (is ∙ moved (places_of xs) (count o)) t)
@@ -257,14 +258,14 @@ module _ (denotes : Node → SpecVersion → ℕ → Depth → Result Tree XmlRe
             (ends (places_of xs) (places k) (places_of (xs ⊕ lone k)) (places_more xs k)) e
 
     -- An open child took an event.
-    pub child_fed : (r r' : R) (c : C) (inside : Inside C) (o : Begun) (place : ℕ) (event : XmlEvent) → holds_inside holds first plan name known (slots r) (Read c) v p d o → place ≡ p + count o → Takes o event → FeedsChild holds (slots r) (slots r') c place event (Ok inside)
+    pub child_fed : (r r' : R) (c : C) (inside : Inside C) (o : Begun) (place : ℕ) (event : XmlEvent) → holds_inside holds first plan name known (slots r) (Read c) v p d o → place ≡ p + count o → TakesEvent o event → FeedsChild holds (slots r) (slots r') c place event (Ok inside)
         → Stepped (λ o. holds_inside holds first plan name known (slots r') inside v p d o) (next o event) (Ok false)
     child_fed r r' c Nothing o place event h is t e = child_ends r r' c c o place event true refl h is t e
     child_fed r r' c (Read c') o place event h is t e = child_goes_on r r' c c' o place event false refl h is t e
     child_fed r r' c (Skipped depth) o place event h is t e = absurd e
 
     -- A child is skipped.
-    pub child_skipped : (ts : Trees) (depth : ℕ) (inside : Inside C) (o : Begun) (event : XmlEvent) → inside ≡ skipped depth event → holds_inside holds first plan name known ts (Skipped depth) v p d o → Takes o event → Stepped (λ o. holds_inside holds first plan name known ts inside v p d o) (next o event) (Ok false)
+    pub child_skipped : (ts : Trees) (depth : ℕ) (inside : Inside C) (o : Begun) (event : XmlEvent) → inside ≡ skipped depth event → holds_inside holds first plan name known ts (Skipped depth) v p d o → TakesEvent o event → Stepped (λ o. holds_inside holds first plan name known ts inside v p d o) (next o event) (Ok false)
     child_skipped ts depth inside (innermost n a s xs) event is h t = absurd h
     child_skipped ts depth inside (around n a s xs o) event is (h, i) t =
         by (next o event) (keeps_name o event) (subst (λ (x : Inside C). Skips C (next o event) x) (sym is) (subst (λ k. Skips C (next o event) (skipped k event)) i.depth_is (skips_next C o event t)))
@@ -300,7 +301,7 @@ module _ (denotes : Node → SpecVersion → ℕ → Depth → Result Tree XmlRe
 
     -- what the element is read as
     module _ {X : Type 0} (view : X → Tree) (ts : Trees) (place q : ℕ) (x : Result X XmlReadError) where
-      own_yields : (n m : OwnedName) (a : List OwnedAttribute) (s : Namespace) (xs : Nodes) → Stays first plan name known ts v p d n a xs → place ≡ p + suc (places_of xs) → n ≡ m → Gives view q (last m.local_name known place ts) x → Yields view (p + suc (suc (places_of xs))) (denotes (element n a s xs) v p d) x
+      own_yields : (n m : OwnedName) (a : List OwnedAttribute) (s : Namespace) (xs : Nodes) → Stays first plan name known ts v p d n a xs → place ≡ p + suc (places_of xs) → n ≡ m → GivesAt view q (last m.local_name known place ts) x → Yields view (p + suc (suc (places_of xs))) (denotes (element n a s xs) v p d) x
       own_yields n m a s xs h is same g = by x g
         where
           moved : (k : ℕ) → p + suc k ≡ suc (p + k)
@@ -312,11 +313,11 @@ module _ (denotes : Node → SpecVersion → ℕ → Depth → Result Tree XmlRe
           read : denotes (element n a s xs) v p d ≡ last m.local_name known place ts
           read = whole_read n a s xs v p d ts h.reads ∙ (ap (λ q. last n.local_name v q ts) (sym (is ∙ moved (places_of xs))) ∙ (ap (λ (y : OwnedName). last y.local_name v place ts) same ∙ ap (λ (w : SpecVersion). last m.local_name w place ts) (sym h.version_is)))
 
-          by : (x : Result X XmlReadError) → Gives view q (last m.local_name known place ts) x → Yields view (p + suc (suc (places_of xs))) (denotes (element n a s xs) v p d) x
+          by : (x : Result X XmlReadError) → GivesAt view q (last m.local_name known place ts) x → Yields view (p + suc (suc (places_of xs))) (denotes (element n a s xs) v p d) x
           by (Ok y) g = read ∙ g
           by (Err f) g = refuses_along f q (p + suc (suc (places_of xs))) (last m.local_name known place ts) _ (λ e i. (read ∙ i, ap suc (law.last_place m.local_name known place ts e i) ∙ ends (places_of xs) is)) g
 
-      pub frame_yields : (inside : Inside C) (o : Begun) (event : XmlEvent) (m : OwnedName) (k : Node) → holds_inside holds first plan name known ts inside v p d o → place ≡ p + count o → event ≡ EndElement m → Takes o event → next o event ≡ whole k → Gives view q (last m.local_name known place ts) x → Yields view (p + places k) (denotes k v p d) x
+      pub frame_yields : (inside : Inside C) (o : Begun) (event : XmlEvent) (m : OwnedName) (k : Node) → holds_inside holds first plan name known ts inside v p d o → place ≡ p + count o → event ≡ EndElement m → TakesEvent o event → next o event ≡ whole k → GivesAt view q (last m.local_name known place ts) x → Yields view (p + places k) (denotes k v p d) x
       frame_yields inside (around n a s xs o) event m k h is e t w g = absurd (never_whole (next o event) w)
         where
           never_whole : (y : Next) → into n a s xs y ≡ whole k → ⊥
@@ -337,6 +338,6 @@ module _ (denotes : Node → SpecVersion → ℕ → Depth → Result Tree XmlRe
       let again : read_so_far first plan n.local_name a v d p no_nodes ≡ Ok (slots r) = ap (λ r. r >>= λ ts. nodes_read no_nodes plan n.local_name v d (suc p) ts) h in
       (record { name_is = refl; version_is = refl; reads = again }, quiet_until n a s no_nodes v p d (slots r) (p + 1) again (omega arith))
 
-  pub frame_refuses : (e : XmlReadError) (q : ℕ) (n : OwnedName) (a : List OwnedAttribute) (s : Namespace) (v : SpecVersion) (p : ℕ) (d : Depth) → Fails e q (first n.local_name a v p) → Refuses e (p + 1) (denotes (element n a s no_nodes) v p d)
+  pub frame_refuses : (e : XmlReadError) (q : ℕ) (n : OwnedName) (a : List OwnedAttribute) (s : Namespace) (v : SpecVersion) (p : ℕ) (d : Depth) → FailsAt e q (first n.local_name a v p) → RefusesBefore e (p + 1) (denotes (element n a s no_nodes) v p d)
   frame_refuses e q n a s v p d h =
       refuses_along e q (p + 1) (first n.local_name a v p) _ (λ f is. (whole_fails n a s no_nodes v p d f (ap (λ r. r >>= λ ts. nodes_read no_nodes plan n.local_name v d (suc p) ts) is), ap suc (law.first_place n.local_name a v p f is) ∙ one_on p)) h

@@ -16,14 +16,15 @@ use Rattle.cdx_schema.specs.Faults.{unexpected}
 use Rattle.cdx_schema.specs.Kinds as sorts
 use Rattle.cdx_schema.specs.Nodes.{◌⊕◌}
 use Rattle.cdx_schema.specs.Results.{◌>>=◌}
-use Rattle.cdx_schema.specs.XmlReading.{Reading, Plan, Child, find_child, is_second, stored, unknown, child_read, xread}
+use Rattle.cdx_schema.specs.XmlReading.{ElementReading, Plan, Child, find_child, is_second, stored, unknown, child_read, xread}
 use Rattle.cdx_leaf.specs.declared.rule.Rule.{Rule}
 use Rattle.cdx_leaf.specs.Fault.{Refused}
 use Rattle.cdx_leaf.specs.Rules.{skips, as_rule}
 use Rattle.cdx_machine.specs.declared.frame.Inside.{Inside}
 use Rattle.cdx_machine.specs.declared.frame.Inside.TheVariants.{Nothing, Read, Skipped}
-use Rattle.cdx_machine.specs.Begun.{Begun, innermost, around, Next, still, whole, count, levels, start_name, ended_now, into, next_inside, next, TakesInside, Takes, lone}
-use Rattle.cdx_machine.specs.Machines.{Refuses, ChildHolding}
+use Rattle.cdx_schema.specs.XmlSpelling.{lone}
+use Rattle.cdx_machine.specs.Begun.{Begun, innermost, around, Next, still, whole, count, levels, start_name, ended_now, into, next_inside, next, TakesInside, TakesEvent}
+use Rattle.cdx_machine.specs.Machines.{RefusesBefore, ChildHolding}
 use Rattle.cdx_machine.specs.Frames.{IsSkipped, EntersAt, skipped}
 use Rattle.cdx_machine.proofs.Names.{FindsAt, FindsSecond}
 use Rattle.cdx_machine.proofs.Faults.{refuses_on, refuses_known}
@@ -93,7 +94,7 @@ module _ (C : Type 0) where
   skips_into n a s xs (still o) inside h = ap within_one h
   skips_into n a s xs (whole k) inside h = ap within_one h
 
-  pub skips_next : (o : Begun) (event : XmlEvent) → Takes o event → Skips (next o event) (skipped {C = C} (levels o) event)
+  pub skips_next : (o : Begun) (event : XmlEvent) → TakesEvent o event → Skips (next o event) (skipped {C = C} (levels o) event)
   skips_next (innermost n a s xs) event t = skips_inside n a s xs event t
   skips_next (around n a s xs o) event t = subst (λ (x : Inside C). Skips (into n a s xs (next o event)) x) (skipped_within (levels o) event) (skips_into n a s xs (next o event) (skipped (levels o) event) (skips_next o event t))
 
@@ -104,17 +105,17 @@ level_less (around n a s xs o) = let e : levels o ≤ count o = level_less o in 
 -- ---- a child's start
 
 -- what a child of the plan makes of an element
-pub row_read : (found : Option Child) (row : Child) (rule : sorts.Rule) (read : Reading) (el : List ℕ) (v : SpecVersion) (d : Depth) (q : ℕ) (ts : Trees) → found ≡ Some row → is_second row.place (field row.field ts) ≡ false
+pub row_read : (found : Option Child) (row : Child) (rule : sorts.Rule) (read : ElementReading) (el : List ℕ) (v : SpecVersion) (d : Depth) (q : ℕ) (ts : Trees) → found ≡ Some row → is_second row.place (field row.field ts) ≡ false
     → child_read found rule read el v d q ts ≡ (read v row.kind q d >>= λ t. Ok (stored row.place row.field t ts))
 row_read found row rule read el v d q ts f g =
     ap (λ o. child_read o rule read el v d q ts) f ∙ ap (λ b. if b then Err (unexpected q el kinds.StartElement) else (read v row.kind q d >>= λ t. Ok (stored row.place row.field t ts))) g
 
-second_read : (found : Option Child) (row : Child) (rule : sorts.Rule) (read : Reading) (el : List ℕ) (v : SpecVersion) (d : Depth) (q : ℕ) (ts : Trees) → found ≡ Some row → is_second row.place (field row.field ts) ≡ true
+second_read : (found : Option Child) (row : Child) (rule : sorts.Rule) (read : ElementReading) (el : List ℕ) (v : SpecVersion) (d : Depth) (q : ℕ) (ts : Trees) → found ≡ Some row → is_second row.place (field row.field ts) ≡ true
     → child_read found rule read el v d q ts ≡ Err (unexpected q el kinds.StartElement)
 second_read found row rule read el v d q ts f g =
     ap (λ o. child_read o rule read el v d q ts) f ∙ ap (λ b. if b then Err (unexpected q el kinds.StartElement) else (read v row.kind q d >>= λ t. Ok (stored row.place row.field t ts))) g
 
-unknown_read : (found : Option Child) (rule : sorts.Rule) (read : Reading) (el : List ℕ) (v : SpecVersion) (d : Depth) (q : ℕ) (ts : Trees) → found ≡ None → child_read found rule read el v d q ts ≡ unknown rule el q ts
+unknown_read : (found : Option Child) (rule : sorts.Rule) (read : ElementReading) (el : List ℕ) (v : SpecVersion) (d : Depth) (q : ℕ) (ts : Trees) → found ≡ None → child_read found rule read el v d q ts ≡ unknown rule el q ts
 unknown_read found rule read el v d q ts f = ap (λ o. child_read o rule read el v d q ts) f
 
 unknown_by : (r : Rule) (el : List ℕ) (q : ℕ) (ts : Trees) → skips r ≡ true → unknown (as_rule r) el q ts ≡ Ok ts
@@ -132,7 +133,7 @@ module _ {C : Type 0} (holds : ChildHolding C) (plan : Plan) (ts : Trees) (v : S
   Start = innermost m b s no_nodes
 
   -- the child's own fault
-  pub enters_fault : (e : XmlReadError) (i : ℕ) (h : FindsAt plan.children ts v m.local_name i) → Refuses e (q + 1) (xread (element m b s no_nodes) v h.row.kind q d) → EntersAt holds plan ts v n q d (innermost m b s no_nodes) (Err e)
+  pub enters_fault : (e : XmlReadError) (i : ℕ) (h : FindsAt plan.children ts v m.local_name i) → RefusesBefore e (q + 1) (xread (element m b s no_nodes) v h.row.kind q d) → EntersAt holds plan ts v n q d (innermost m b s no_nodes) (Err e)
   enters_fault e i h refuses =
       refuses_on e (q + 1) (suc q) (xread (element m b s no_nodes) v h.row.kind q d) _
       (λ f is. row_read (find_child v m.local_name plan.children) h.row plan.rule (xread (element m b s no_nodes)) n v d q ts h.found h.first_one ∙ ap (λ r. r >>= λ t. Ok (stored h.row.place h.row.field t ts)) is)

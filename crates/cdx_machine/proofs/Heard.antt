@@ -20,8 +20,9 @@ use Rattle.cdx_schema.specs.Nodes.{places, places_of, ◌⊕◌}
 use Rattle.cdx_schema.specs.Soon.{ends, BeginsElement, IsElement, fault_below, IsSoon}
 use Rattle.cdx_schema.specs.XmlReading.{xread}
 use Rattle.cdx_leaf.proofs.Skip.{length_events, length_all}
-use Rattle.cdx_machine.specs.Begun.{Begun, innermost, around, start_name, so_far, count, lone, ended_now, Next, still, whole, into, next_inside, next, TakesInside, Takes}
-use Rattle.cdx_machine.specs.Machines.{Holding, Refuses, IsQuiet, Steps, StepsAs, CanStep, StartsAs, Opens}
+use Rattle.cdx_schema.specs.XmlSpelling.{lone}
+use Rattle.cdx_machine.specs.Begun.{Begun, innermost, around, start_name, so_far, count, ended_now, Next, still, whole, into, next_inside, next, TakesInside, TakesEvent}
+use Rattle.cdx_machine.specs.Machines.{Holding, RefusesBefore, IsQuiet, Steps, StepsAs, CanStep, StartsAs, Opens}
 use Rattle.cdx_machine.specs.Heard.{Hears, IsRead, RefusesSoon, Answers, OpensAs}
 use Rattle.cdx_machine.proofs.Places.{one_on, counted, Counted}
 use Rattle.cdx_machine.proofs.Frames.{IsNamed, ended_named, Keeps, keeps_name}
@@ -53,7 +54,7 @@ into_events : (n : OwnedName) (a : List OwnedAttribute) (s : Namespace) (xs : No
 into_events n a s xs es (still o) h = ap (λ es. StartElement n a s ∷ events_of_all xs ++ es) h
 into_events n a s xs es (whole k) h = ap (λ es. StartElement n a s ∷ es) (events_more xs k ∙ ap (λ es. events_of_all xs ++ es) h)
 
-pub events_next : (o : Begun) (event : XmlEvent) → Takes o event → EventsAre (so_far o ++ event ∷ []) (next o event)
+pub events_next : (o : Begun) (event : XmlEvent) → TakesEvent o event → EventsAre (so_far o ++ event ∷ []) (next o event)
 events_next (innermost n a s xs) event t = inside_events n a s xs event t
 events_next (around n a s xs o) event t =
     subst (λ es. EventsAre es (into n a s xs (next o event))) (ap (λ es. StartElement n a s ∷ es) (sym (append_assoc (events_of_all xs) (so_far o) (event ∷ [])))) (into_events n a s xs (so_far o ++ event ∷ []) (next o event) (events_next o event t))
@@ -89,7 +90,7 @@ takes_inside n stack (EndElement m) es h = h.0
 takes_inside n stack (Characters t) es h = tt
 takes_inside n stack (CData t) es h = tt
 
-takes_by : (o : Begun) (m : OwnedName) (stack : List OwnedName) (event : XmlEvent) (es : List XmlEvent) → checks (m ∷ stack) (so_far o ++ event ∷ es) → Takes o event
+takes_by : (o : Begun) (m : OwnedName) (stack : List OwnedName) (event : XmlEvent) (es : List XmlEvent) → checks (m ∷ stack) (so_far o ++ event ∷ es) → TakesEvent o event
 takes_by (innermost n a s xs) m stack event es h = takes_inside n (m ∷ stack) event es (past_all xs n (m ∷ stack) (event ∷ es) h)
 takes_by (around n a s xs o) m stack event es h =
     takes_by o n (m ∷ stack) event es (past_all xs n (m ∷ stack) (so_far o ++ event ∷ es) (subst (λ fs. checks (n ∷ m ∷ stack) fs) (append_assoc (events_of_all xs) (so_far o) (event ∷ es)) h))
@@ -98,7 +99,7 @@ whole_checks : (n : OwnedName) (k : Node) → checks (n ∷ []) (events_of k ++ 
 whole_checks n k = onto k n [] (EndElement n ∷ EndDocument ∷ []) (refl, refl)
 
 -- An event takes the element on where the events of one element begin with it.
-pub begins_takes : (o : Begun) (event : XmlEvent) → BeginsElement (so_far o ++ event ∷ []) → Takes o event
+pub begins_takes : (o : Begun) (event : XmlEvent) → BeginsElement (so_far o ++ event ∷ []) → TakesEvent o event
 begins_takes o event b =
     let n = b.name in
     let k = element n b.attributes b.namespace b.nodes in
@@ -130,7 +131,7 @@ quiet_none q (Err f) h = ap (λ b. if b then Some f else None) (not_below (fault
 refuses_some : (e : XmlReadError) (q : ℕ) (r : Result Tree XmlReadError) → r ≡ Err e → suc (fault_place e) ≡ q → fault_below q r ≡ Some e
 refuses_some e q r h i = ap (fault_below q) h ∙ ap (λ b. if b then Some e else None) (below_is (fault_place e) q i)
 
-pub refuses_soon : (e : XmlReadError) (q place : ℕ) (r : Result Tree XmlReadError) → suc place ≡ q → Refuses e q r → RefusesSoon e place (fault_below q r)
+pub refuses_soon : (e : XmlReadError) (q place : ℕ) (r : Result Tree XmlReadError) → suc place ≡ q → RefusesBefore e q r → RefusesSoon e place (fault_below q r)
 refuses_soon (Memory m) q place r is h = tt
 refuses_soon e q place r is h = (refuses_some _ q r h.0 h.1, same (h.1 ∙ sym is))
   where
@@ -178,7 +179,7 @@ pub answers_step : {M X : Type 0} (holds : Holding M) (view : X → Tree) (k : K
     → Hears (λ o. holds old v p d o) heard → place ≡ p + length heard → BeginsElement (heard ++ event ∷ []) → Answers (Hears (λ o. holds new v p d o)) view v k p d place (heard ++ event ∷ []) r
 answers_step holds view k old new place event r v p d heard steps h is b =
     let at : place ≡ p + count h.o = is ∙ ap (λ i. p + i) (sym (ap length h.events_are) ∙ count_is h.o) in
-    let t : Takes h.o event = begins_takes h.o event (subst (λ es. BeginsElement (es ++ event ∷ [])) (sym h.events_are) b) in
+    let t : TakesEvent h.o event = begins_takes h.o event (subst (λ es. BeginsElement (es ++ event ∷ [])) (sym h.events_are) b) in
     by_next (λ o. holds new v p d o) view v k p d place (start_name h.o) (heard ++ event ∷ []) (next h.o event) r (subst (λ es. EventsAre (es ++ event ∷ []) (next h.o event)) h.events_are (events_next h.o event t)) (keeps_name h.o event)
     (ends_at (next h.o event) (counted h.o event t) at) (steps v p d h.o h.held at t)
   where

@@ -7,7 +7,8 @@ use Rattle.cdx_events.specs.declared.event.XmlEvent.{XmlEvent}
 use Rattle.cdx_events.specs.declared.event.XmlEvent.TheVariants.{StartDocument, EndDocument, StartElement, EndElement, Characters, CData}
 use Rattle.cdx_events.specs.Nodes.{Node, characters, cdata, Nodes, no_nodes, node}
 use Rattle.cdx_schema.specs.Nodes.{places, places_of, ◌⊕◌}
-use Rattle.cdx_machine.specs.Begun.{Begun, innermost, around, Next, still, whole, into, next_inside, next, TakesInside, Takes, count, ended_now, lone}
+use Rattle.cdx_schema.specs.XmlSpelling.{lone}
+use Rattle.cdx_machine.specs.Begun.{Begun, innermost, around, Next, still, whole, into, next_inside, next, TakesInside, TakesEvent, count, ended_now}
 
 pub one_on : (p : ℕ) → suc p ≡ p + 1
 one_on p = omega arith
@@ -38,7 +39,7 @@ counted_into : (n : OwnedName) (a : List OwnedAttribute) (s : Namespace) (xs : N
 counted_into n a s xs k (still o) h = omega (arith, h)
 counted_into n a s xs k (whole x) h = omega (arith, h, places_more xs x)
 
-pub counted : (o : Begun) (event : XmlEvent) → Takes o event → Counted (suc (count o)) (next o event)
+pub counted : (o : Begun) (event : XmlEvent) → TakesEvent o event → Counted (suc (count o)) (next o event)
 counted (innermost n a s xs) event t = counted_inside n a s xs event t
 counted (around n a s xs o) event t = subst (λ (k : ℕ). Counted k (into n a s xs (next o event))) (one_more (places_of xs) (count o)) (counted_into n a s xs (suc (count o)) (next o event) (counted o event t))
   where

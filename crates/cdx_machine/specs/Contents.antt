@@ -20,7 +20,8 @@ use Rattle.cdx_schema.specs.Results.{◌>>=◌}
 use Rattle.cdx_schema.specs.XmlReading.{xread}
 use Rattle.cdx_leaf.specs.Fault.{Refused}
 use Rattle.cdx_leaf.specs.Tags.{text_or_none}
-use Rattle.cdx_machine.specs.Begun.{Begun, innermost, around, lone}
+use Rattle.cdx_schema.specs.XmlSpelling.{lone}
+use Rattle.cdx_machine.specs.Begun.{Begun, innermost, around}
 
 -- What a kind's start begins, by the element's name, its attributes, the version and the start's place.
 abbrev pub First : Type 0

@@ -21,7 +21,7 @@ use Rattle.cdx_machine.specs.declared.frame.Inside.{Inside}
 use Rattle.cdx_machine.specs.declared.frame.Inside.TheVariants as places_inside
 use Rattle.cdx_machine.specs.Begun.{Begun, innermost, around, start_name, levels, count, ended_now}
 use Rattle.cdx_machine.specs.Contents.{First}
-use Rattle.cdx_machine.specs.Machines.{Refuses, IsQuiet, ChildHolding, StepsChild}
+use Rattle.cdx_machine.specs.Machines.{RefusesBefore, IsQuiet, ChildHolding, StepsChild}
 
 -- What the fields come to at the element's end, by the element's name, the version and the end's place.
 abbrev pub Last : Type 0
@@ -108,7 +108,7 @@ abbrev pub EntersAt : {C : Type 0} → ChildHolding C → Plan → Trees → Spe
 EntersAt holds plan ts v n q d o (Ok places_inside.Nothing) = ⊥
 EntersAt holds plan ts v n q d o (Ok (places_inside.Read c)) = OpensChild holds plan ts v q d o c
 EntersAt holds plan ts v n q d o (Ok (places_inside.Skipped depth)) = IsSkipped plan depth v o
-EntersAt holds plan ts v n q d o (Err e) = Refuses e (suc q) (child_read (find_child v (start_name o).local_name plan.children) plan.rule (xread (ended_now o)) n v d q ts)
+EntersAt holds plan ts v n q d o (Err e) = RefusesBefore e (suc q) (child_read (find_child v (start_name o).local_name plan.children) plan.rule (xread (ended_now o)) n v d q ts)
 
 abbrev pub Enters : {C : Type 0} → ChildHolding C → Plan → Trees → SpecVersion → List ℕ → ℕ → XmlEvent → OwnedName → List OwnedAttribute → Result (Inside C) XmlReadError → Type 0
 Enters holds plan ts v n q event m b result = kind_of event ≡ kinds.StartElement → (d : Depth) (s : Namespace) → EntersAt holds plan ts v n q d (innermost m b s no_nodes) result

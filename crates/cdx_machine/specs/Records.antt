@@ -15,7 +15,7 @@ use Rattle.cdx_schema.specs.Results.{◌>>=◌}
 use Rattle.cdx_schema.specs.Table.{rows, list}
 use Rattle.cdx_schema.specs.XmlReading.{no_content, content_from, record_plan, list_plan, plan_of_list, list_of, attributes_read, in_force, ended, xread, nodes_read}
 use Rattle.cdx_schema.proofs.FaultPlaces.{ok_err, bind_err, attributes_place, ended_place}
-use Rattle.cdx_leaf.specs.Each.{each, plan_step}
+use Rattle.cdx_leaf.specs.Each.{each_node, plan_step}
 use Rattle.cdx_schema.specs.Plain.{is_plain}
 use Rattle.cdx_leaf.specs.Trees.{collected}
 use Rattle.cdx_leaf.proofs.ChildSteps.{both, each_is}
@@ -37,7 +37,7 @@ pub record_by_nodes : (name : Name) (v : SpecVersion) (n : OwnedName) (a : List 
     → (so_far name v d n.local_name a p xs >>= λ ts. finished name v n.local_name (suc (p + places_of xs)) ts) ≡ (read_so_far (attributes_first name) (record_plan name) n.local_name a v d p xs >>= λ ts. record_end name n.local_name v (suc (p + places_of xs)) ts)
 record_by_nodes name v n a d p xs =
     ap (λ r. r >>= λ ts. record_end name n.local_name v (suc (p + places_of xs)) ts)
-    (sym (both (attributes_read (rows name) (in_force name a) v n.local_name p) (λ ts. nodes_read xs (record_plan name) n.local_name v d (suc p) ts) (λ ts. each (plan_step (record_plan name) v d n.local_name) xs (suc p) ts) (λ ts. each_is xs (record_plan name) n.local_name v d (suc p) ts)))
+    (sym (both (attributes_read (rows name) (in_force name a) v n.local_name p) (λ ts. nodes_read xs (record_plan name) n.local_name v d (suc p) ts) (λ ts. each_node (plan_step (record_plan name) v d n.local_name) xs (suc p) ts) (λ ts. each_is xs (record_plan name) n.local_name v d (suc p) ts)))
 
 pub record_frame : (name : Name) → content_from 0 (rows name) ≡ no_content → is_plain name ≡ true → IsFrame (a_record name) (record_plan name) (attributes_first name) (record_end name)
 record_frame name alone plain = record {

@@ -14,7 +14,7 @@ pub trait Content: Drop {
     ghost use Rattle.std.specs.Prelude.{◌+◌, List, ℕ};
     ghost use Rattle.cdx_models.specs.Trees.{Trees};
     ghost use Rattle.cdx_schema.specs.Kinds.{Kind};
-    ghost use Rattle.cdx_leaf.specs.Attribute.{Gives};
+    ghost use Rattle.cdx_leaf.specs.Attribute.{GivesAt};
     ghost use Rattle.cdx_machine.specs.Contents.{First, TextLast, IsContent};
 
     /// What the element is read as.
@@ -34,7 +34,7 @@ pub trait Content: Drop {
 
     /// What the attributes begin, or their first fault, at the element's start.
     fn begin(opened: &Start<'_>) -> Result<Self, XmlReadError>
-        ensures { Gives start (opened.now.place + 1)
+        ensures { GivesAt start (opened.now.place + 1)
             (first opened.now.element.now.local_name opened.now.attributes.now opened.now.version
             opened.now.place) result };
 
@@ -46,7 +46,7 @@ pub trait Content: Drop {
         element: &OwnedName,
         text: Option<Text>,
     ) -> Result<Self::Value, XmlReadError>
-        ensures { Gives Self.Value.tree (place + 1)
+        ensures { GivesAt Self.Value.tree (place + 1)
             (last element.now.local_name place (start self) text) result };
 
     // The kind is read like this.

@@ -43,7 +43,7 @@ pub trait Frame: Drop {
     ghost use Rattle.cdx_models.specs.Trees.{Tree, Trees};
     ghost use Rattle.cdx_schema.specs.Kinds.{Kind};
     ghost use Rattle.cdx_schema.specs.XmlReading.{Plan};
-    ghost use Rattle.cdx_leaf.specs.Attribute.{Gives};
+    ghost use Rattle.cdx_leaf.specs.Attribute.{GivesAt};
     ghost use Rattle.cdx_leaf.specs.Rules.{as_rule};
     ghost use Rattle.cdx_machine.specs.Contents.{First};
     ghost use Rattle.cdx_machine.specs.Frames.{Last, IsFrame};
@@ -79,7 +79,7 @@ pub trait Frame: Drop {
 
     /// What the attributes begin, or their first fault, at the element's start.
     fn begin(opened: &Start<'_>) -> Result<Self, XmlReadError>
-        ensures { Gives slots (opened.now.place + 1)
+        ensures { GivesAt slots (opened.now.place + 1)
             (first opened.now.element.now.local_name opened.now.attributes.now opened.now.version
             opened.now.place) result };
 
@@ -99,7 +99,7 @@ pub trait Frame: Drop {
 
     /// The value, or the fault of the first required child that is missing, at the element's end; or want of memory.
     fn finish(self, closed: &End<'_>) -> Result<Self::Value, XmlReadError>
-        ensures { Gives tree (closed.now.place + 1)
+        ensures { GivesAt tree (closed.now.place + 1)
             (last closed.now.element.now.local_name closed.now.version closed.now.place
             (slots self)) result };
 
@@ -197,7 +197,7 @@ fn feed<F: Frame>(
 #[derive(Drop)]
 pub struct FrameMachine<F: Frame> {
     alloc: Global,
-    v: SpecVersion,
+    version: SpecVersion,
     // The element's local name.
     name: Text,
     part: F,
@@ -216,13 +216,13 @@ impl<F: Frame> Machine for FrameMachine<F> {
 
     ghost holds = { λ m v p d o.
         holds_inside (reads_boxed F.plan F.Child.position_of F.Child.holds) F.first F.plan m.name
-        m.v (F.slots m.part) m.inside v p d o };
+        m.version (F.slots m.part) m.inside v p d o };
 
     fn start(opened: &Start<'_>) -> Result<FrameMachine<F>, XmlReadError> {
         let part = F::begin(opened)?;
         Ok(FrameMachine {
             alloc: opened.alloc,
-            v: opened.version,
+            version: opened.version,
             name: opened.element.local_name.copy(opened.alloc)?,
             part,
             inside: Inside::Nothing,
@@ -246,7 +246,7 @@ impl<F: Frame> Machine for FrameMachine<F> {
                     ..
                 } => {
                     self.inside = enter(
-                        self.alloc, self.v, &self.name, &self.part, place, event, name, attributes,
+                        self.alloc, self.version, &self.name, &self.part, place, event, name, attributes,
                     )?;
                     Ok(false)
                 }
@@ -268,7 +268,7 @@ impl<F: Frame> Machine for FrameMachine<F> {
         self.part.finish(&End {
             alloc: self.alloc,
             place,
-            version: self.v,
+            version: self.version,
             element: name,
         })
     }

@@ -61,7 +61,7 @@ pub trait ExactRecord {
     ghost use Rattle.cdx_schema.specs.Plain.{is_plain};
     ghost use Rattle.cdx_schema.specs.Table.{rows};
     ghost use Rattle.cdx_schema.specs.XmlReading.{one_text_alone, content_from, ended};
-    ghost use Rattle.cdx_leaf.specs.Attribute.{Gives, start_read};
+    ghost use Rattle.cdx_leaf.specs.Attribute.{GivesAt, start_read};
 
     /// What the element is read as.
     type Value: HasTree + Drop;
@@ -80,7 +80,7 @@ pub trait ExactRecord {
 
     /// What the attributes give, or their first fault, at the element's start.
     fn begin(opened: &Start<'_>) -> Result<Self::Start, XmlReadError>
-        ensures { Gives start (opened.now.place + 1)
+        ensures { GivesAt start (opened.now.place + 1)
             (start_read name opened.now.version opened.now.element.now.local_name
             opened.now.attributes.now opened.now.place) result };
 

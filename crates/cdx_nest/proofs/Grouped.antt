@@ -7,7 +7,7 @@ use Rattle.cdx_models.proofs.Lists.{count}
 use Rattle.cdx_schema.specs.Table.{rows}
 use Rattle.cdx_schema.specs.Depth.{Depth}
 use Rattle.cdx_schema.specs.JsonReading.{Object}
-use Rattle.cdx_json.specs.ByRows.{rows_made, own_made, by_rows, named}
+use Rattle.cdx_json.specs.ByRows.{rows_made, own_made, by_rows, as_record}
 use Rattle.cdx_json.specs.KeptRows.{rows_held, rows_put}
 use Rattle.cdx_json.proofs.ByRowsLaws.{rows_split, rows_then, then_same}
 use Rattle.cdx_nest.specs.declared.metadata.Metadata.{Metadata}
@@ -24,9 +24,9 @@ pub metadata_in_groups : (o : Object) (v : SpecVersion) (d : Depth) → by_rows 
 unfolding metadata_by_groups
 metadata_in_groups o v d =
     let own = own_made o v d in
-    ap (λ rs. rows_made o own rs v d (named metadata)) metadata_rows
-    ∙ rows_split o own (group 0 metadata) (group 1 metadata) v d (named metadata)
-    ∙ then_same (group_read 0 metadata o v d) _ _ (λ a. rows_then o own (group 1 metadata) v d (λ us. named metadata (a ⧺ us)))
+    ap (λ rs. rows_made o own rs v d (as_record metadata)) metadata_rows
+    ∙ rows_split o own (group 0 metadata) (group 1 metadata) v d (as_record metadata)
+    ∙ then_same (group_read 0 metadata o v d) _ _ (λ a. rows_then o own (group 1 metadata) v d (λ us. as_record metadata (a ⧺ us)))
 
 makers_count : (m : Metadata) → count (makers m) ≡ length (group 0 metadata)
 unfolding rows

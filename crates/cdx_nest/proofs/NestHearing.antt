@@ -13,7 +13,7 @@ use Rattle.cdx_schema.specs.Depth.{Depth}
 use Rattle.cdx_schema.specs.Kinds.{Kind}
 use Rattle.cdx_schema.specs.XmlReading.{xread}
 use Rattle.cdx_machine.specs.Heard.{Hears, OpensAs}
-use Rattle.cdx_machine.specs.Machines.{CanStep, CanYield, Refuses, StepsAs}
+use Rattle.cdx_machine.specs.Machines.{CanStep, CanYield, RefusesBefore, StepsAs}
 use Rattle.cdx_machine.proofs.Heard.{answers_open, opens_fail}
 use Rattle.cdx_machine.proofs.Several.{some_same}
 use Rattle.cdx_machine.proofs.Yielding.{ended_with, ends_with, can_yield}
@@ -58,5 +58,5 @@ module _ {M X K : Type 0} (holds : RootHolding K M) (as_kind : K → Kind) (view
 
 -- ---- an element's start that is refused, by a machine that is none yet
 
-pub start_refused : {N : Type 0} (hears : N → List XmlEvent → Type 0) (k : Kind) (v : SpecVersion) (p : ℕ) (d : Depth) (n : OwnedName) (a : List OwnedAttribute) (s : Namespace) (e : XmlReadError) → Refuses e (p + 1) (xread (element n a s no_nodes) v k p d) → OpensAs hears v k p d (StartElement n a s ∷ []) (Err e)
+pub start_refused : {N : Type 0} (hears : N → List XmlEvent → Type 0) (k : Kind) (v : SpecVersion) (p : ℕ) (d : Depth) (n : OwnedName) (a : List OwnedAttribute) (s : Namespace) (e : XmlReadError) → RefusesBefore e (p + 1) (xread (element n a s no_nodes) v k p d) → OpensAs hears v k p d (StartElement n a s ∷ []) (Err e)
 start_refused hears k v p d n a s e h = opens_fail (λ (m : Unit {0}) es. Hears (λ o. ⊥) es) hears v k p d (StartElement n a s ∷ []) e (answers_open (λ (m : Unit {0}) v p d o. ⊥) k v p d n a s (Err e) h)

@@ -12,7 +12,7 @@ use Rattle.cdx_machine.specs.Feeding.{IsNoBill}
 use Rattle.cdx_nest_machine.specs.declared.nested.Reads.{Reads}
 use Rattle.cdx_nest_machine.specs.declared.nested.Reads.TheVariants.{Leaf, Nested}
 use Rattle.cdx_nest_machine.specs.Forms.{plan_of, IsNested, record_nested, list_nested, tools_nested}
-use Rattle.cdx_nest_machine.specs.Children.{ReadsEach, kind_read, reads_listed}
+use Rattle.cdx_nest_machine.specs.Children.{ReadsEach, child_kind, reads_listed}
 use Rattle.cdx_component.specs.Frames.{kind_of as component_kind, reader_of as component_reader}
 use Rattle.cdx_component.specs.FrameLaws.{children_read as component_children}
 use Rattle.cdx_component.specs.declared.frames.ComponentKind.{ComponentKind}
@@ -37,7 +37,7 @@ service_same service_kinds.Services = refl
 
 -- What reads the children of those reads them here.
 module _ {K : Type 0} (of : K → NestKind) (own : K → Kind) (same : (k : K) → nest_kind (of k) ≡ own k) where
-  kind_same : (r : Reads LeafKind K) → kind_read leaf_kind own r ≡ kind_read leaf_kind nest_kind (reads_as of r)
+  kind_same : (r : Reads LeafKind K) → child_kind leaf_kind own r ≡ child_kind leaf_kind nest_kind (reads_as of r)
   kind_same (Leaf l) = refl
   kind_same (Nested k) = sym (same k)
 

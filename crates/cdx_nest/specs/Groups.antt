@@ -6,8 +6,8 @@ use Rattle.cdx_schema.specs.Depth.{Depth}
 use Rattle.cdx_schema.specs.Results.{◌>>=◌}
 use Rattle.cdx_schema.specs.Faults.{JsonFault}
 use Rattle.cdx_schema.specs.JsonReading.{Object}
-use Rattle.cdx_json.specs.ByRows.{named}
+use Rattle.cdx_json.specs.ByRows.{as_record}
 use Rattle.cdx_json.specs.Groups.{group_read}
 
 unfoldable pub metadata_by_groups : Object → SpecVersion → Depth → Result Tree JsonFault
-metadata_by_groups o v d = group_read 0 metadata o v d >>= λ a. group_read 1 metadata o v d >>= λ b. named metadata (a ⧺ b)
+metadata_by_groups o v d = group_read 0 metadata o v d >>= λ a. group_read 1 metadata o v d >>= λ b. as_record metadata (a ⧺ b)

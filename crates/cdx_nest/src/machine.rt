@@ -24,7 +24,7 @@ use std::alloc::Global;
 pub struct NestMachine {
     kind: NestKind,
     place: usize,
-    v: SpecVersion,
+    version: SpecVersion,
     depth: Depth,
     // None once an event was refused or the element has ended.
     machine: Option<StackMachine<NestFrame>>,
@@ -36,7 +36,7 @@ impl Drop for NestMachine {
         let NestMachine {
             kind: _,
             place: _,
-            v: _,
+            version: _,
             depth: _,
             machine: _,
         } = self;
@@ -45,7 +45,7 @@ impl Drop for NestMachine {
 
 impl Listener for NestMachine {
     ghost heard = { λ m. heard_by (⟦<StackMachine<NestFrame> as Keeps>⟧.holds m.kind) (λ _. m.kind)
-        m.kind m.v m.place (depth_of m.depth) m.machine };
+        m.kind m.version m.place (depth_of m.depth) m.machine };
 }
 
 impl NestMachine {
@@ -61,7 +61,7 @@ impl NestMachine {
         element: &OwnedName,
         attributes: &List<OwnedAttribute>,
     ) -> Result<NestMachine, XmlReadError>
-        ensures made { IfOk result (λ m. (m.kind ≡ kind) × (m.v ≡ version) × (m.place ≡ place)
+        ensures made { IfOk result (λ m. (m.kind ≡ kind) × (m.version ≡ version) × (m.place ≡ place)
             × (m.depth ≡ depth) × IsListening m.machine) }
         ensures opens { (s : Namespace) → OpensAs ⟦<NestMachine as Listener>⟧.heard version
             (nest_kind kind) place (depth_of depth)
@@ -81,7 +81,7 @@ impl NestMachine {
         Ok(NestMachine {
             kind,
             place,
-            v: version,
+            version,
             depth,
             machine: Some(machine),
         })
@@ -93,13 +93,13 @@ impl NestMachine {
     pub fn step(&mut self, place: usize, event: &XmlEvent) -> Result<NestStep, XmlReadError>
         requires { Listens (IsListening self.old.machine)
             (⟦<NestMachine as Listener>⟧.heard self.old) self.old.place place event.now }
-        ensures kept { (self.new.kind ≡ self.old.kind) × (self.new.v ≡ self.old.v)
+        ensures kept { (self.new.kind ≡ self.old.kind) × (self.new.version ≡ self.old.version)
             × (self.new.place ≡ self.old.place) × (self.new.depth ≡ self.old.depth) }
         ensures kind { IfOk result (IsOfKind self.old.kind) }
         ensures answers { (events : List XmlEvent)
             → ⟦<NestMachine as Listener>⟧.heard self.old events
             → place ≡ self.old.place + length events → BeginsElement (events ++ event.now ∷ [])
-            → Answers (⟦<NestMachine as Listener>⟧.heard self.new) value_tree self.old.v
+            → Answers (⟦<NestMachine as Listener>⟧.heard self.new) value_tree self.old.version
             (nest_kind self.old.kind) self.old.place (depth_of self.old.depth) place
             (events ++ event.now ∷ []) (as_steps result) }
         ensures heard { (events : List XmlEvent)

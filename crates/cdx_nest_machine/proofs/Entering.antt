@@ -15,7 +15,7 @@ use Rattle.cdx_schema.specs.Kinds.{Kind}
 use Rattle.cdx_schema.specs.Nodes.{places}
 use Rattle.cdx_schema.specs.XmlReading.{Child, xread}
 use Rattle.cdx_machine.specs.Begun.{Begun, innermost, Next, still, whole, next}
-use Rattle.cdx_machine.specs.Machines.{Refuses, IsQuiet, Holding, CanStep, CanYield, CanStepChild, Proceeds, Yields, StartsAs, ProceedsAs, YieldsAs}
+use Rattle.cdx_machine.specs.Machines.{RefusesBefore, IsQuiet, Holding, CanStep, CanYield, CanStepChild, Proceeds, Yields, StartsAs, ProceedsAs, YieldsAs}
 use Rattle.cdx_machine.specs.Frames.{OpensChild, EntersAt}
 use Rattle.cdx_machine.specs.Several.{at_position, kinds_of}
 use Rattle.cdx_machine.proofs.Names.{FindsAt}
@@ -24,7 +24,7 @@ use Rattle.cdx_machine.proofs.Frames.{enters_fault}
 use Rattle.cdx_nest_machine.specs.declared.nested.Reads.{Reads}
 use Rattle.cdx_nest_machine.specs.declared.nested.Reads.TheVariants.{Leaf}
 use Rattle.cdx_nest_machine.specs.declared.stack.LeafChild.{LeafChild}
-use Rattle.cdx_nest_machine.specs.Children.{kind_read, ReadsEach}
+use Rattle.cdx_nest_machine.specs.Children.{child_kind, ReadsEach}
 use Rattle.cdx_nest_machine.specs.Forms.{plan_of}
 use Rattle.cdx_nest_machine.specs.Frames.{leaf_keeps, leaf_holds}
 
@@ -37,10 +37,10 @@ row_of (c ∷ cs) (suc i) k h = row_of cs i k h
 
 module _ {L S : Type 0} (leaf : L → Kind) (own : S → Kind) (child : ℕ → Option (Reads L S)) (cs : List Child) (law : ReadsEach leaf own child cs) (i : ℕ) (r : Reads L S) (is : child i ≡ Some r) where
   -- A child of the plan is read as its kind.
-  pub row_kind : (row : Child) → at_position cs i ≡ Some row → row.kind ≡ kind_read leaf own r
-  row_kind row h = let x : (r : Reads L S) × (child i ≡ Some r) × (row.kind ≡ kind_read leaf own r) = law i row h in x.2 ∙ ap (kind_read leaf own) (some_same (sym x.1 ∙ is))
+  pub row_kind : (row : Child) → at_position cs i ≡ Some row → row.kind ≡ child_kind leaf own r
+  row_kind row h = let x : (r : Reads L S) × (child i ≡ Some r) × (row.kind ≡ child_kind leaf own r) = law i row h in x.2 ∙ ap (child_kind leaf own) (some_same (sym x.1 ∙ is))
 
-  pub kind_known : (k : Kind) → at_position (kinds_of cs) i ≡ Some k → kind_read leaf own r ≡ k
+  pub kind_known : (k : Kind) → at_position (kinds_of cs) i ≡ Some k → child_kind leaf own r ≡ k
   kind_known k h = let x : (row : Child) × (at_position cs i ≡ Some row) × (row.kind ≡ k) = row_of cs i k h in sym (row_kind x.0 x.1) ∙ x.2
 
 -- Something reads a child that a name stands for.
@@ -95,8 +95,8 @@ module _ {M L K : Type 0} (leaf : L → Kind) (own : K → Kind) (child_of : K �
 
   -- the child's own fault
   pub start_fault : (ts : Trees) (v : SpecVersion) (name : List ℕ) (q : ℕ) (d : Depth) (n : OwnedName) (a : List OwnedAttribute) (z : Namespace) (e : XmlReadError) (i : ℕ) (r : Reads L K) → FindsAt (plan_of (own k)).children ts v n.local_name i → child_of k i ≡ Some r
-      → Refuses e (q + 1) (xread (element n a z no_nodes) v (kind_read leaf own r) q d)
+      → RefusesBefore e (q + 1) (xread (element n a z no_nodes) v (child_kind leaf own r) q d)
       → EntersAt (leaf_holds own child_of leaf_sort holds k) (plan_of (own k)) ts v name q d (innermost n a z no_nodes) (Err e)
   start_fault ts v name q d n a z e i r f is h =
       enters_fault (leaf_holds own child_of leaf_sort holds k) (plan_of (own k)) ts v name q d n a z e i f
-      (subst (λ (x : Kind). Refuses e (q + 1) (xread (element n a z no_nodes) v x q d)) (sym (row_kind leaf own (child_of k) (plan_of (own k)).children law i r is f.row f.is_at)) h)
+      (subst (λ (x : Kind). RefusesBefore e (q + 1) (xread (element n a z no_nodes) v x q d)) (sym (row_kind leaf own (child_of k) (plan_of (own k)).children law i r is f.row f.is_at)) h)

@@ -9,7 +9,7 @@ use Rattle.cdx_models.specs.Trees.{Tree}
 use Rattle.cdx_schema.specs.Depth.{Depth}
 use Rattle.cdx_schema.specs.Kinds.{Kind}
 use Rattle.cdx_schema.specs.XmlReading.{xread}
-use Rattle.cdx_machine.specs.Begun.{Begun, whole, next, count, Takes}
+use Rattle.cdx_machine.specs.Begun.{Begun, whole, next, count, TakesEvent}
 use Rattle.cdx_machine.specs.Machines.{StepsAs}
 use Rattle.cdx_machine.proofs.Yielding.{ended_with, ends_with, proceeds_whole}
 use Rattle.cdx_nest_machine.specs.Stacks.{RootHolding, CanStepStack, ProceedsStack, CanYieldStack, IsOfRoot, YieldsStack}
@@ -19,7 +19,7 @@ of_root_ok sort root (Ok x) h = h
 of_root_ok sort root (Err e) h = h
 
 module _ {M K : Type 0} (holds : RootHolding K M) (as_kind : K → Kind) (m m' : M) (place : ℕ) (event : XmlEvent) (b : Bool) (ended : b ≡ true) (steps : ProceedsStack holds as_kind m m' place event (Ok b)) where
-  ended_whole : (root : K) (v : SpecVersion) (p : ℕ) (d : Depth) (o : Begun) → holds root m v p d o → place ≡ p + count o → Takes o event → (k : Node) × (next o event ≡ whole k) × holds root m' v p d o
+  ended_whole : (root : K) (v : SpecVersion) (p : ℕ) (d : Depth) (o : Begun) → holds root m v p d o → place ≡ p + count o → TakesEvent o event → (k : Node) × (next o event ≡ whole k) × holds root m' v p d o
   ended_whole root v p d o held is t = proceeds_whole (λ o. holds root m' v p d o) (holds root m' v p d o) (λ k. xread k v (as_kind root) p d) p (next o event) b ended (steps root v p d o held is t)
 
   -- The element has ended, and can be finished.
@@ -33,7 +33,7 @@ module _ {M K : Type 0} (holds : RootHolding K M) (as_kind : K → Kind) (m m' :
   root_ends view sort r root y = ends_with (holds root) view (as_kind root) m m' place event b r ended (steps root) (λ v p d o k held is t w. (y root v p d o k held is t w).0)
 
   -- A value is of the root's kind.
-  pub root_value : {X : Type 0} (view : X → Tree) (sort : X → K) (r : Result X XmlReadError) (root : K) (v : SpecVersion) (p : ℕ) (d : Depth) (o : Begun) → holds root m v p d o → place ≡ p + count o → Takes o event → YieldsStack holds as_kind view sort m' place event r → IfOk r (λ x. sort x ≡ root)
+  pub root_value : {X : Type 0} (view : X → Tree) (sort : X → K) (r : Result X XmlReadError) (root : K) (v : SpecVersion) (p : ℕ) (d : Depth) (o : Begun) → holds root m v p d o → place ≡ p + count o → TakesEvent o event → YieldsStack holds as_kind view sort m' place event r → IfOk r (λ x. sort x ≡ root)
   root_value view sort r root v p d o held is t y =
       let w : (k : Node) × (next o event ≡ whole k) × holds root m' v p d o = ended_whole root v p d o held is t in
       of_root_ok sort root r (y root v p d o w.0 w.2 is t w.1).1

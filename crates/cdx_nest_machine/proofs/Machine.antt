@@ -18,12 +18,13 @@ use Rattle.cdx_schema.specs.Faults.{unexpected}
 use Rattle.cdx_schema.specs.Nodes.{places, places_of, ◌⊕◌}
 use Rattle.cdx_schema.specs.XmlReading.{find_child, xread}
 use Rattle.cdx_leaf.specs.declared.rule.Rule.{Rule}
-use Rattle.cdx_leaf.specs.Attribute.{Gives}
+use Rattle.cdx_leaf.specs.Attribute.{GivesAt}
 use Rattle.cdx_leaf.specs.Fault.{Refused}
 use Rattle.cdx_leaf.specs.Rules.{skips, passes, as_rule}
 use Rattle.cdx_machine.specs.declared.frame.Inside.{Inside}
 use Rattle.cdx_machine.specs.declared.frame.Inside.TheVariants.{Nothing, Read, Skipped}
-use Rattle.cdx_machine.specs.Begun.{Begun, innermost, around, Next, still, whole, count, start_name, into, next, Takes, lone}
+use Rattle.cdx_schema.specs.XmlSpelling.{lone}
+use Rattle.cdx_machine.specs.Begun.{Begun, innermost, around, Next, still, whole, count, start_name, into, next, TakesEvent}
 use Rattle.cdx_machine.specs.Machines.{IsQuiet, Proceeds, Yields, CanStepChild, ChildHolding}
 use Rattle.cdx_machine.specs.Frames.{IsForm, EntersAt, FeedsChild, skipped, holds_inside}
 use Rattle.cdx_machine.proofs.Yielding.{proceeds_whole}
@@ -32,7 +33,7 @@ use Rattle.cdx_machine.proofs.Frames.{Keeps, keeps_name, enters_unknown, enters_
 use Rattle.cdx_machine.specs.Several.{Puts}
 use Rattle.cdx_machine.proofs.Names.{FindsAt, FindsSecond}
 use Rattle.cdx_nest_machine.specs.declared.nested.Reads.TheVariants.{Nested}
-use Rattle.cdx_nest_machine.specs.Forms.{plan_of, first_of, last_of, inner_of, inner_read, IsNested}
+use Rattle.cdx_nest_machine.specs.Forms.{plan_of, first_of, last_step, inner_of, inner_read, IsNested}
 use Rattle.cdx_nest_machine.specs.declared.stack.Open.{Open}
 use Rattle.cdx_nest_machine.specs.declared.stack.Waiting.{Waiting}
 use Rattle.cdx_nest_machine.specs.Frames.{stack_holds}
@@ -68,7 +69,7 @@ module _ {W L K C : Type 0} (s : Shape W L K) (law : (k : K) → IsNested (s.as_
   abbrev Reading : ℕ → Node → Result Tree XmlReadError
   Reading q y = inner_read (s.as_kind k) y v q inner
 
-  form : IsForm (inner_read (s.as_kind k)) (plan_of (s.as_kind k)) (first_of (s.as_kind k)) (last_of (s.as_kind k))
+  form : IsForm (inner_read (s.as_kind k)) (plan_of (s.as_kind k)) (first_of (s.as_kind k)) (last_step (s.as_kind k))
   form = form_of (s.as_kind k) (law k)
 
   module _ (ts : Trees) (inside : Inside C) (h : Stacked s holds root ws k name inner ts known inside v p d o) where
@@ -78,8 +79,8 @@ module _ {W L K C : Type 0} (s : Shape W L K) (law : (k : K) → IsNested (s.as_
     pub top_at : place ≡ p + count o → place ≡ h.place + count h.top
     top_at is = is ∙ (ap (λ (x : Begun). p + count x) h.whole ∙ at_place s law v root p d ws h.layers k h.place h.depth (start_name h.top) h.top h.stand)
 
-    pub top_takes : Takes o event → Takes h.top event
-    top_takes t = takes_plug h.layers h.top event (subst (λ (x : Begun). Takes x event) h.whole t)
+    pub top_takes : TakesEvent o event → TakesEvent h.top event
+    top_takes t = takes_plug h.layers h.top event (subst (λ (x : Begun). TakesEvent x event) h.whole t)
 
     -- The top element goes on.
     pub more : (us : Trees) (inside' : Inside C) → Proceeds (λ o. holds_inside (holds k) (first_of (s.as_kind k)) (plan_of (s.as_kind k)) name known us inside' v h.place inner o) kept (Reading h.place) h.place (next h.top event) (Ok false) → Told (Now us inside') (Ok false)
@@ -94,26 +95,26 @@ module _ {W L K C : Type 0} (s : Shape W L K) (law : (k : K) → IsNested (s.as_
         (is_refused s law v root p d holds ws k h.layers h.place h.depth inner (start_name h.top) h.stand h.inner_is h.fits held held kept kept (next h.top event) f (keeps_name h.top event) r)
 
     -- It ends with the event, and no element is around it.
-    pub yields : {X : Type 0} (view : X → Tree) (m : OwnedName) (q : ℕ) (x : Result X XmlReadError) (y : Node) → event ≡ EndElement m → place ≡ p + count o → Takes o event → next o event ≡ whole y → Gives view q (last_of (s.as_kind k) m.local_name known place ts) x
+    pub yields : {X : Type 0} (view : X → Tree) (m : OwnedName) (q : ℕ) (x : Result X XmlReadError) (y : Node) → event ≡ EndElement m → place ≡ p + count o → TakesEvent o event → next o event ≡ whole y → GivesAt view q (last_step (s.as_kind k) m.local_name known place ts) x
         → Yields view (p + places y) (xread y v (s.as_kind root) p d) x × (k ≡ root)
     yields view m q x y e is t w g =
         let a : (h.layers ≡ []) × (next h.top event ≡ whole y) = ended_alone h.layers (next h.top event) y (sym next_is ∙ w) in (
           is_yielded s law v root p d holds ws k h.layers h.place h.depth inner (start_name h.top) h.stand h.inner_is h.fits view y x a.0
-              (frame_yields (inner_read (s.as_kind k)) (plan_of (s.as_kind k)) (first_of (s.as_kind k)) (last_of (s.as_kind k)) form (holds k) (λ (x : Trees). x) kept v h.place inner name known view ts place q x inside h.top event m y h.held (top_at is) e (top_takes t) a.1 g),
+              (frame_yields (inner_read (s.as_kind k)) (plan_of (s.as_kind k)) (first_of (s.as_kind k)) (last_step (s.as_kind k)) form (holds k) (λ (x : Trees). x) kept v h.place inner name known view ts place q x inside h.top event m y h.held (top_at is) e (top_takes t) a.1 g),
           (root_is s law v root p d holds ws k h.layers h.place h.depth inner (start_name h.top) h.stand h.inner_is h.fits a.0).0,
         )
 
   -- ---- an open child of a leaf kind
-  module _ (ts us : Trees) (c : C) (h : Stacked s holds root ws k name inner ts known (Read c) v p d o) (is : place ≡ p + count o) (t : Takes o event) where
+  module _ (ts us : Trees) (c : C) (h : Stacked s holds root ws k name inner ts known (Read c) v p d o) (is : place ≡ p + count o) (t : TakesEvent o event) where
     pub leaf_fails : (held : Begun → Type 0) (f : XmlReadError) → FeedsChild (holds k) ts us c place event (Err f) → Told held (Err f)
     leaf_fails held f e =
         fails ts (Read c) h held f
-        (child_fails (inner_read (s.as_kind k)) (plan_of (s.as_kind k)) (first_of (s.as_kind k)) (last_of (s.as_kind k)) form (holds k) (λ (x : Trees). x) kept v h.place inner name known held ts us c c h.top place event f h.held (top_at ts (Read c) h is) (top_takes ts (Read c) h t) e)
+        (child_fails (inner_read (s.as_kind k)) (plan_of (s.as_kind k)) (first_of (s.as_kind k)) (last_step (s.as_kind k)) form (holds k) (λ (x : Trees). x) kept v h.place inner name known held ts us c c h.top place event f h.held (top_at ts (Read c) h is) (top_takes ts (Read c) h t) e)
 
     pub leaf_fed : (inside : Inside C) → FeedsChild (holds k) ts us c place event (Ok inside) → Told (Now us inside) (Ok false)
     leaf_fed inside e =
         more ts (Read c) h us inside
-        (child_fed (inner_read (s.as_kind k)) (plan_of (s.as_kind k)) (first_of (s.as_kind k)) (last_of (s.as_kind k)) form (holds k) (λ (x : Trees). x) kept v h.place inner name known ts us c inside h.top place event h.held (top_at ts (Read c) h is) (top_takes ts (Read c) h t) e)
+        (child_fed (inner_read (s.as_kind k)) (plan_of (s.as_kind k)) (first_of (s.as_kind k)) (last_step (s.as_kind k)) form (holds k) (λ (x : Trees). x) kept v h.place inner name known ts us c inside h.top place event h.held (top_at ts (Read c) h is) (top_takes ts (Read c) h t) e)
 
     -- It can take the event.
     pub leaf_can : CanStepChild (holds k) c place event
@@ -122,7 +123,7 @@ module _ {W L K C : Type 0} (s : Shape W L K) (law : (k : K) → IsNested (s.as_
         at : (q i j : ℕ) → place ≡ q + suc (i + j) → place ≡ suc q + i + j
         at q i j e = omega (arith, e)
 
-        by : (x : Begun) → holds_inside (holds k) (first_of (s.as_kind k)) (plan_of (s.as_kind k)) name known ts (Read c) v h.place inner x → place ≡ h.place + count x → Takes x event → CanStepChild (holds k) c place event
+        by : (x : Begun) → holds_inside (holds k) (first_of (s.as_kind k)) (plan_of (s.as_kind k)) name known ts (Read c) v h.place inner x → place ≡ h.place + count x → TakesEvent x event → CanStepChild (holds k) c place event
         by (innermost n a z xs) i e t = absurd i
         by (around n a z xs x) i e t = record { row = i.1.row; v = v; p = suc h.place + places_of xs; d = inner; o = x; held = i.1.held; place_is = at h.place (places_of xs) (count x) e; takes = t }
 
@@ -130,38 +131,38 @@ module _ {W L K C : Type 0} (s : Shape W L K) (law : (k : K) → IsNested (s.as_
   module _ (ts : Trees) (depth : ℕ) (h : Stacked s holds root ws k name inner ts known (Skipped depth) v p d o) where
     pub skip_fits_in : place ≡ p + count o → suc depth ≤ place
     skip_fits_in is =
-        skip_fits (inner_read (s.as_kind k)) (plan_of (s.as_kind k)) (first_of (s.as_kind k)) (last_of (s.as_kind k)) form (holds k) (λ (x : Trees). x) kept v h.place inner name known ts depth place h.top h.held (top_at ts (Skipped depth) h is)
+        skip_fits (inner_read (s.as_kind k)) (plan_of (s.as_kind k)) (first_of (s.as_kind k)) (last_step (s.as_kind k)) form (holds k) (λ (x : Trees). x) kept v h.place inner name known ts depth place h.top h.held (top_at ts (Skipped depth) h is)
 
-    pub skip_more : (inside : Inside C) → inside ≡ skipped depth event → Takes o event → Told (Now ts inside) (Ok false)
+    pub skip_more : (inside : Inside C) → inside ≡ skipped depth event → TakesEvent o event → Told (Now ts inside) (Ok false)
     skip_more inside e t =
         more ts (Skipped depth) h ts inside
-        (child_skipped (inner_read (s.as_kind k)) (plan_of (s.as_kind k)) (first_of (s.as_kind k)) (last_of (s.as_kind k)) form (holds k) (λ (x : Trees). x) kept v h.place inner name known ts depth inside h.top event e h.held (top_takes ts (Skipped depth) h t))
+        (child_skipped (inner_read (s.as_kind k)) (plan_of (s.as_kind k)) (first_of (s.as_kind k)) (last_step (s.as_kind k)) form (holds k) (λ (x : Trees). x) kept v h.place inner name known ts depth inside h.top event e h.held (top_takes ts (Skipped depth) h t))
 
   -- ---- nothing is open in the top element
-  module _ (ts : Trees) (h : Stacked s holds root ws k name inner ts known Nothing v p d o) (is : place ≡ p + count o) (t : Takes o event) where
+  module _ (ts : Trees) (h : Stacked s holds root ws k name inner ts known Nothing v p d o) (is : place ≡ p + count o) (t : TakesEvent o event) where
     module _ (rule : Rule) (ru : (plan_of (s.as_kind k)).rule ≡ as_rule rule) (i : (m : OwnedName) (b : List OwnedAttribute) (z : Namespace) → event ≡ StartElement m b z → ⊥) (j : (m : OwnedName) → event ≡ EndElement m → ⊥) where
       pub text_more : passes rule ≡ true → Told (Now ts Nothing) (Ok false)
       text_more does =
           more ts Nothing h ts Nothing
-          (own_text (inner_read (s.as_kind k)) (plan_of (s.as_kind k)) (first_of (s.as_kind k)) (last_of (s.as_kind k)) form (holds k) (λ (x : Trees). x) kept v h.place inner name known ts Nothing rule h.top place event h.held (top_takes ts Nothing h t) ru does i j refl)
+          (own_text (inner_read (s.as_kind k)) (plan_of (s.as_kind k)) (first_of (s.as_kind k)) (last_step (s.as_kind k)) form (holds k) (λ (x : Trees). x) kept v h.place inner name known ts Nothing rule h.top place event h.held (top_takes ts Nothing h t) ru does i j refl)
 
       pub text_fails : (held : Begun → Type 0) (x : Result Bool XmlReadError) → passes rule ≡ false → Refused x (unexpected place name (kind_of event)) → Told held x
       text_fails held (Ok y) not e = absurd e
       text_fails held (Err f) not e =
           fails ts Nothing h held f
-          (own_text_fails (inner_read (s.as_kind k)) (plan_of (s.as_kind k)) (first_of (s.as_kind k)) (last_of (s.as_kind k)) form (holds k) (λ (x : Trees). x) kept v h.place inner name known ts held rule h.top place event (Err f) h.held (top_at ts Nothing h is) (top_takes ts Nothing h t) ru not i j e)
+          (own_text_fails (inner_read (s.as_kind k)) (plan_of (s.as_kind k)) (first_of (s.as_kind k)) (last_step (s.as_kind k)) form (holds k) (λ (x : Trees). x) kept v h.place inner name known ts held rule h.top place event (Err f) h.held (top_at ts Nothing h is) (top_takes ts Nothing h t) ru not i j e)
 
     -- a child's start
     module _ (m : OwnedName) (b : List OwnedAttribute) (z : Namespace) (e : event ≡ StartElement m b z) where
       pub start_fails : (held : Begun → Type 0) (f : XmlReadError) → EntersAt (holds k) (plan_of (s.as_kind k)) ts known name place inner (innermost m b z no_nodes) (Err f) → Told held (Err f)
       start_fails held f en =
           fails ts Nothing h held f
-          (own_start_fails_by (inner_read (s.as_kind k)) (plan_of (s.as_kind k)) (first_of (s.as_kind k)) (last_of (s.as_kind k)) form (holds k) (λ (x : Trees). x) kept v h.place inner name known ts held h.top place event m b z f e h.held (top_at ts Nothing h is) en)
+          (own_start_fails_by (inner_read (s.as_kind k)) (plan_of (s.as_kind k)) (first_of (s.as_kind k)) (last_step (s.as_kind k)) form (holds k) (λ (x : Trees). x) kept v h.place inner name known ts held h.top place event m b z f e h.held (top_at ts Nothing h is) en)
 
       pub start_more : (inside : Inside C) → EntersAt (holds k) (plan_of (s.as_kind k)) ts known name place inner (innermost m b z no_nodes) (Ok inside) → Told (Now ts inside) (Ok false)
       start_more inside en =
           more ts Nothing h ts inside
-          (own_enters_by (inner_read (s.as_kind k)) (plan_of (s.as_kind k)) (first_of (s.as_kind k)) (last_of (s.as_kind k)) form (holds k) (λ (x : Trees). x) kept v h.place inner name known ts h.top place event m b z inside e h.held (top_at ts Nothing h is) en)
+          (own_enters_by (inner_read (s.as_kind k)) (plan_of (s.as_kind k)) (first_of (s.as_kind k)) (last_step (s.as_kind k)) form (holds k) (λ (x : Trees). x) kept v h.place inner name known ts h.top place event m b z inside e h.held (top_at ts Nothing h is) en)
 
       -- one that the plan doesn't have
       pub unknown_fails : (held : Begun → Type 0) (rule : Rule) (x : Result Bool XmlReadError) → find_child known m.local_name (plan_of (s.as_kind k)).children ≡ None → (plan_of (s.as_kind k)).rule ≡ as_rule rule → skips rule ≡ false → Refused x (unexpected place name (kind_of event)) → Told held x
@@ -181,13 +182,13 @@ module _ {W L K C : Type 0} (s : Shape W L K) (law : (k : K) → IsNested (s.as_
       own_whole =
           let w : (y : Node) × (next h.top event ≡ whole y) × Unit {0} =
           proceeds_whole (λ (x : Begun). Unit {0}) (Unit {0}) (Reading h.place) h.place (next h.top event) true refl
-          (own_end (inner_read (s.as_kind k)) (plan_of (s.as_kind k)) (first_of (s.as_kind k)) (last_of (s.as_kind k)) form (holds k) (λ (x : Trees). x) (Unit {0}) v h.place inner name known (λ (x : Begun). Unit {0}) ts h.top event m e h.held tt) in
+          (own_end (inner_read (s.as_kind k)) (plan_of (s.as_kind k)) (first_of (s.as_kind k)) (last_step (s.as_kind k)) form (holds k) (λ (x : Trees). x) (Unit {0}) v h.place inner name known (λ (x : Begun). Unit {0}) ts h.top event m e h.held tt) in
           (w.0, w.1)
 
-      ends : {X : Type 0} (view : X → Tree) (q : ℕ) (x : Result X XmlReadError) → Gives view q (last_of (s.as_kind k) m.local_name known place ts) x → Yields view (h.place + places own_whole.0) (Reading h.place own_whole.0) x
-      ends view q x g = frame_yields (inner_read (s.as_kind k)) (plan_of (s.as_kind k)) (first_of (s.as_kind k)) (last_of (s.as_kind k)) form (holds k) (λ (x : Trees). x) kept v h.place inner name known view ts place q x Nothing h.top event m own_whole.0 h.held (top_at ts Nothing h is) e (top_takes ts Nothing h t) own_whole.1 g
+      ends : {X : Type 0} (view : X → Tree) (q : ℕ) (x : Result X XmlReadError) → GivesAt view q (last_step (s.as_kind k) m.local_name known place ts) x → Yields view (h.place + places own_whole.0) (Reading h.place own_whole.0) x
+      ends view q x g = frame_yields (inner_read (s.as_kind k)) (plan_of (s.as_kind k)) (first_of (s.as_kind k)) (last_step (s.as_kind k)) form (holds k) (λ (x : Trees). x) kept v h.place inner name known view ts place q x Nothing h.top event m own_whole.0 h.held (top_at ts Nothing h is) e (top_takes ts Nothing h t) own_whole.1 g
 
-      pub end_fails : {X : Type 0} (view : X → Tree) (held : Begun → Type 0) (q : ℕ) (f : XmlReadError) → Gives view q (last_of (s.as_kind k) m.local_name known place ts) (Err f) → Told held (Err f)
+      pub end_fails : {X : Type 0} (view : X → Tree) (held : Begun → Type 0) (q : ℕ) (f : XmlReadError) → GivesAt view q (last_step (s.as_kind k) m.local_name known place ts) (Err f) → Told held (Err f)
       end_fails view held q f g = fails ts Nothing h held f (subst (λ (x : Next). Proceeds held kept (Reading h.place) h.place x (Err f)) (sym own_whole.1) (ends view q (Err f) g))
 
       -- It is the root.
@@ -195,13 +196,13 @@ module _ {W L K C : Type 0} (s : Shape W L K) (law : (k : K) → IsNested (s.as_
       end_done held none all =
           subst (λ (x : Next). Proceeds held kept (λ y. xread y v (s.as_kind root) p d) p x (Ok true)) (sym (next_is ts Nothing h))
           (is_done s law v root p d holds ws k h.layers h.place h.depth inner (start_name h.top) h.stand h.inner_is h.fits held held kept (next h.top event) none
-          (own_end (inner_read (s.as_kind k)) (plan_of (s.as_kind k)) (first_of (s.as_kind k)) (last_of (s.as_kind k)) form (holds k) (λ (x : Trees). x) kept v h.place inner name known held ts h.top event m e h.held all))
+          (own_end (inner_read (s.as_kind k)) (plan_of (s.as_kind k)) (first_of (s.as_kind k)) (last_step (s.as_kind k)) form (holds k) (λ (x : Trees). x) kept v h.place inner name known held ts h.top event m e h.held all))
 
       version_known : (o : Begun) → holds_inside (holds k) (first_of (s.as_kind k)) (plan_of (s.as_kind k)) name known ts Nothing v h.place inner o → known ≡ v
       version_known (innermost n a z xs) i = i.version_is
       version_known (around n a z xs o) i = absurd i
 
-      pub end_pops : {X : Type 0} (view : X → Tree) (w : W) (us : List W) (q : ℕ) (x : X) (ts' : Trees) → ws ≡ w ∷ us → Gives view q (last_of (s.as_kind k) m.local_name known place ts) (Ok x) → Puts (plan_of (s.as_kind (s.sort w))).children (s.position w) (view x) (s.fields w) ts'
+      pub end_pops : {X : Type 0} (view : X → Tree) (w : W) (us : List W) (q : ℕ) (x : X) (ts' : Trees) → ws ≡ w ∷ us → GivesAt view q (last_step (s.as_kind k) m.local_name known place ts) (Ok x) → Puts (plan_of (s.as_kind (s.sort w))).children (s.position w) (view x) (s.fields w) ts'
           → Told (λ o'. Stacked s holds root us (s.sort w) (s.name w) (s.inner w) ts' known Nothing v p d o') (Ok false)
       end_pops view w us q x ts' some g st =
           subst (λ (y : Next). Told' y) (sym (next_is ts Nothing h ∙ ap (λ (y : Next). plug_next h.layers y) own_whole.1))

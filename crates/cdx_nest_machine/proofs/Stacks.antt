@@ -15,8 +15,9 @@ use Rattle.cdx_schema.specs.Nodes.{places, places_of, ◌⊕◌}
 use Rattle.cdx_schema.specs.XmlReading.{find_child, xread}
 use Rattle.cdx_machine.specs.declared.frame.Inside.{Inside}
 use Rattle.cdx_machine.specs.declared.frame.Inside.TheVariants.{Nothing}
-use Rattle.cdx_machine.specs.Begun.{Begun, innermost, around, Next, still, whole, count, start_name, ended_now, into, next, Takes, lone}
-use Rattle.cdx_machine.specs.Machines.{Refuses, IsQuiet, Proceeds, Yields, ChildHolding}
+use Rattle.cdx_schema.specs.XmlSpelling.{lone}
+use Rattle.cdx_machine.specs.Begun.{Begun, innermost, around, Next, still, whole, count, start_name, ended_now, into, next, TakesEvent}
+use Rattle.cdx_machine.specs.Machines.{RefusesBefore, IsQuiet, Proceeds, Yields, ChildHolding}
 use Rattle.cdx_machine.specs.Frames.{IsForm, read_so_far, holds_inside}
 use Rattle.cdx_machine.proofs.Places.{places_more}
 use Rattle.cdx_machine.proofs.Children.{puts_row}
@@ -26,9 +27,9 @@ use Rattle.cdx_machine.proofs.Frames.{IsNamed, ended_named, Keeps, keeps_into}
 use Rattle.cdx_machine.specs.Several.{Puts}
 use Rattle.cdx_machine.proofs.Names.{FindsAt}
 use Rattle.cdx_nest_machine.specs.declared.nested.Reads.TheVariants.{Nested}
-use Rattle.cdx_nest_machine.specs.Forms.{plan_of, first_of, last_of, inner_of, inner_read, IsNested}
+use Rattle.cdx_nest_machine.specs.Forms.{plan_of, first_of, last_step, inner_of, inner_read, IsNested}
 use Rattle.cdx_nest_machine.specs.Stacks.{Layer, plug, plug_next, Shape, Waits, Stand, Stacked}
-use Rattle.cdx_leaf.specs.Fault.{Fails}
+use Rattle.cdx_leaf.specs.Fault.{FailsAt}
 
 -- ---- events
 
@@ -36,7 +37,7 @@ pub next_plug : (ls : List Layer) (o : Begun) (event : XmlEvent) → next (plug 
 next_plug [] o event = refl
 next_plug (l ∷ ls) o event = next_plug ls (around l.name l.attributes l.namespace l.nodes o) event
 
-pub takes_plug : (ls : List Layer) (o : Begun) (event : XmlEvent) → Takes (plug ls o) event → Takes o event
+pub takes_plug : (ls : List Layer) (o : Begun) (event : XmlEvent) → TakesEvent (plug ls o) event → TakesEvent o event
 takes_plug [] o event t = t
 takes_plug (l ∷ ls) o event t = takes_plug ls (around l.name l.attributes l.namespace l.nodes o) event t
 
@@ -50,7 +51,7 @@ ended_alone [] x k e = (refl, e)
 ended_alone (l ∷ ls) (still o) k e = absurd (let wrong : still (plug ls (around l.name l.attributes l.namespace l.nodes o)) ≡ whole k = sym (still_plug ls (around l.name l.attributes l.namespace l.nodes o)) ∙ e in cc)
 ended_alone (l ∷ ls) (whole y) k e = absurd (let wrong : still (plug ls (innermost l.name l.attributes l.namespace (l.nodes ⊕ lone y))) ≡ whole k = sym (still_plug ls (innermost l.name l.attributes l.namespace (l.nodes ⊕ lone y))) ∙ e in cc)
 
-pub form_of : (kind : Kind) → IsNested kind → IsForm (inner_read kind) (plan_of kind) (first_of kind) (last_of kind)
+pub form_of : (kind : Kind) → IsNested kind → IsForm (inner_read kind) (plan_of kind) (first_of kind) (last_step kind)
 form_of kind law = record { reads = λ n a s xs v p d. refl; first_place = law.first_place; last_place = law.last_place }
 
 module _ {W L K : Type 0} (s : Shape W L K) (law : (k : K) → IsNested (s.as_kind k)) (v : SpecVersion) where
@@ -67,14 +68,14 @@ module _ {W L K : Type 0} (s : Shape W L K) (law : (k : K) → IsNested (s.as_ki
     layer_fails x f i is =
         let c = s.as_kind (s.sort w) in
         (law (s.sort w)).reads (element l.name l.attributes l.namespace (l.nodes ⊕ lone x)) v l.place l.depth h.sits.fits
-        ∙ open_fails (inner_read c) (plan_of c) (first_of c) (last_of c) (form_of c (law (s.sort w))) l.name l.attributes l.namespace l.nodes v l.place (inner_of c l.depth) (s.fields w) h.sits.reads x m h.finds.row f i h.finds.found h.finds.first_one (sym (by_row x) ∙ is)
+        ∙ open_fails (inner_read c) (plan_of c) (first_of c) (last_step c) (form_of c (law (s.sort w))) l.name l.attributes l.namespace l.nodes v l.place (inner_of c l.depth) (s.fields w) h.sits.reads x m h.finds.row f i h.finds.found h.finds.first_one (sym (by_row x) ∙ is)
 
     pub layer_quiet : (o : Begun) → start_name o ≡ m → IsQuiet (q + count o) (xread (ended_now o) v (s.as_kind k) q e)
         → IsQuiet (l.place + count (around l.name l.attributes l.namespace l.nodes o)) (xread (ended_now (around l.name l.attributes l.namespace l.nodes o)) v (s.as_kind (s.sort w)) l.place l.depth)
     layer_quiet o i quiet =
         let c = s.as_kind (s.sort w) in
         subst (λ (r : Result Tree XmlReadError). IsQuiet (l.place + suc (places_of l.nodes + count o)) r) (sym ((law (s.sort w)).reads (element l.name l.attributes l.namespace (l.nodes ⊕ lone (ended_now o))) v l.place l.depth h.sits.fits))
-        (open_quiet (inner_read c) (plan_of c) (first_of c) (last_of c) (form_of c (law (s.sort w))) l.name l.attributes l.namespace l.nodes v l.place (inner_of c l.depth) (s.fields w) h.sits.reads o m h.finds.row (subst (λ (n : OwnedName). IsNamed n (ended_now o)) i (ended_named o)) h.finds.found h.finds.first_one
+        (open_quiet (inner_read c) (plan_of c) (first_of c) (last_step c) (form_of c (law (s.sort w))) l.name l.attributes l.namespace l.nodes v l.place (inner_of c l.depth) (s.fields w) h.sits.reads o m h.finds.row (subst (λ (n : OwnedName). IsNamed n (ended_now o)) i (ended_named o)) h.finds.found h.finds.first_one
         (subst (λ (j : ℕ). IsQuiet (j + count o) (xread (ended_now o) v h.finds.row.kind (suc l.place + places_of l.nodes) (inner_of c l.depth))) h.place_is (subst (λ (r : Result Tree XmlReadError). IsQuiet (q + count o) r) (by_row (ended_now o)) quiet)))
 
     pub layer_at : (o : Begun) → l.place + count (around l.name l.attributes l.namespace l.nodes o) ≡ q + count o
@@ -99,7 +100,7 @@ module _ {W L K : Type 0} (s : Shape W L K) (law : (k : K) → IsNested (s.as_ki
         → read_so_far (first_of (s.as_kind (s.sort w))) (plan_of (s.as_kind (s.sort w))) l.name.local_name l.attributes v (inner_of (s.as_kind (s.sort w)) l.depth) l.place (l.nodes ⊕ lone x) ≡ Ok ts
     layer_sits x t ts i is same =
         let c = s.as_kind (s.sort w) in
-        open_ok (inner_read c) (plan_of c) (first_of c) (last_of c) (form_of c (law (s.sort w))) l.name l.attributes l.namespace l.nodes v l.place (inner_of c l.depth) (s.fields w) h.sits.reads x m h.finds.row t i h.finds.found h.finds.first_one (sym (by_row x) ∙ is)
+        open_ok (inner_read c) (plan_of c) (first_of c) (last_step c) (form_of c (law (s.sort w))) l.name l.attributes l.namespace l.nodes v l.place (inner_of c l.depth) (s.fields w) h.sits.reads x m h.finds.row t i h.finds.found h.finds.first_one (sym (by_row x) ∙ is)
         ∙ ap (λ (us : Trees). Ok us) (sym (puts_row (plan_of c).children (s.position w) h.finds.row t (s.fields w) ts h.finds.is_at same))
 
   -- ---- all frames around an open element
@@ -124,8 +125,8 @@ module _ {W L K : Type 0} (s : Shape W L K) (law : (k : K) → IsNested (s.as_ki
     lift_err [] [] k q e m held held' kept kept' x f (a, b, c) i r = here x r
       where
         here : (x : Next) → Proceeds held kept (λ y. xread y v (s.as_kind k) q e) q x (Err f) → Proceeds held' kept' (λ y. xread y v (s.as_kind root) p d) p x (Err f)
-        here (still o) r = subst (λ (z : Depth). Refuses f (p + count o) (xread (ended_now o) v (s.as_kind root) p z)) c (subst (λ (z : ℕ). Refuses f (z + count o) (xread (ended_now o) v (s.as_kind root) z e)) b (subst (λ (z : K). Refuses f (q + count o) (xread (ended_now o) v (s.as_kind z) q e)) a r))
-        here (whole y) r = subst (λ (z : Depth). Refuses f (p + places y) (xread y v (s.as_kind root) p z)) c (subst (λ (z : ℕ). Refuses f (z + places y) (xread y v (s.as_kind root) z e)) b (subst (λ (z : K). Refuses f (q + places y) (xread y v (s.as_kind z) q e)) a r))
+        here (still o) r = subst (λ (z : Depth). RefusesBefore f (p + count o) (xread (ended_now o) v (s.as_kind root) p z)) c (subst (λ (z : ℕ). RefusesBefore f (z + count o) (xread (ended_now o) v (s.as_kind root) z e)) b (subst (λ (z : K). RefusesBefore f (q + count o) (xread (ended_now o) v (s.as_kind z) q e)) a r))
+        here (whole y) r = subst (λ (z : Depth). RefusesBefore f (p + places y) (xread y v (s.as_kind root) p z)) c (subst (λ (z : ℕ). RefusesBefore f (z + places y) (xread y v (s.as_kind root) z e)) b (subst (λ (z : K). RefusesBefore f (q + places y) (xread y v (s.as_kind z) q e)) a r))
     lift_err [] (l ∷ ls) k q e m held held' kept kept' x f h i r = absurd h
     lift_err (w ∷ ws) [] k q e m held held' kept kept' x f h i r = absurd h
     lift_err (w ∷ ws) (l ∷ ls) k q e m held held' kept kept' x f (h, hs) i r =
@@ -161,8 +162,8 @@ module _ {W L K : Type 0} (s : Shape W L K) (law : (k : K) → IsNested (s.as_ki
         is_refused top_held held top_kept kept x f w r = lift_err ws ls k q e m top_held held top_kept kept x f h w (by x r)
           where
             by : (x : Next) → Proceeds top_held top_kept (λ y. inner_read (s.as_kind k) y v q inner) q x (Err f) → Proceeds top_held top_kept (λ y. xread y v (s.as_kind k) q e) q x (Err f)
-            by (still o) r = subst (λ (z : Result Tree XmlReadError). Refuses f (q + count o) z) (by_inner (ended_now o)) r
-            by (whole y) r = subst (λ (z : Result Tree XmlReadError). Refuses f (q + places y) z) (by_inner y) r
+            by (still o) r = subst (λ (z : Result Tree XmlReadError). RefusesBefore f (q + count o) z) (by_inner (ended_now o)) r
+            by (whole y) r = subst (λ (z : Result Tree XmlReadError). RefusesBefore f (q + places y) z) (by_inner y) r
 
         -- It has ended, and it is the root.
         pub is_done : (top_held held : Begun → Type 0) (kept : Type 0) (x : Next) → ws ≡ [] → Proceeds top_held kept (λ y. inner_read (s.as_kind k) y v q inner) q x (Ok true) → Told held kept (plug_next ls x) (Ok true)
@@ -200,7 +201,7 @@ module _ {W L K : Type 0} (s : Shape W L K) (law : (k : K) → IsNested (s.as_ki
         let again : read_so_far (first_of c) (plan_of c) l.name.local_name l.attributes v (inner_of c l.depth) l.place (l.nodes ⊕ lone x) ≡ Ok ts =
         layer_sits w l k q e m h x t ts n ((law k).reads x v q e fit ∙ (ap (λ (z : Depth). inner_read (s.as_kind k) x v q z) (sym i) ∙ r)) is in
         let quiet : IsQuiet (l.place + suc (places_of (l.nodes ⊕ lone x))) (inner_read c (element l.name l.attributes l.namespace (l.nodes ⊕ lone x)) v l.place (inner_of c l.depth)) =
-        quiet_inside (inner_read c) (plan_of c) (first_of c) (last_of c) (form_of c (law (s.sort w))) l.name l.attributes l.namespace (l.nodes ⊕ lone x) v l.place (inner_of c l.depth) ts again in
+        quiet_inside (inner_read c) (plan_of c) (first_of c) (last_step c) (form_of c (law (s.sort w))) l.name l.attributes l.namespace (l.nodes ⊕ lone x) v l.place (inner_of c l.depth) ts again in
         let held : holds_inside (holds (s.sort w)) (first_of c) (plan_of c) (s.name w) known ts Nothing v l.place (s.inner w) (innermost l.name l.attributes l.namespace (l.nodes ⊕ lone x)) =
         record { name_is = h.sits.name_is; version_is = kv; reads = ap (λ (z : Depth). read_so_far (first_of c) (plan_of c) l.name.local_name l.attributes v z l.place (l.nodes ⊕ lone x)) h.sits.inner_is ∙ again } in
         goes_on holds ws (s.sort w) ls l.place l.depth (s.inner w) l.name hs h.sits.inner_is h.sits.fits kept kept (s.name w) ts known Nothing (still (innermost l.name l.attributes l.namespace (l.nodes ⊕ lone x))) refl
@@ -222,7 +223,7 @@ module _ {W L K : Type 0} (s : Shape W L K) (law : (k : K) → IsNested (s.as_ki
         let here : place ≡ suc q + places_of xs = moved (places_of xs) at in
         let first' : first_of c' m.local_name b v (suc q + places_of xs) ≡ Ok ts = ap (λ (x : ℕ). first_of c' m.local_name b v x) (sym here) ∙ (ap (λ (x : SpecVersion). first_of c' m.local_name b x place) (sym own.version_is) ∙ first) in
         let opened : holds_inside (holds k) (first_of c') (plan_of c') m.local_name v ts Nothing v (suc q + places_of xs) inner (innermost m b z no_nodes) × IsQuiet ((suc q + places_of xs) + 1) (inner_read c' (element m b z no_nodes) v (suc q + places_of xs) inner) =
-        frame_opens (inner_read c') (plan_of c') (first_of c') (last_of c') (form_of c' (law k)) (holds k) (λ (x : Trees). x) ts m b z v (suc q + places_of xs) inner first' in
+        frame_opens (inner_read c') (plan_of c') (first_of c') (last_step c') (form_of c' (law k)) (holds k) (λ (x : Trees). x) ts m b z v (suc q + places_of xs) inner first' in
         let waits : Waits s v w l k (suc q + places_of xs) (s.inner w) m = record {
           sits = record { name_is = own.name_is; inner_is = i; fits = fit; reads = ap (λ (x : Depth). read_so_far (first_of c) (plan_of c) n.local_name a v x q xs) (sym i) ∙ own.reads };
           finds = record { row = f.row; is_at = f.is_at; found = ap (λ (x : SpecVersion). find_child x m.local_name (plan_of c).children) (sym own.version_is) ∙ f.found; first_one = f.first_one };
@@ -244,11 +245,11 @@ module _ {W L K : Type 0} (s : Shape W L K) (law : (k : K) → IsNested (s.as_ki
     begins holds m b z name inner ts fit i n first =
         let c = s.as_kind root in
         let opened : holds_inside (holds root) (first_of c) (plan_of c) m.local_name v ts Nothing v p inner (innermost m b z no_nodes) × IsQuiet (p + 1) (inner_read c (element m b z no_nodes) v p inner) =
-        frame_opens (inner_read c) (plan_of c) (first_of c) (last_of c) (form_of c (law root)) (holds root) (λ (x : Trees). x) ts m b z v p inner first in (
+        frame_opens (inner_read c) (plan_of c) (first_of c) (last_step c) (form_of c (law root)) (holds root) (λ (x : Trees). x) ts m b z v p inner first in (
           record { layers = []; top = innermost m b z no_nodes; place = p; depth = d; whole = refl; stand = (refl, refl, refl); inner_is = i; fits = fit; held = record { name_is = n; version_is = opened.0.version_is; reads = opened.0.reads } },
           subst (λ (r : Result Tree XmlReadError). IsQuiet (p + 1) r) (ap (λ (x : Depth). inner_read c (element m b z no_nodes) v p x) i ∙ sym ((law root).reads (element m b z no_nodes) v p d fit)) opened.1,
         )
 
-pub begin_refuses : (kind : Kind) → IsNested kind → (e : XmlReadError) (q : ℕ) (n : OwnedName) (a : List OwnedAttribute) (z : Namespace) (v : SpecVersion) (p : ℕ) (d : Depth) → is_too_deep kind d ≡ false → Fails e q (first_of kind n.local_name a v p) → Refuses e (p + 1) (xread (element n a z no_nodes) v kind p d)
+pub begin_refuses : (kind : Kind) → IsNested kind → (e : XmlReadError) (q : ℕ) (n : OwnedName) (a : List OwnedAttribute) (z : Namespace) (v : SpecVersion) (p : ℕ) (d : Depth) → is_too_deep kind d ≡ false → FailsAt e q (first_of kind n.local_name a v p) → RefusesBefore e (p + 1) (xread (element n a z no_nodes) v kind p d)
 begin_refuses kind law e q n a z v p d fit h =
-    subst (λ (r : Result Tree XmlReadError). Refuses e (p + 1) r) (sym (law.reads (element n a z no_nodes) v p d fit)) (frame_refuses (inner_read kind) (plan_of kind) (first_of kind) (last_of kind) (form_of kind law) e q n a z v p (inner_of kind d) h)
+    subst (λ (r : Result Tree XmlReadError). RefusesBefore e (p + 1) r) (sym (law.reads (element n a z no_nodes) v p d fit)) (frame_refuses (inner_read kind) (plan_of kind) (first_of kind) (last_step kind) (form_of kind law) e q n a z v p (inner_of kind d) h)

@@ -13,13 +13,13 @@ use Rattle.cdx_nest_machine.specs.declared.nested.Reads.TheVariants.{Leaf, Neste
 use Rattle.cdx_nest_machine.specs.Forms.{inner_of}
 
 -- the kind that is read
-abbrev pub kind_read : {L S : Type 0} → (L → Kind) → (S → Kind) → Reads L S → Kind
-kind_read leaf own (Leaf l) = leaf l
-kind_read leaf own (Nested s) = own s
+abbrev pub child_kind : {L S : Type 0} → (L → Kind) → (S → Kind) → Reads L S → Kind
+child_kind leaf own (Leaf l) = leaf l
+child_kind leaf own (Nested s) = own s
 
 -- Something reads the child of each position, and reads it as the child's kind.
 abbrev pub ReadsEach : {L S : Type 0} → (L → Kind) → (S → Kind) → (ℕ → Option (Reads L S)) → List Child → Type 0
-ReadsEach {L = L} {S = S} leaf own child cs = (i : ℕ) (row : Child) → at_position cs i ≡ Some row → (r : Reads L S) × (child i ≡ Some r) × (row.kind ≡ kind_read leaf own r)
+ReadsEach {L = L} {S = S} leaf own child cs = (i : ℕ) (row : Child) → at_position cs i ≡ Some row → (r : Reads L S) × (child i ≡ Some r) × (row.kind ≡ child_kind leaf own r)
 
 -- Something reads the child of the position.
 abbrev pub HasReader : {L S : Type 0} → (ℕ → Option (Reads L S)) → ℕ → Type 0
@@ -31,14 +31,14 @@ Deepens kind d None = is_too_deep kind d ≡ true
 Deepens kind d (Some e) = (is_too_deep kind d ≡ false) × (depth_of e ≡ inner_of kind d)
 
 -- The law of a list of what reads each child.
-pub reads_listed : {L S : Type 0} (leaf : L → Kind) (own : S → Kind) (rs : List (Reads L S)) (cs : List Child) → map (kind_read leaf own) rs ≡ kinds_of cs → ReadsEach leaf own (at_position rs) cs
+pub reads_listed : {L S : Type 0} (leaf : L → Kind) (own : S → Kind) (rs : List (Reads L S)) (cs : List Child) → map (child_kind leaf own) rs ≡ kinds_of cs → ReadsEach leaf own (at_position rs) cs
 reads_listed leaf own [] [] e i row h = absurd (let wrong : None ≡ Some row = h in cc)
 reads_listed leaf own [] (c ∷ cs) e i row h = absurd (let wrong : [] ≡ c.kind ∷ kinds_of cs = e in cc)
 reads_listed leaf own (r ∷ rs) [] e i row h = absurd (let wrong : None ≡ Some row = h in cc)
 reads_listed leaf own (r ∷ rs) (c ∷ cs) e zero row h =
     let same : c ≡ row = some_same h in
-    let kind : kind_read leaf own r ≡ c.kind = cc in
+    let kind : child_kind leaf own r ≡ c.kind = cc in
     (r, refl, ap (λ (x : Child). x.kind) (sym same) ∙ sym kind)
 reads_listed leaf own (r ∷ rs) (c ∷ cs) e (suc i) row h =
-    let rest : map (kind_read leaf own) rs ≡ kinds_of cs = cc in
+    let rest : map (child_kind leaf own) rs ≡ kinds_of cs = cc in
     reads_listed leaf own rs cs rest i row h

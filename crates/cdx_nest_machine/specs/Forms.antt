@@ -42,11 +42,11 @@ tools_by el v q ts t = if is_absent (field 1 ts) && is_absent (field 2 ts) then 
 abbrev pub tools_last : Last
 tools_last el v q ts = tools_by el v q ts (field 0 ts)
 
-abbrev pub last_of : Kind → Last
-last_of (a_record n) = record_end n
-last_of (a_list l) = list_last
-last_of a_tools = tools_last
-last_of _ = λ el v q ts. Ok absent
+abbrev pub last_step : Kind → Last
+last_step (a_record n) = record_end n
+last_step (a_list l) = list_last
+last_step a_tools = tools_last
+last_step _ = λ el v q ts. Ok absent
 
 -- the depth of its parts
 abbrev pub inner_of : Kind → Depth → Depth
@@ -55,14 +55,14 @@ inner_of _ d = d
 
 -- An element that isn't too deep, by the depth of its parts.
 abbrev pub inner_read : Kind → Node → SpecVersion → ℕ → Depth → Result Tree XmlReadError
-inner_read kind (element n a s xs) v p d = read_so_far (first_of kind) (plan_of kind) n.local_name a v d p xs >>= λ ts. last_of kind n.local_name v (suc (p + places_of xs)) ts
+inner_read kind (element n a s xs) v p d = read_so_far (first_of kind) (plan_of kind) n.local_name a v d p xs >>= λ ts. last_step kind n.local_name v (suc (p + places_of xs)) ts
 inner_read kind x v p d = xread x v kind p d
 
 pub record IsNested (kind : Kind) : Type 0 where
   pub reads : (x : Node) (v : SpecVersion) (p : ℕ) (d : Depth) → is_too_deep kind d ≡ false → xread x v kind p d ≡ inner_read kind x v p (inner_of kind d)
   pub deep : (n : OwnedName) (a : List OwnedAttribute) (s : Namespace) (xs : Nodes) (v : SpecVersion) (p : ℕ) (d : Depth) → is_too_deep kind d ≡ true → xread (element n a s xs) v kind p d ≡ Err (nested p)
   pub first_place : (el : List ℕ) (a : List OwnedAttribute) (v : SpecVersion) (p : ℕ) (f : XmlReadError) → first_of kind el a v p ≡ Err f → fault_place f ≡ p
-  pub last_place : (el : List ℕ) (v : SpecVersion) (q : ℕ) (ts : Trees) (f : XmlReadError) → last_of kind el v q ts ≡ Err f → fault_place f ≡ q
+  pub last_place : (el : List ℕ) (v : SpecVersion) (q : ℕ) (ts : Trees) (f : XmlReadError) → last_step kind el v q ts ≡ Err f → fault_place f ≡ q
 
 -- ---- records
 

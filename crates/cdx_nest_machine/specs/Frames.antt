@@ -13,7 +13,7 @@ use Rattle.cdx_schema.specs.XmlReading.{xread}
 use Rattle.cdx_json.specs.Depths.{depth_of}
 use Rattle.cdx_machine.specs.declared.frame.Inside.{Inside}
 use Rattle.cdx_machine.specs.Begun.{Begun}
-use Rattle.cdx_machine.specs.Machines.{Holding, ChildHolding, Refuses}
+use Rattle.cdx_machine.specs.Machines.{Holding, ChildHolding, RefusesBefore}
 use Rattle.cdx_machine.specs.Several.{reads_child}
 use Rattle.cdx_nest_machine.specs.declared.nested.Reads.{Reads}
 use Rattle.cdx_nest_machine.specs.declared.nested.Reads.TheVariants.{Leaf}
@@ -44,4 +44,4 @@ stack_holds s holds sort_of fields root below t known inside v p d o = Stacked s
 -- An element of the kind was begun, or its start was refused.
 abbrev pub BeginsOpen : {F : Type 0} → Kind → (F → Trees) → ℕ → SpecVersion → Depth → OwnedName → List OwnedAttribute → Result (Open F) XmlReadError → Type 0
 BeginsOpen kind fields p v d n a (Ok t) = (is_too_deep kind d ≡ false) × (depth_of t.depth ≡ inner_of kind d) × (t.name ≡ n.local_name) × (first_of kind n.local_name a v p ≡ Ok (fields t.part))
-BeginsOpen kind fields p v d n a (Err e) = (s : Namespace) → Refuses e (p + 1) (xread (element n a s no_nodes) v kind p d)
+BeginsOpen kind fields p v d n a (Err e) = (s : Namespace) → RefusesBefore e (p + 1) (xread (element n a s no_nodes) v kind p d)

@@ -13,7 +13,7 @@ use Rattle.cdx_schema.specs.Kinds.{Kind}
 use Rattle.cdx_schema.specs.Nodes.{places, places_of}
 use Rattle.cdx_schema.specs.XmlReading.{xread}
 use Rattle.cdx_machine.specs.declared.frame.Inside.{Inside}
-use Rattle.cdx_machine.specs.Begun.{Begun, innermost, around, start_name, count, Takes, Next, whole, into, next}
+use Rattle.cdx_machine.specs.Begun.{Begun, innermost, around, start_name, count, TakesEvent, Next, whole, into, next}
 use Rattle.cdx_machine.specs.Machines.{Holding, ChildHolding, Opens, Proceeds, Yields}
 use Rattle.cdx_machine.specs.Frames.{read_so_far, holds_inside}
 use Rattle.cdx_machine.proofs.Names.{FindsAt}
@@ -104,11 +104,11 @@ pub record CanStepStack {M K : Type 0} (holds : RootHolding K M) (m : M) (place 
   pub o : Begun
   pub held : holds root m v p d o
   pub place_is : place ≡ p + count o
-  pub takes : Takes o event
+  pub takes : TakesEvent o event
 
 abbrev pub ProceedsStack : {M K : Type 0} → RootHolding K M → (K → Kind) → M → M → ℕ → XmlEvent → Result Bool XmlReadError → Type 0
 ProceedsStack {K = K} holds as_kind old new place event result =
-    (root : K) (v : SpecVersion) (p : ℕ) (d : Depth) (o : Begun) → holds root old v p d o → place ≡ p + count o → Takes o event
+    (root : K) (v : SpecVersion) (p : ℕ) (d : Depth) (o : Begun) → holds root old v p d o → place ≡ p + count o → TakesEvent o event
     → Proceeds (λ o. holds root new v p d o) (holds root new v p d o) (λ k. xread k v (as_kind root) p d) p (next o event) result
 
 -- The machine keeps all events of an element but its end, and that is the event at this place.
@@ -120,7 +120,7 @@ pub record CanYieldStack {M K : Type 0} (holds : RootHolding K M) (m : M) (place
   pub o : Begun
   pub held : holds root m v p d o
   pub place_is : place ≡ p + count o
-  pub takes : Takes o event
+  pub takes : TakesEvent o event
   pub all : Node
   pub ends : next o event ≡ whole all
 
@@ -131,5 +131,5 @@ IsOfRoot sort root (Err e) = Unit {0}
 
 abbrev pub YieldsStack : {M X K : Type 0} → RootHolding K M → (K → Kind) → (X → Tree) → (X → K) → M → ℕ → XmlEvent → Result X XmlReadError → Type 0
 YieldsStack {K = K} holds as_kind view sort m place event result =
-    (root : K) (v : SpecVersion) (p : ℕ) (d : Depth) (o : Begun) (k : Node) → holds root m v p d o → place ≡ p + count o → Takes o event → next o event ≡ whole k
+    (root : K) (v : SpecVersion) (p : ℕ) (d : Depth) (o : Begun) (k : Node) → holds root m v p d o → place ≡ p + count o → TakesEvent o event → next o event ≡ whole k
     → Yields view (p + places k) (xread k v (as_kind root) p d) result × IsOfRoot sort root result

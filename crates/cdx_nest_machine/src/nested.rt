@@ -22,13 +22,13 @@ pub trait Nested: Drop {
     ghost use Rattle.cdx_models.specs.Trees.{Tree, Trees};
     ghost use Rattle.cdx_schema.specs.Kinds.{Kind};
     ghost use Rattle.cdx_json.specs.Depths.{depth_of};
-    ghost use Rattle.cdx_leaf.specs.Attribute.{Gives};
+    ghost use Rattle.cdx_leaf.specs.Attribute.{GivesAt};
     ghost use Rattle.cdx_leaf.specs.Rules.{as_rule};
     ghost use Rattle.cdx_machine.specs.Feeding.{IsNoBill};
     ghost use Rattle.cdx_machine.specs.Several.{found_from, Puts};
     ghost use Rattle.cdx_nest_machine.specs.declared.nested.Reads.{Reads};
     ghost use Rattle.cdx_nest_machine.specs.declared.nested.Reads.TheVariants.{Leaf, Nested};
-    ghost use Rattle.cdx_nest_machine.specs.Forms.{plan_of, first_of, last_of, IsNested};
+    ghost use Rattle.cdx_nest_machine.specs.Forms.{plan_of, first_of, last_step, IsNested};
     ghost use Rattle.cdx_nest_machine.specs.Children.{Deepens, HasReader, ReadsEach};
 
     /// The names of the nested kinds.
@@ -69,7 +69,7 @@ pub trait Nested: Drop {
     /// What the attributes begin, or their first fault, at the element's start.
     fn begin(sort: Self::Sort, opened: &Start<'_>) -> Result<Self, XmlReadError>
         ensures sort { IfOk result (λ x. sort_of x ≡ sort) }
-        ensures gives { Gives fields (opened.now.place + 1)
+        ensures gives { GivesAt fields (opened.now.place + 1)
             (first_of (as_kind sort) opened.now.element.now.local_name opened.now.attributes.now
             opened.now.version opened.now.place) result };
 
@@ -105,8 +105,8 @@ pub trait Nested: Drop {
     /// The value, or the fault of the first required child that is missing, at the element's end; or want of memory.
     fn finish(self, closed: &End<'_>) -> Result<Self::Value, XmlReadError>
         ensures sort { IfOk result (λ x. value_sort x ≡ sort_of self) }
-        ensures gives { Gives tree (closed.now.place + 1)
-            (last_of (as_kind (sort_of self)) closed.now.element.now.local_name closed.now.version
+        ensures gives { GivesAt tree (closed.now.place + 1)
+            (last_step (as_kind (sort_of self)) closed.now.element.now.local_name closed.now.version
             closed.now.place (fields self)) result };
 
     // The child of each position is read as its kind.

@@ -49,7 +49,7 @@ pub struct LeafChild<M> {
 #[derive(Drop)]
 pub struct StackMachine<F: Nested> {
     alloc: Global,
-    v: SpecVersion,
+    version: SpecVersion,
     below: Vec<Waiting<F>>,
     top: Open<F>,
     inside: Inside<LeafChild<F::Leaf>>,
@@ -63,7 +63,7 @@ impl<F: Nested> Keeps for StackMachine<F> {
     ghost holds = { λ root m v p d o. stack_holds
         (shape_of F.as_kind F.sort_of F.fields F.child_of)
         (leaf_holds F.as_kind F.child_of F.Leaf.sort_of F.Leaf.holds) F.sort_of F.fields root
-        m.below.items m.top m.v m.inside v p d o };
+        m.below.items m.top m.version m.inside v p d o };
 }
 
 // Begins an element at this depth.
@@ -139,7 +139,7 @@ impl<F: Nested> StackMachine<F> {
         let open = open_at::<F>(sort, depth, opened)?;
         Ok(StackMachine {
             alloc: opened.alloc,
-            v: opened.version,
+            version: opened.version,
             below: Vec::new(opened.alloc),
             top: open,
             inside: Inside::Nothing,
@@ -161,7 +161,7 @@ impl<F: Nested> StackMachine<F> {
         ensures { ProceedsStack ⟦<StackMachine<F> as Keeps>⟧.holds F.as_kind self.old self.new
             place event.now result }
     {
-        match self.top.part.find(self.v, name) {
+        match self.top.part.find(self.version, name) {
             Found::At(position) => match self.top.part.child(position) {
                 Reads::Leaf(sort) => {
                     let started = F::Leaf::start(
@@ -169,7 +169,7 @@ impl<F: Nested> StackMachine<F> {
                         &Start {
                             alloc: self.alloc,
                             place,
-                            version: self.v,
+                            version: self.version,
                             element: name,
                             attributes,
                         },
@@ -186,7 +186,7 @@ impl<F: Nested> StackMachine<F> {
                         &Start {
                             alloc: self.alloc,
                             place,
-                            version: self.v,
+                            version: self.version,
                             element: name,
                             attributes,
                         },
@@ -227,7 +227,7 @@ impl<F: Nested> StackMachine<F> {
         let value = ended.part.finish(&End {
             alloc: self.alloc,
             place,
-            version: self.v,
+            version: self.version,
             element: name,
         })?;
         self.top.part.put(waiting.position, self.alloc, value)?;
@@ -281,7 +281,7 @@ impl<F: Nested> StackMachine<F> {
         top.part.finish(&End {
             alloc: self.alloc,
             place,
-            version: self.v,
+            version: self.version,
             element: name,
         })
     }

@@ -24,7 +24,7 @@ fn wanted(
 ) -> Result<String, Fail> {
     let line = ended(alloc, element, count)?;
     let events = around(alloc, line.as_str())?;
-    let Err(fault) = read(alloc, &events, reading.kind, reading.v) else {
+    let Err(fault) = read(alloc, &events, reading.kind, reading.version) else {
         return Ok(String::from_str(alloc, otherwise)?);
     };
     if place_of(&fault) > count {

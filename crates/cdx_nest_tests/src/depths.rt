@@ -72,7 +72,7 @@ fn all_chains(rt: &impl Abort, alloc: Global, levels: usize, rows: &str) -> Resu
         )?;
         let heard = fed(alloc, &deep, reading, usize::MAX);
         row_is(rt, case.line, told(alloc, &heard)?.as_str(), case.answer);
-        let answer = answered(alloc, &deep, reading.kind, reading.v)?;
+        let answer = answered(alloc, &deep, reading.kind, reading.version)?;
         row_is(rt, case.line, answer.as_str(), case.answer);
     }
     Ok(())

@@ -13,7 +13,7 @@ pub struct Reading {
     /// The kind.
     pub kind: NestKind,
     /// The version.
-    pub v: SpecVersion,
+    pub version: SpecVersion,
     /// How many components and services stand around the element.
     pub depth: Depth,
 }

@@ -21,7 +21,7 @@ fn kind_of(name: &str) -> Result<NestKind, Fail> {
 pub fn reading_at(case: &Case<'_>, depth: Depth) -> Result<Reading, Fail> {
     Ok(Reading {
         kind: kind_of(case.word)?,
-        v: case.version,
+        version: case.version,
         depth,
     })
 }

@@ -19,7 +19,7 @@ pub fn read_alike(alloc: Global, events: &Events, reading: Reading) -> Result<&'
     let Heard::Done(value) = fed(alloc, events, reading, usize::MAX) else {
         return Ok("not read by the machine");
     };
-    let wanted = read(alloc, events, reading.kind, reading.v)?;
+    let wanted = read(alloc, events, reading.kind, reading.version)?;
     if !same(&value, &wanted) {
         return Ok("another than the reader's");
     }
@@ -66,7 +66,7 @@ fn all_refused(rt: &impl Abort, alloc: Global, rows: &str) -> Result<(), Fail> {
         let events = around(alloc, case.given)?;
         let heard = fed(alloc, &events, reading, usize::MAX);
         row_is(rt, case.line, told(alloc, &heard)?.as_str(), case.answer);
-        let answer = answered(alloc, &events, reading.kind, reading.v)?;
+        let answer = answered(alloc, &events, reading.kind, reading.version)?;
         row_is(rt, case.line, answer.as_str(), case.answer);
     }
     Ok(())

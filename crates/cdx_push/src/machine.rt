@@ -22,7 +22,7 @@ use std::alloc::Global;
 pub struct LeafMachine {
     kind: LeafKind,
     place: usize,
-    v: SpecVersion,
+    version: SpecVersion,
     // None once an event was refused or the element has ended.
     machine: Option<Leaf>,
 }
@@ -32,7 +32,7 @@ impl Drop for LeafMachine {
         let LeafMachine {
             kind: _,
             place: _,
-            v: _,
+            version: _,
             machine: _,
         } = self;
     }
@@ -43,7 +43,7 @@ impl Listener for LeafMachine {
     ghost use Rattle.cdx_machine.specs.Heard.{heard_by};
     ghost use Rattle.cdx_push.specs.Leaf.{leaf_kind};
 
-    ghost heard = { λ m. heard_by ⟦<Leaf as Leaves>⟧.holds leaf_kind m.kind m.v m.place top m.machine };
+    ghost heard = { λ m. heard_by ⟦<Leaf as Leaves>⟧.holds leaf_kind m.kind m.version m.place top m.machine };
 }
 
 impl LeafMachine {
@@ -57,7 +57,7 @@ impl LeafMachine {
         element: &OwnedName,
         attributes: &List<OwnedAttribute>,
     ) -> Result<LeafMachine, XmlReadError>
-        ensures made { IfOk result (λ m. (m.kind ≡ kind) × (m.v ≡ version) × (m.place ≡ place)
+        ensures made { IfOk result (λ m. (m.kind ≡ kind) × (m.version ≡ version) × (m.place ≡ place)
             × IsListening m.machine) }
         ensures opens { (s : Namespace) → OpensAs ⟦<LeafMachine as Listener>⟧.heard version
             (kind_of kind) place top (StartElement element.now attributes.now s ∷ []) result }
@@ -75,7 +75,7 @@ impl LeafMachine {
         Ok(LeafMachine {
             kind,
             place,
-            v: version,
+            version,
             machine: Some(machine),
         })
     }
@@ -86,13 +86,13 @@ impl LeafMachine {
     pub fn step(&mut self, place: usize, event: &XmlEvent) -> Result<LeafStep, XmlReadError>
         requires { Listens (IsListening self.old.machine)
             (⟦<LeafMachine as Listener>⟧.heard self.old) self.old.place place event.now }
-        ensures kept { (self.new.kind ≡ self.old.kind) × (self.new.v ≡ self.old.v)
+        ensures kept { (self.new.kind ≡ self.old.kind) × (self.new.version ≡ self.old.version)
             × (self.new.place ≡ self.old.place) }
         ensures kind { IfOk result (IsOfKind self.old.kind) }
         ensures answers { (events : List XmlEvent)
             → ⟦<LeafMachine as Listener>⟧.heard self.old events
             → place ≡ self.old.place + length events → BeginsElement (events ++ event.now ∷ [])
-            → Answers (⟦<LeafMachine as Listener>⟧.heard self.new) value_tree self.old.v
+            → Answers (⟦<LeafMachine as Listener>⟧.heard self.new) value_tree self.old.version
             (kind_of self.old.kind) self.old.place top place (events ++ event.now ∷ [])
             (as_steps result) }
         ensures heard { (events : List XmlEvent)

@@ -9,14 +9,14 @@ use Rattle.cdx_models.specs.declared.errors.XmlReadError.{XmlReadError}
 use Rattle.cdx_models.specs.declared.errors.XmlReadError.TheVariants.{ElementReadError, UnexpectedElementReadError, RequiredDataMissing, RequiredAttributeMissing, InvalidParseError, InvalidNamespaceError, TooDeep, Memory}
 use Rattle.cdx_models.specs.Trees.{Tree}
 use Rattle.cdx_schema.specs.Early.{IsEarly, unbalanced}
-use Rattle.cdx_schema.specs.Locality.{root_of, IsDocumentFault}
+use Rattle.cdx_schema.specs.Locality.{balanced_root, IsDocumentFault}
 use Rattle.cdx_schema.proofs.FaultPlaces.{refuses_by_faults}
 use Rattle.cdx_schema.proofs.EarlyLaws.{Cases, nothing, in_front, out_of_balance, early_cases, early_stays}
 use Rattle.cdx_machine.specs.Machines.{Holding}
 use Rattle.cdx_push_reader.specs.declared.hearing.Hearing.{Hearing}
 use Rattle.cdx_push_reader.specs.declared.reader.DocumentReader.{DocumentReader}
 use Rattle.cdx_push_reader.specs.Pushed.{Hears, HeardAs, Outcome, heard}
-use Rattle.cdx_push_reader.specs.PushAnswers.{version_of, fault_of, is_spent, is_want, IsRefusedFor, Finishes, Feeds, push_error}
+use Rattle.cdx_push_reader.specs.PushAnswers.{reader_version, fault_of, is_spent, is_want, IsRefusedFor, Finishes, Feeds, push_error}
 use Rattle.cdx_push_reader.proofs.Stands.{stands_none}
 
 heard_early : (v : SpecVersion) (hears : Type 0) (o : Option AllocError) (f : Option XmlReadError) (events : List XmlEvent) → (hears → IsEarly v events None) → HeardAs v hears o f events → is_some o ≡ false → IsEarly v events f
@@ -29,7 +29,7 @@ module _ {M X : Type 0} (holds : Holding M) (tree : X → Tree) where
   hears_none h events e = stands_none holds tree h.version h.stage events e.1
 
   -- the fault that it has told is the early one
-  pub reader_early : (r : DocumentReader M X) (events : List XmlEvent) → heard holds tree r events → is_spent r ≡ false → IsEarly (version_of r) events (fault_of r)
+  pub reader_early : (r : DocumentReader M X) (events : List XmlEvent) → heard holds tree r events → is_spent r ≡ false → IsEarly (reader_version r) events (fault_of r)
   reader_early r events h s = heard_early r.hearing.version (Hears holds tree r.hearing events) r.spent r.refused events (λ e. hears_none r.hearing events e) h.1 s
 
   -- events that aren't balanced are too few
@@ -52,7 +52,7 @@ never_memory v events m h = by (early_cases v events (Some (Memory m)) h)
   where
     by : Cases v events (Some (Memory m)) → ⊥
     by (nothing e g n) = absurd cc
-    by (in_front f e front rest s i) = let same : f ≡ Memory m = cc in subst IsDocumentFault same (refuses_by_faults (root_of i.goes.balanced) v f (i.blocks i.goes.rest i.goes.balanced))
+    by (in_front f e front rest s i) = let same : f ≡ Memory m = cc in subst IsDocumentFault same (refuses_by_faults (balanced_root i.goes.balanced) v f (i.blocks i.goes.rest i.goes.balanced))
     by (out_of_balance p e b l n) = absurd cc
 
 pub not_want : {X : Type 0} (tree : X → Tree) (v : SpecVersion) (events : List XmlEvent) (f : XmlReadError) → IsEarly v events (Some f) → is_want {A = X} (Err f) ≡ false

@@ -9,7 +9,7 @@ use Rattle.cdx_events.specs.declared.gathering.GatherError.TheVariants.{Fault, U
 use Rattle.cdx_events.specs.Causes.{Rose}
 use Rattle.cdx_events.specs.Gather.{is_end, has_end, TakesEvents}
 use Rattle.cdx_events.specs.Nodes.{IsBalanced, IsBroken}
-use Rattle.cdx_events.specs.Told.{Keeps, Loses, Gives}
+use Rattle.cdx_events.specs.Told.{Keeps, Loses, GivesNext}
 use Rattle.cdx_events.specs.Utf8.{in_utf8}
 use Rattle.cdx_events.proofs.Taken.{loses_more, no_end_more, at_source_end, at_fault, at_memory, at_document_end, at_budget}
 use Rattle.cdx_models.specs.declared.bom.SpecVersion.{SpecVersion}
@@ -76,7 +76,7 @@ module _ {M X : Type 0} (holds : Holding M) (tree : X → Tree) (g : Gathering M
   short : taken < budget → length t.events < budget
   short l = omega (arith, l, t.count)
 
-  pub at_end : (result : Result X XmlReadError) → taken < budget → Gives mid new None → now ≡ held → Concludes tree g.hearing.version t.events result → Answer tree budget old new before now v result
+  pub at_end : (result : Result X XmlReadError) → taken < budget → GivesNext mid new None → now ≡ held → Concludes tree g.hearing.version t.events result → Answer tree budget old new before now v result
   at_end result l left same c =
       concluded tree budget old new before now v t.events result (at_source_end old mid new t.events budget before now t.after t.no_end (short l) left (same ∙ t.sound)) t.utf8 (subst (λ w. Concludes tree w t.events result) t.version c)
 

@@ -9,7 +9,7 @@ use Rattle.cdx_events.specs.declared.name.Namespace.{Namespace}
 use Rattle.cdx_events.specs.declared.event.XmlEvent.{XmlEvent}
 use Rattle.cdx_events.specs.declared.event.XmlEvent.TheVariants.{StartDocument, EndDocument, StartElement, EndElement, Characters, CData}
 use Rattle.cdx_events.specs.Nodes.{element, no_nodes, GoesOn}
-use Rattle.cdx_events.specs.Root.{opening}
+use Rattle.cdx_events.specs.Root.{frame_opened}
 use Rattle.cdx_models.specs.declared.bom.SpecVersion.{SpecVersion}
 use Rattle.cdx_models.specs.declared.errors.XmlReadError.{XmlReadError}
 use Rattle.cdx_models.specs.declared.errors.XmlReadError.TheVariants.{ElementReadError, UnexpectedElementReadError, RequiredDataMissing, RequiredAttributeMissing, InvalidParseError, InvalidNamespaceError, TooDeep, Memory}
@@ -30,8 +30,8 @@ use Rattle.cdx_machine.specs.Begun.{innermost, count}
 use Rattle.cdx_machine.specs.Heard.{RefusesSoon}
 use Rattle.cdx_machine.specs.Machines.{Holding, Opens}
 use Rattle.cdx_machine.proofs.Heard.{quiet_none, refuses_soon, soon_of}
-use Rattle.cdx_push_reader.specs.Starting.{name_read, IsBillStart}
-use Rattle.cdx_push_reader.specs.Pushed.{IsOpen, Outcome}
+use Rattle.cdx_push_reader.specs.Starting.{root_name_read, IsBillStart}
+use Rattle.cdx_push_reader.specs.Pushed.{IsRootOpen, Outcome}
 
 -- ---- refusals
 
@@ -126,7 +126,7 @@ is_true : (b : Bool) (e : XmlReadError) → checked b e ≡ Ok tt → b ≡ true
 is_true true e h = refl
 is_true false e h = absurd cc
 
-pub begins_bill : (v : SpecVersion) (n : OwnedName) (s : Namespace) → name_read n ≡ Ok tt → namespace_read v s ≡ Ok tt → IsBillStart v n s
+pub begins_bill : (v : SpecVersion) (n : OwnedName) (s : Namespace) → root_name_read n ≡ Ok tt → namespace_read v s ≡ Ok tt → IsBillStart v n s
 begins_bill v n s p q =
     (is_true (bytes_eq n.local_name (codes "bom")) (unexpected 1 (codes "bom") kinds.StartElement) p, is_true (in_namespace s.default (namespace v)) (namespaced (namespace v) s.default) q)
 
@@ -139,7 +139,7 @@ wrong_namespace true true r d e f g h = absurd cc
 wrong_namespace true false r d e f g h = let same : e ≡ f = cc in ap (λ x. Err x) same
 wrong_namespace false c r d e f g h = absurd cc
 
-begin_fault : (v : SpecVersion) (events : List XmlEvent) (n : OwnedName) (a : List OwnedAttribute) (s : Namespace) (e : XmlReadError) → events ≡ StartDocument ∷ [] → root_so_far v (opening n a s) ≡ Err e → IsEarly v (events ++ StartElement n a s ∷ []) (Some e)
+begin_fault : (v : SpecVersion) (events : List XmlEvent) (n : OwnedName) (a : List OwnedAttribute) (s : Namespace) (e : XmlReadError) → events ≡ StartDocument ∷ [] → root_so_far v (frame_opened n a s) ≡ Err e → IsEarly v (events ++ StartElement n a s ∷ []) (Some e)
 begin_fault v events n a s e i r = subst (λ es. IsEarly v (es ++ StartElement n a s ∷ []) (Some e)) (sym i) (start_fault v n a s e r)
 
 -- ---- an event that is a start
@@ -151,12 +151,12 @@ module _ (v : SpecVersion) (events : List XmlEvent) (x : XmlEvent) (n : OwnedNam
   is_early : (e : XmlReadError) → IsEarly v (events ++ StartElement n a s ∷ []) (Some e) → IsEarly v (events ++ x ∷ []) (Some e)
   is_early e h = subst (λ y. IsEarly v (events ++ y ∷ []) (Some e)) (sym i) h
 
-  pub name_refused : (e : XmlReadError) → Denotes (λ u. u) (name_read n) (Err e) → Outcome {A = Unit {0}} (λ u. Unit {0}) v (events ++ x ∷ []) (Err e)
+  pub name_refused : (e : XmlReadError) → Denotes (λ u. u) (root_name_read n) (Err e) → Outcome {A = Unit {0}} (λ u. Unit {0}) v (events ++ x ∷ []) (Err e)
   name_refused e d =
-      denotes_outcome {A = Unit {0}} (λ u. Unit {0}) (λ u. u) (name_read n) v (events ++ x ∷ []) e d
+      denotes_outcome {A = Unit {0}} (λ u. Unit {0}) (λ u. u) (root_name_read n) v (events ++ x ∷ []) e d
       (λ p. is_early e (begin_fault v events n a s e only (wrong_name (bytes_eq n.local_name (codes "bom")) _ (unexpected 1 (codes "bom") kinds.StartElement) e p)))
 
-  pub namespace_refused : (e : XmlReadError) → name_read n ≡ Ok tt → Denotes (λ u. u) (namespace_read v s) (Err e) → Outcome {A = Unit {0}} (λ u. Unit {0}) v (events ++ x ∷ []) (Err e)
+  pub namespace_refused : (e : XmlReadError) → root_name_read n ≡ Ok tt → Denotes (λ u. u) (namespace_read v s) (Err e) → Outcome {A = Unit {0}} (λ u. Unit {0}) v (events ++ x ∷ []) (Err e)
   namespace_refused e k d =
       denotes_outcome {A = Unit {0}} (λ u. Unit {0}) (λ u. u) (namespace_read v s) v (events ++ x ∷ []) e d
       (λ p. is_early e (begin_fault v events n a s e only (wrong_namespace (bytes_eq n.local_name (codes "bom")) (in_namespace s.default (namespace v)) _ (unexpected 1 (codes "bom") kinds.StartElement) (namespaced (namespace v) s.default) e k p)))
@@ -165,8 +165,8 @@ module _ (v : SpecVersion) (events : List XmlEvent) (x : XmlEvent) (n : OwnedNam
   first_place place p = p ∙ ap length only
 
   -- the machine takes the start
-  pub begins_by : {M : Type 0} (holds : Holding M) (place : ℕ) (m : M) → place ≡ length events → name_read n ≡ Ok tt → namespace_read v s ≡ Ok tt
-      → Opens (λ m o. holds m v place top o) (λ k. xread k v (a_record bill) place top) place (innermost n a s no_nodes) (Ok m) → IsOpen holds v m (events ++ x ∷ [])
+  pub begins_by : {M : Type 0} (holds : Holding M) (place : ℕ) (m : M) → place ≡ length events → root_name_read n ≡ Ok tt → namespace_read v s ≡ Ok tt
+      → Opens (λ m o. holds m v place top o) (λ k. xread k v (a_record bill) place top) place (innermost n a s no_nodes) (Ok m) → IsRootOpen holds v m (events ++ x ∷ [])
   begins_by {M = M} holds place m p j k h =
       let at : place ≡ 1 = first_place place p in
       let o : Opens {M = M} (λ m o. holds m v 1 top o) (λ k. xread k v (a_record bill) 1 top) 1 (innermost n a s no_nodes) (Ok m) = subst (λ q. Opens {M = M} (λ m o. holds m v q top o) (λ k. xread k v (a_record bill) q top) q (innermost n a s no_nodes) (Ok m)) at h in
@@ -182,7 +182,7 @@ module _ (v : SpecVersion) (events : List XmlEvent) (x : XmlEvent) (n : OwnedNam
       }
 
   -- the machine refuses the start
-  pub start_refused : {M : Type 0} (holds : Holding M) (place : ℕ) (e : XmlReadError) → place ≡ length events → name_read n ≡ Ok tt → namespace_read v s ≡ Ok tt
+  pub start_refused : {M : Type 0} (holds : Holding M) (place : ℕ) (e : XmlReadError) → place ≡ length events → root_name_read n ≡ Ok tt → namespace_read v s ≡ Ok tt
       → Opens {M = M} (λ m o. holds m v place top o) (λ k. xread k v (a_record bill) place top) place (innermost n a s no_nodes) (Err e) → Outcome {A = Unit {0}} (λ u. Unit {0}) v (events ++ x ∷ []) (Err e)
   start_refused {M = M} holds place e p j k h =
       let at : place ≡ 1 = first_place place p in

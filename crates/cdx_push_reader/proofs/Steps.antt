@@ -24,7 +24,7 @@ use Rattle.cdx_machine.proofs.Yielding.{waits, fails, ends_with, ended_with, can
 use Rattle.cdx_push_reader.specs.declared.hearing.Stage.{Stage}
 use Rattle.cdx_push_reader.specs.declared.hearing.Stage.TheVariants.{Before, Within, After}
 use Rattle.cdx_push_reader.specs.Starting.{IsBillStart}
-use Rattle.cdx_push_reader.specs.Pushed.{IsOpen, IsDone, Stands, Outcome}
+use Rattle.cdx_push_reader.specs.Pushed.{IsRootOpen, IsDone, StandsAtStage, Outcome}
 use Rattle.cdx_push_reader.specs.PushSteps.{Closes}
 use Rattle.cdx_push_reader.proofs.Starts.{same_start, root_early, soon_outcome}
 
@@ -72,7 +72,7 @@ root_denotes v n a s xs c = rw (c.0, c.1) refl
 
 -- ---- what the machine answers
 
-module _ {M X : Type 0} (holds : Holding M) (tree : X → Tree) (v : SpecVersion) (old : M) (events : List XmlEvent) (event : XmlEvent) (w : IsOpen holds v old events) (g : GoesOn (events ++ event ∷ [])) where
+module _ {M X : Type 0} (holds : Holding M) (tree : X → Tree) (v : SpecVersion) (old : M) (events : List XmlEvent) (event : XmlEvent) (w : IsRootOpen holds v old events) (g : GoesOn (events ++ event ∷ [])) where
   abbrev heard : List XmlEvent
   heard = StartElement w.name w.attributes w.namespace ∷ w.inside
 
@@ -95,7 +95,7 @@ module _ {M X : Type 0} (holds : Holding M) (tree : X → Tree) (v : SpecVersion
   said new place r s p = answers_step holds tree (a_record bill) old new place event r v 1 top (StartElement w.name w.attributes w.namespace ∷ w.inside) s w.held (at_place place p) begun
 
   -- the root is still open
-  pub reads_more : (new : M) (place : ℕ) (b : Bool) → b ≡ false → ProceedsAs holds (a_record bill) old new place event (Ok b) → place ≡ length events → IsOpen holds v new (events ++ event ∷ [])
+  pub reads_more : (new : M) (place : ℕ) (b : Bool) → b ≡ false → ProceedsAs holds (a_record bill) old new place event (Ok b) → place ≡ length events → IsRootOpen holds v new (events ++ event ∷ [])
   reads_more new place b i s p =
       let a : Said new place (Ok None) = said new place (Ok None) (waits holds tree (a_record bill) old new place event b i s) p in
       record {
@@ -139,12 +139,12 @@ module _ {M X : Type 0} (holds : Holding M) (tree : X → Tree) (v : SpecVersion
           events_are = inl (now ∙ ap (λ es. StartDocument ∷ es) e.whole);
         }
 
-    pub closes : (stage : Stage M X) (r : Result (Unit {0}) XmlReadError) → Closes holds tree new place event stage r → Outcome {A = Unit {0}} (λ u. Stands holds tree v stage (events ++ event ∷ [])) v (events ++ event ∷ []) r
+    pub closes : (stage : Stage M X) (r : Result (Unit {0}) XmlReadError) → Closes holds tree new place event stage r → Outcome {A = Unit {0}} (λ u. StandsAtStage holds tree v stage (events ++ event ∷ [])) v (events ++ event ∷ []) r
     closes Before (Ok u) h = absurd h
     closes (Within n) (Ok u) h = absurd h
     closes (After x) (Ok u) h = read x h
     closes stage (Err f) h = faulted f (faulty new place f (ended (Err f) h) p)
       where
-        faulted : (f : XmlReadError) → Outcome {A = Unit {0}} (λ u. Unit {0}) v (events ++ event ∷ []) (Err f) → Outcome {A = Unit {0}} (λ u. Stands holds tree v stage (events ++ event ∷ [])) v (events ++ event ∷ []) (Err f)
+        faulted : (f : XmlReadError) → Outcome {A = Unit {0}} (λ u. Unit {0}) v (events ++ event ∷ []) (Err f) → Outcome {A = Unit {0}} (λ u. StandsAtStage holds tree v stage (events ++ event ∷ [])) v (events ++ event ∷ []) (Err f)
         faulted (Memory m) o = o
         faulted f o = o

@@ -7,7 +7,7 @@ use Rattle.cdx_models.specs.declared.bom.SpecVersion.{SpecVersion}
 use Rattle.cdx_models.specs.declared.errors.XmlReadError.{XmlReadError}
 use Rattle.cdx_models.specs.declared.errors.XmlReadError.TheVariants as errors
 use Rattle.cdx_models.specs.Trees.{Tree}
-use Rattle.cdx_schema.specs.Locality.{root_of}
+use Rattle.cdx_schema.specs.Locality.{balanced_root}
 use Rattle.cdx_schema.specs.XmlReading.{xml_denotes}
 use Rattle.cdx_schema.specs.Early.{IsEarly, place_of, unbalanced}
 use Rattle.cdx_push_reader.specs.declared.reader.PushError.{PushError}
@@ -15,8 +15,8 @@ use Rattle.cdx_push_reader.specs.declared.reader.PushError.TheVariants.{Refused,
 use Rattle.cdx_push_reader.specs.declared.reader.DocumentReader.{DocumentReader}
 
 -- the version that the reader was made for
-abbrev pub version_of : {M X : Type 0} → DocumentReader M X → SpecVersion
-version_of r = r.hearing.version
+abbrev pub reader_version : {M X : Type 0} → DocumentReader M X → SpecVersion
+reader_version r = r.hearing.version
 
 -- the fault that it has told
 abbrev pub fault_of : {M X : Type 0} → DocumentReader M X → Option XmlReadError
@@ -38,15 +38,15 @@ Feeds v events (Err (Refused place)) = (f : XmlReadError) × IsEarly v events (S
 Feeds v events (Err (Memory e)) = Unit {0}
 
 -- What the reader has told after a piece: nothing where it wasn't refused, and else the fault at that place.
-abbrev pub Told : Result (Unit {0}) PushError → Option XmlReadError → Option XmlReadError → Type 0
-Told (Ok u) old new = new ≡ None
-Told (Err (Refused place)) old new = (f : XmlReadError) × (new ≡ Some f) × (place_of f ≡ place)
-Told (Err (Memory e)) old new = new ≡ old
+abbrev pub TellsFault : Result (Unit {0}) PushError → Option XmlReadError → Option XmlReadError → Type 0
+TellsFault (Ok u) old new = new ≡ None
+TellsFault (Err (Refused place)) old new = (f : XmlReadError) × (new ≡ Some f) × (place_of f ≡ place)
+TellsFault (Err (Memory e)) old new = new ≡ old
 
 -- What balanced events denote.
 pub record IsValueOf {X : Type 0} (tree : X → Tree) (v : SpecVersion) (events : List XmlEvent) (x : X) : Type 0 where
   pub balanced : IsBalanced events
-  pub denotes : xml_denotes (root_of balanced) v ≡ Ok (tree x)
+  pub denotes : xml_denotes (balanced_root balanced) v ≡ Ok (tree x)
 
 -- The early fault; or, where there is none and the events aren't balanced, that they are too few.
 abbrev pub IsRefusedFor : SpecVersion → List XmlEvent → XmlReadError → Type 0

@@ -9,19 +9,19 @@ use Rattle.cdx_schema.specs.Kinds.{a_record}
 use Rattle.cdx_machine.specs.Machines.{Holding, YieldsAs}
 use Rattle.cdx_push_reader.specs.declared.hearing.Stage.{Stage}
 use Rattle.cdx_push_reader.specs.declared.hearing.Stage.TheVariants.{Before, Within, After}
-use Rattle.cdx_push_reader.specs.Pushed.{Stands, Outcome}
+use Rattle.cdx_push_reader.specs.Pushed.{StandsAtStage, Outcome}
 
 -- The events that were heard, of which the next stands at this place and goes on with a document.
 pub record CanGoOn {M X : Type 0} (holds : Holding M) (tree : X → Tree) (v : SpecVersion) (stage : Stage M X) (place : ℕ) (event : XmlEvent) : Type 0 where
   pub events : List XmlEvent
-  pub stands : Stands holds tree v stage events
+  pub stands : StandsAtStage holds tree v stage events
   pub goes : GoesOn (events ++ event ∷ [])
   pub place_is : place ≡ length events
 
 -- From one stage to the next, or a fault.
 abbrev pub Moves : {M X A : Type 0} → Holding M → (X → Tree) → SpecVersion → Stage M X → ℕ → XmlEvent → (List XmlEvent → A → Type 0) → Result A XmlReadError → Type 0
 Moves holds tree v stage place event gives result =
-    (events : List XmlEvent) → Stands holds tree v stage events → GoesOn (events ++ event ∷ []) → place ≡ length events → Outcome (gives (events ++ event ∷ [])) v (events ++ event ∷ []) result
+    (events : List XmlEvent) → StandsAtStage holds tree v stage events → GoesOn (events ++ event ∷ []) → place ≡ length events → Outcome (gives (events ++ event ∷ [])) v (events ++ event ∷ []) result
 
 -- The root has ended: what it is read as stands there, or it has a fault.
 abbrev pub Closes : {M X : Type 0} → Holding M → (X → Tree) → M → ℕ → XmlEvent → Stage M X → Result (Unit {0}) XmlReadError → Type 0

@@ -28,7 +28,7 @@ use Rattle.cdx_push_reader.specs.declared.reader.DocumentReader.{DocumentReader}
 use Rattle.cdx_push_reader.specs.Starting.{IsBillStart}
 
 -- A bill's root is open, which the machine reads, and has no fault as yet.
-pub record IsOpen {M : Type 0} (holds : Holding M) (v : SpecVersion) (m : M) (events : List XmlEvent) : Type 0 where
+pub record IsRootOpen {M : Type 0} (holds : Holding M) (v : SpecVersion) (m : M) (events : List XmlEvent) : Type 0 where
   pub name : OwnedName
   pub attributes : List OwnedAttribute
   pub namespace : Namespace
@@ -44,14 +44,14 @@ pub record IsDone {X : Type 0} (tree : X → Tree) (v : SpecVersion) (x : X) (ev
   pub denotes : xml_denotes (node_of root) v ≡ Ok (tree x)
   pub events_are : (events ≡ StartDocument ∷ events_of (node_of root)) ⊎ (events ≡ document (node_of root))
 
-abbrev pub Stands : {M X : Type 0} → Holding M → (X → Tree) → SpecVersion → Stage M X → List XmlEvent → Type 0
-Stands holds tree v Before events = (events ≡ []) ⊎ (events ≡ StartDocument ∷ [])
-Stands holds tree v (Within m) events = IsOpen holds v m events
-Stands holds tree v (After x) events = IsDone tree v x events
+abbrev pub StandsAtStage : {M X : Type 0} → Holding M → (X → Tree) → SpecVersion → Stage M X → List XmlEvent → Type 0
+StandsAtStage holds tree v Before events = (events ≡ []) ⊎ (events ≡ StartDocument ∷ [])
+StandsAtStage holds tree v (Within m) events = IsRootOpen holds v m events
+StandsAtStage holds tree v (After x) events = IsDone tree v x events
 
 -- Events without a fault were heard.
 abbrev pub Hears : {M X : Type 0} → Holding M → (X → Tree) → Hearing M X → List XmlEvent → Type 0
-Hears holds tree h events = balances.heard h.balance events × Stands holds tree h.version h.stage events
+Hears holds tree h events = balances.heard h.balance events × StandsAtStage holds tree h.version h.stage events
 
 -- what may have become of a reader: memory ran out, there was a fault, or neither
 abbrev pub HeardAs : SpecVersion → Type 0 → Option AllocError → Option XmlReadError → List XmlEvent → Type 0

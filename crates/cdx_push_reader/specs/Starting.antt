@@ -11,8 +11,8 @@ use Rattle.cdx_schema.specs.Faults.{unexpected}
 use Rattle.cdx_schema.specs.XmlReading.{in_namespace}
 
 -- The root is named `bom`, or refused at its start.
-abbrev pub name_read : OwnedName → Result (Unit {0}) XmlReadError
-name_read n = if bytes_eq n.local_name (codes "bom") then Ok tt else Err (unexpected 1 (codes "bom") kinds.StartElement)
+abbrev pub root_name_read : OwnedName → Result (Unit {0}) XmlReadError
+root_name_read n = if bytes_eq n.local_name (codes "bom") then Ok tt else Err (unexpected 1 (codes "bom") kinds.StartElement)
 
 -- The root is a bill's by its name, and in the version's namespace.
 abbrev pub IsBillStart : SpecVersion → OwnedName → Namespace → Type 0

@@ -2,7 +2,7 @@
 
 ghost use Rattle.std.specs.Prelude.{◌≡◌, ◌+◌, ◌≤◌, List, [], ◌∷◌, ◌++◌, length, false};
 ghost use Rattle.cdx_events.specs.declared.event.XmlEvent.{XmlEvent};
-ghost use Rattle.cdx_push_reader.specs.Pushed.{Stands, Hears, Outcome};
+ghost use Rattle.cdx_push_reader.specs.Pushed.{StandsAtStage, Hears, Outcome};
 ghost use Rattle.cdx_machine.specs.Machines.{CanYield};
 ghost use Rattle.cdx_push_reader.specs.PushSteps.{CanGoOn, Closes, Moves};
 ghost use Rattle.cdx_push_reader.specs.declared.hearing.Stage.TheVariants.{Before, Within};
@@ -64,7 +64,7 @@ impl<M: RootMachine> Hearing<M> {
     // cleared with each event.
     fn open(&mut self, place: usize, event: &XmlEvent) -> Result<(), XmlReadError>
         ensures moves { Moves M.holds M.tree self.old.version Before place event.now
-            (λ events _. Stands M.holds M.tree self.new.version self.new.stage events) result }
+            (λ events _. StandsAtStage M.holds M.tree self.new.version self.new.stage events) result }
         ensures balance { self.new.balance ≡ self.old.balance }
         ensures version { self.new.version ≡ self.old.version }
     {
@@ -92,7 +92,7 @@ impl<M: RootMachine> Hearing<M> {
     pub(crate) fn go_on(&mut self, place: usize, event: &XmlEvent) -> Result<(), XmlReadError>
         requires { CanGoOn M.holds M.tree self.old.version self.old.stage place event.now }
         ensures moves { Moves M.holds M.tree self.old.version self.old.stage place event.now
-            (λ events _. Stands M.holds M.tree self.new.version self.new.stage events) result }
+            (λ events _. StandsAtStage M.holds M.tree self.new.version self.new.stage events) result }
         ensures balance { self.new.balance ≡ self.old.balance }
         ensures version { self.new.version ≡ self.old.version }
     {

@@ -4,7 +4,7 @@ ghost use Rattle.std.specs.Prelude.{◌≡◌, ◌+◌, ◌≤◌, List, [], ◌
 ghost use Rattle.cdx_events.specs.declared.event.XmlEvent.{XmlEvent};
 ghost use Rattle.cdx_schema.specs.Early.{IsEarly};
 ghost use Rattle.cdx_push_reader.specs.Pushed.{heard};
-ghost use Rattle.cdx_push_reader.specs.PushAnswers.{version_of, fault_of, is_spent, is_memory, is_want, refused_by, spent_by, push_error, Feeds, Told, Finishes};
+ghost use Rattle.cdx_push_reader.specs.PushAnswers.{reader_version, fault_of, is_spent, is_memory, is_want, refused_by, spent_by, push_error, Feeds, TellsFault, Finishes};
 
 use crate::hearing::Hearing;
 use crate::machine::RootMachine;
@@ -47,7 +47,7 @@ impl<M: RootMachine> DocumentReader<M> {
     /// A reader of documents of version `v` that was fed nothing yet. It takes no memory.
     pub fn new(alloc: Global, version: SpecVersion) -> DocumentReader<M>
         ensures heard { heard M.holds M.tree result [] }
-        ensures version { version_of result ≡ version }
+        ensures version { reader_version result ≡ version }
         ensures sound { is_spent result ≡ false }
         ensures fault { fault_of result ≡ None }
     {
@@ -89,13 +89,13 @@ impl<M: RootMachine> DocumentReader<M> {
         requires { (events : List XmlEvent) × heard M.holds M.tree self.old events
             × (length events + length piece.now ≤ usize.MAX) }
         ensures answer { (events : List XmlEvent) → heard M.holds M.tree self.old events
-            → Feeds (version_of self.old) (events ++ piece.now) result }
+            → Feeds (reader_version self.old) (events ++ piece.now) result }
         ensures heard { (events : List XmlEvent) → heard M.holds M.tree self.old events
             → heard M.holds M.tree self.new (events ++ piece.now) }
-        ensures version { version_of self.new ≡ version_of self.old }
+        ensures version { reader_version self.new ≡ reader_version self.old }
         ensures spent { is_spent self.new ≡ is_memory result }
         ensures again { is_spent self.old ≡ true → is_memory result ≡ true }
-        ensures told { Told result (fault_of self.old) (fault_of self.new) }
+        ensures told { TellsFault result (fault_of self.old) (fault_of self.new) }
     {
         let first = self.fed;
         self.fed = first + piece.len();
@@ -119,7 +119,7 @@ impl<M: RootMachine> DocumentReader<M> {
         ensures told { option_copied result ≡ fault_of self.now }
         ensures early { (events : List XmlEvent) → heard M.holds M.tree self.now events
             → is_spent self.now ≡ false
-            → IsEarly (version_of self.now) events (option_copied result) }
+            → IsEarly (reader_version self.now) events (option_copied result) }
     {
         self.refused.as_ref()
     }
@@ -129,7 +129,7 @@ impl<M: RootMachine> DocumentReader<M> {
     /// Or want of memory, exactly where it ran out in a `feed`: this takes none.
     pub fn finish(self) -> Result<M::Value, XmlReadError>
         ensures answer { (events : List XmlEvent) → heard M.holds M.tree self events
-            → is_spent self ≡ false → Finishes M.tree (version_of self) events result }
+            → is_spent self ≡ false → Finishes M.tree (reader_version self) events result }
         ensures again { is_spent self ≡ true → is_want result ≡ true }
         ensures sound { (events : List XmlEvent) → heard M.holds M.tree self events
             → is_spent self ≡ false → is_want result ≡ false }

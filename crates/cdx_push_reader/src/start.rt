@@ -1,8 +1,8 @@
 //! The start of the root.
 
 ghost use Rattle.cdx_leaf.specs.Fault.{Denotes};
-ghost use Rattle.cdx_push_reader.specs.Starting.{name_read};
-ghost use Rattle.cdx_push_reader.specs.Pushed.{Stands};
+ghost use Rattle.cdx_push_reader.specs.Starting.{root_name_read};
+ghost use Rattle.cdx_push_reader.specs.Pushed.{StandsAtStage};
 ghost use Rattle.cdx_push_reader.specs.PushSteps.{Moves};
 ghost use Rattle.cdx_push_reader.specs.declared.hearing.Stage.TheVariants.{Before};
 
@@ -15,7 +15,7 @@ use std::alloc::Global;
 
 // `UnexpectedElementReadError` at place 1 exactly where the root isn't named `bom`.
 fn check_name(alloc: Global, name: &OwnedName) -> Result<(), XmlReadError>
-    ensures { Denotes (λ u. u) (name_read name.now) result }
+    ensures { Denotes (λ u. u) (root_name_read name.now) result }
 {
     if name.local_name.is("bom") {
         return Ok(());
@@ -35,7 +35,7 @@ pub(crate) fn begin<M: RootMachine>(
     event: &XmlEvent,
 ) -> Result<Stage<M, M::Value>, XmlReadError>
     ensures { Moves M.holds M.tree version Stage.Before place event.now
-        (λ events stage. Stands M.holds M.tree version stage events) result }
+        (λ events stage. StandsAtStage M.holds M.tree version stage events) result }
 {
     match event {
         XmlEvent::StartElement {

@@ -13,7 +13,7 @@ use Rattle.cdx_schema.specs.Results.{◌>>=◌}
 use Rattle.cdx_schema.specs.Depth.{Depth}
 use Rattle.cdx_schema.specs.Kinds.{a_reference}
 use Rattle.cdx_schema.specs.XmlReading.{xread, nodes_read, no_plan, find_attribute, after_text}
-use Rattle.cdx_leaf.specs.Fault.{Fails}
+use Rattle.cdx_leaf.specs.Fault.{FailsAt}
 use Rattle.cdx_leaf.specs.Attribute.{or_fault}
 use Rattle.cdx_leaf.proofs.Whole.{start_is}
 
@@ -32,10 +32,10 @@ module _ (v : SpecVersion) (n : OwnedName) (a : List OwnedAttribute) (ns : Names
   reference_is (Some s) e = rw e (closes nodes (suc p) s)
 
 -- an attribute's fault at the element's start
-pub start_fails : (e : XmlReadError) (q k p : ℕ) (o : Option (List ℕ)) (el name : List ℕ) → q ≡ k → q ≡ suc p → Fails e ((k - 1) + 1) (or_fault o (lacking (k - 1) el name)) → Fails e q (or_fault o (lacking p el name))
+pub start_fails : (e : XmlReadError) (q k p : ℕ) (o : Option (List ℕ)) (el name : List ℕ) → q ≡ k → q ≡ suc p → FailsAt e ((k - 1) + 1) (or_fault o (lacking (k - 1) el name)) → FailsAt e q (or_fault o (lacking p el name))
 start_fails e q k p o el name is at h =
     let same : p + 1 ≡ q = omega arith in
-    subst (λ x. Fails e x (or_fault o (lacking p el name))) same (subst (λ x. Fails e (x + 1) (or_fault o (lacking x el name))) (start_is q k p is at) h)
+    subst (λ x. FailsAt e x (or_fault o (lacking p el name))) same (subst (λ x. FailsAt e (x + 1) (or_fault o (lacking x el name))) (start_is q k p is at) h)
 
 pub start_gives : (q k p : ℕ) (o : Option (List ℕ)) (el name t : List ℕ) → q ≡ k → q ≡ suc p → or_fault o (lacking (k - 1) el name) ≡ Ok t → or_fault o (lacking p el name) ≡ Ok t
 start_gives q k p o el name t is at h = subst (λ x. or_fault o (lacking x el name) ≡ Ok t) (start_is q k p is at) h

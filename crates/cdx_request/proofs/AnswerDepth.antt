@@ -16,9 +16,9 @@ use Rattle.cdx_schema.specs.Laws.{HasBillShape, IsShallow}
 use Rattle.cdx_schema.specs.Keeping.{keep}
 use Rattle.cdx_schema.specs.XmlSpelling.{root}
 use Rattle.cdx_schema.specs.Trips.{Form, in_json, in_xml, Hop}
-use Rattle.cdx_schema.specs.Roads.{Doc, denotes, written, fits_all, hops_from}
+use Rattle.cdx_schema.specs.Roads.{Doc, denotes, document_of, fits_all, hops_from}
 use Rattle.cdx_schema.proofs.Stated.{stays_bill, stays_shallow, denotes_shapes, nests}
-use Rattle.cdx_request.specs.EventValues.{with_text, named, attribute_value, with_attributes, event_value}
+use Rattle.cdx_request.specs.EventValues.{text_put, with_name, attribute_value, with_attributes, event_value}
 use Rattle.cdx_request.specs.Replies.{doc_value}
 use Rattle.cdx_request.specs.Served.{AnswersNest}
 use Rattle.cdx_request.proofs.AnswerFloats.{bound, same_ok, chosen}
@@ -35,11 +35,11 @@ put_within n k d no_members p q = omega (arith, p)
 put_within n k d (member l e ms) p q =
     ordered (slice_cmp nat_cmp k l) n _ _ _ (omega (arith, p, q)) (omega (arith, p, q)) (omega (arith, q, put_within n k d ms p (omega (arith, q))))
 
-text_within : (n : ℕ) (k : List ℕ) (o : Option (List ℕ)) (ms : Members) → members_depth ms ≤ n → members_depth (with_text k o ms) ≤ n
+text_within : (n : ℕ) (k : List ℕ) (o : Option (List ℕ)) (ms : Members) → members_depth ms ≤ n → members_depth (text_put k o ms) ≤ n
 text_within n k None ms h = h
 text_within n k (Some s) ms h = put_within n k (string s) ms (omega arith) h
 
-name_within : (n : ℕ) (k : List ℕ) (name : OwnedName) (ms : Members) → members_depth ms ≤ n → members_depth (named k name ms) ≤ n
+name_within : (n : ℕ) (k : List ℕ) (name : OwnedName) (ms : Members) → members_depth ms ≤ n → members_depth (with_name k name ms) ≤ n
 name_within n k name ms h = text_within n _ name.prefix _ (text_within n _ name.namespace _ (put_within n k (string name.local_name) ms (omega arith) h))
 
 attributes_within : (as' : List OwnedAttribute) → items_depth (items_of (map attribute_value as')) ≤ 1
@@ -55,9 +55,9 @@ event_within : (e : XmlEvent) → depth (event_value e) ≤ 3
 event_within StartDocument = omega arith
 event_within EndDocument = omega arith
 event_within (StartElement n as' space) =
-    let inner : members_depth (named (codes "element") n no_members) ≤ 2 = name_within 2 (codes "element") n no_members (omega arith) in
-    let whole = with_text (codes "default") space.default (named (codes "element") n no_members) in
-    omega (arith, with_within as' whole (text_within 2 (codes "default") space.default (named (codes "element") n no_members) inner))
+    let inner : members_depth (with_name (codes "element") n no_members) ≤ 2 = name_within 2 (codes "element") n no_members (omega arith) in
+    let whole = text_put (codes "default") space.default (with_name (codes "element") n no_members) in
+    omega (arith, with_within as' whole (text_within 2 (codes "default") space.default (with_name (codes "element") n no_members) inner))
 event_within (EndElement n) = omega (arith, name_within 2 (codes "end") n no_members (omega arith))
 event_within (Characters s) = omega arith
 event_within (CData s) = omega arith
@@ -68,7 +68,7 @@ events_within (e ∷ es) = omega (arith, event_within e, events_within es)
 
 -- ---- documents
 
-doc_within : (f : Form) (w : SpecVersion) (b : Tree) → HasBillShape b → IsShallow b → depth (doc_value (written f w b)) ≤ 105
+doc_within : (f : Form) (w : SpecVersion) (b : Tree) → HasBillShape b → IsShallow b → depth (doc_value (document_of f w b)) ≤ 105
 doc_within in_json w b is s = omega (arith, nests b w is s)
 doc_within in_xml w b is s = omega (arith, events_within (document (root b w)))
 
@@ -78,7 +78,7 @@ docs_within (g ∷ hs) x v docs h =
     let b = bound (denotes x v) _ docs h in
     let is = denotes_shapes x v b.0 b.1 in
     let kept_bill = keep g.version b.0 a_bill in
-    let doc = written g.form g.version kept_bill in
+    let doc = document_of g.form g.version kept_bill in
     let r = bound (hops_from doc g.version hs) (λ rest. Ok (doc ∷ rest)) docs b.2 in
     let one = doc_within g.form g.version kept_bill ((stays_bill b.0 g.version).1 is.0).0 (stays_shallow b.0 g.version is.1).0 in
     subst (λ (docs : List Doc). items_depth (items_of (map doc_value docs)) ≤ 105) (same_ok (doc ∷ r.0) docs r.2) (omega (arith, one, docs_within hs doc g.version r.0 r.1))

@@ -19,8 +19,8 @@ use Rattle.cdx_schema.specs.XmlSpelling.{root}
 use Rattle.cdx_schema.specs.Keeping.{keep}
 use Rattle.cdx_schema.specs.Trips.{Form, in_json, in_xml, Hop}
 use Rattle.cdx_models.specs.declared.errors.XmlReadError.TheVariants.{ElementReadError, UnexpectedElementReadError, RequiredDataMissing, RequiredAttributeMissing, InvalidParseError, InvalidNamespaceError, TooDeep, Memory}
-use Rattle.cdx_schema.specs.Roads.{Doc, of_json, of_xml, version_missing, denotes, written, fits_all, hops_from}
-use Rattle.cdx_request.specs.EventValues.{with_text, named, attribute_value, with_attributes, event_value}
+use Rattle.cdx_schema.specs.Roads.{Doc, of_json, of_xml, version_missing, denotes, document_of, fits_all, hops_from}
+use Rattle.cdx_request.specs.EventValues.{text_put, with_name, attribute_value, with_attributes, event_value}
 use Rattle.cdx_request.specs.Replies.{doc_value}
 use Rattle.cdx_request.specs.Served.{NoFloats, NoFloatRefused}
 use Rattle.cdx_schema.proofs.Clear.{neither, spelling_clear}
@@ -47,11 +47,11 @@ put_clear k d (member l e ms) p q =
     let rest = second_clear (has_float e) (members_have_float ms) q in
     ordered (slice_cmp nat_cmp k l) _ _ _ (neither (has_float d) _ p q) (neither (has_float d) _ p rest) (neither (has_float e) _ e_clear (put_clear k d ms p rest))
 
-text_clear : (k : List ℕ) (o : Option (List ℕ)) (ms : Members) → members_have_float ms ≡ false → members_have_float (with_text k o ms) ≡ false
+text_clear : (k : List ℕ) (o : Option (List ℕ)) (ms : Members) → members_have_float ms ≡ false → members_have_float (text_put k o ms) ≡ false
 text_clear k None ms h = h
 text_clear k (Some s) ms h = put_clear k (string s) ms refl h
 
-name_clear : (k : List ℕ) (n : OwnedName) (ms : Members) → members_have_float ms ≡ false → members_have_float (named k n ms) ≡ false
+name_clear : (k : List ℕ) (n : OwnedName) (ms : Members) → members_have_float ms ≡ false → members_have_float (with_name k n ms) ≡ false
 name_clear k n ms h = text_clear _ n.prefix _ (text_clear _ n.namespace _ (put_clear k (string n.local_name) ms refl h))
 
 attributes_clear : (as' : List OwnedAttribute) → items_have_float (items_of (map attribute_value as')) ≡ false
@@ -76,7 +76,7 @@ events_clear (e ∷ es) = neither (has_float (event_value e)) _ (event_clear e) 
 
 -- ---- documents
 
-doc_clear : (f : Form) (w : SpecVersion) (b : Tree) → has_float (doc_value (written f w b)) ≡ false
+doc_clear : (f : Form) (w : SpecVersion) (b : Tree) → has_float (doc_value (document_of f w b)) ≡ false
 doc_clear in_json w b = neither (has_float (jspell b w a_bill)) false (spelling_clear b w a_bill) refl
 doc_clear in_xml w b = neither _ false (events_clear (document (root b w))) refl
 
@@ -96,7 +96,7 @@ docs_clear [] x v docs h = rw (sym (same_ok [] docs h)) refl
 docs_clear (g ∷ hs) x v docs h =
     let b = bound (denotes x v) _ docs h in
     let kept_bill = keep g.version b.0 a_bill in
-    let doc = written g.form g.version kept_bill in
+    let doc = document_of g.form g.version kept_bill in
     let r = bound (hops_from doc g.version hs) (λ rest. Ok (doc ∷ rest)) docs b.2 in
     subst (λ (docs : List Doc). items_have_float (items_of (map doc_value docs)) ≡ false) (same_ok (doc ∷ r.0) docs r.2)
     (neither (has_float (doc_value doc)) (items_have_float (items_of (map doc_value r.0))) (doc_clear g.form g.version kept_bill) (docs_clear hs doc g.version r.0 r.1))

@@ -11,8 +11,8 @@ use Rattle.cdx_events.specs.declared.name.Namespace.{Namespace}
 use Rattle.cdx_events.specs.declared.event.XmlEvent.{XmlEvent}
 use Rattle.cdx_events.specs.declared.event.XmlEvent.TheVariants.{StartDocument, EndDocument, StartElement, EndElement, Characters, CData}
 use Rattle.cdx_request.specs.Parts.{◌>>=◌, has, text_at, how_many, if_text, all_in}
-use Rattle.cdx_request.specs.EventValues.{with_text, named, attribute_value, one_text}
-use Rattle.cdx_request.specs.EventReading.{name_at, name_count, attribute_parts, attribute_of, if_attributes, mark_of, mark_event, start_parts, start_count, start_event, end_event, text_event, event_of}
+use Rattle.cdx_request.specs.EventValues.{text_put, with_name, attribute_value, one_text}
+use Rattle.cdx_request.specs.EventReading.{name_at, name_count, attribute_parts, attribute_meant, if_attributes, mark_of, mark_event, start_parts, start_count, start_event, end_event, text_event, event_of}
 use Rattle.cdx_request.specs.SameValues.{HoldsTheSame, HasMembers}
 use Rattle.cdx_request.specs.Alone.{WritesEvent, EventsAlone}
 use Rattle.cdx_request.proofs.Finding.{count, given, made, tested, same_some, Has, text_held, is_array, with_put, told, told_is, with_text_held, all_alone, same_items}
@@ -33,7 +33,7 @@ name_read local ds n e =
     subst (λ (n : OwnedName). IsNamed local ds n) (same_some (record { local_name = name.0; namespace = uri.0; prefix = prefix.0 }) n prefix.2)
     (record { local_name = text_held local ds name.0 name.1; uri = uri.1; prefix = prefix.1 })
 
-named_held : (local : List ℕ) (ds : Members) (n : OwnedName) (ws : Members) → IsNamed local ds n → HasMembers ds ws → HasMembers ds (named local n ws)
+named_held : (local : List ℕ) (ds : Members) (n : OwnedName) (ws : Members) → IsNamed local ds n → HasMembers ds ws → HasMembers ds (with_name local n ws)
 named_held local ds n ws is held =
     with_text_held (codes "prefix") ds n.prefix _ is.prefix
     (with_text_held (codes "uri") ds n.namespace _ is.uri (with_put ds local (string n.local_name) ws is.local_name held))
@@ -47,13 +47,13 @@ name_counted local ds n is = rw (told_is (get_member (codes "uri") ds) n.namespa
 
 -- ---- attributes
 
-attribute_len : (n v : List ℕ) (u p : Option (List ℕ)) → members_len (named (codes "name") (record { local_name = n; namespace = u; prefix = p }) (member (codes "value") (string v) no_members)) ≡ 1 + told u + told p + 1
+attribute_len : (n v : List ℕ) (u p : Option (List ℕ)) → members_len (with_name (codes "name") (record { local_name = n; namespace = u; prefix = p }) (member (codes "value") (string v) no_members)) ≡ 1 + told u + told p + 1
 attribute_len n v None None = refl
 attribute_len n v None (Some p) = refl
 attribute_len n v (Some u) None = refl
 attribute_len n v (Some u) (Some p) = refl
 
-attribute_held : (ds : Members) (a : OwnedAttribute) → attribute_of (object ds) ≡ Some a → HoldsTheSame (object ds) (attribute_value a)
+attribute_held : (ds : Members) (a : OwnedAttribute) → attribute_meant (object ds) ≡ Some a → HoldsTheSame (object ds) (attribute_value a)
 attribute_held ds a e =
     let t = tested (members_len ds == name_count (object ds) + 1) (attribute_parts (object ds)) a e in
     let name = given (name_at (codes "name") (object ds)) _ a t.1 in
@@ -63,7 +63,7 @@ attribute_held ds a e =
     subst (λ (a : OwnedAttribute). HoldsTheSame (object ds) (attribute_value a)) (same_some (record { name = name.0; value = value.0 }) a value.2)
     (many ∙ sym (attribute_len name.0.local_name value.0 name.0.namespace name.0.prefix), named_held (codes "name") ds name.0 (member (codes "value") (string value.0) no_members) is (text_held (codes "value") ds value.0 value.1, tt))
 
-attribute_alone : (d : Data) (a : OwnedAttribute) → attribute_of d ≡ Some a → HoldsTheSame d (attribute_value a)
+attribute_alone : (d : Data) (a : OwnedAttribute) → attribute_meant d ≡ Some a → HoldsTheSame d (attribute_value a)
 attribute_alone (object ds) a e = attribute_held ds a e
 attribute_alone null a e = absurd cc
 attribute_alone (boolean b) a e = absurd cc
@@ -75,11 +75,11 @@ attribute_alone (array ds) a e = absurd cc
 abbrev IsListed : Option Data → List OwnedAttribute → Type 0
 IsListed g as' = ((g ≡ None) × (as' ≡ [])) ⊎ ((how_many g ≡ 1) × ((d : Data) × (g ≡ Some d) × HoldsTheSame d (array (items_of (map attribute_value as')))))
 
-array_alone : (d : Data) (as' : List OwnedAttribute) → (as_array d >>= all_in attribute_of) ≡ Some as' → HoldsTheSame d (array (items_of (map attribute_value as')))
+array_alone : (d : Data) (as' : List OwnedAttribute) → (as_array d >>= all_in attribute_meant) ≡ Some as' → HoldsTheSame d (array (items_of (map attribute_value as')))
 array_alone d as' e =
     let items = given (as_array d) _ as' e in
     subst (λ (d : Data). HoldsTheSame d (array (items_of (map attribute_value as')))) (sym (is_array d items.0 items.1))
-    (same_items attribute_value items.0 as' (all_alone (λ d a. HoldsTheSame d (attribute_value a)) attribute_of attribute_alone items.0 as' items.2))
+    (same_items attribute_value items.0 as' (all_alone (λ d a. HoldsTheSame d (attribute_value a)) attribute_meant attribute_alone items.0 as' items.2))
 
 listed : (g : Option Data) (as' : List OwnedAttribute) → if_attributes g ≡ Some as' → IsListed g as'
 listed None as' e = inl (refl, sym (same_some [] as' e))
@@ -89,7 +89,7 @@ listed (Some d) as' e = inr (refl, (d, refl, array_alone d as' e))
 
 -- the members of the start of an element without attributes
 abbrev start_members : OwnedName → Namespace → Members
-start_members n s = with_text (codes "default") s.default (named (codes "element") n no_members)
+start_members n s = text_put (codes "default") s.default (with_name (codes "element") n no_members)
 
 start_len : (l : List ℕ) (u p d : Option (List ℕ)) → members_len (start_members (record { local_name = l; namespace = u; prefix = p }) (record { default = d })) ≡ 1 + told u + told p + told d
 start_len l None None None = refl
@@ -154,7 +154,7 @@ start_alone ds e h =
 
 -- ---- the other events
 
-end_len : (l : List ℕ) (u p : Option (List ℕ)) → members_len (named (codes "end") (record { local_name = l; namespace = u; prefix = p }) no_members) ≡ 1 + told u + told p
+end_len : (l : List ℕ) (u p : Option (List ℕ)) → members_len (with_name (codes "end") (record { local_name = l; namespace = u; prefix = p }) no_members) ≡ 1 + told u + told p
 end_len l None None = refl
 end_len l None (Some p) = refl
 end_len l (Some u) None = refl

@@ -7,7 +7,7 @@ use Rattle.cdx_events.specs.declared.event.XmlEvent.{XmlEvent}
 use Rattle.cdx_events.specs.declared.event.XmlEvent.TheVariants.{StartDocument, EndDocument, StartElement, EndElement, Characters, CData}
 use Rattle.cdx_request.specs.Parts.{all_in}
 use Rattle.cdx_request.specs.EventValues.{attribute_value, event_value}
-use Rattle.cdx_request.specs.EventReading.{attribute_of, event_of}
+use Rattle.cdx_request.specs.EventReading.{attribute_meant, event_of}
 use Rattle.cdx_request.specs.Served.{EventsBack}
 
 -- items that are each read back
@@ -15,10 +15,10 @@ pub all_back : {A : Type 0} (shown : A → Data) (read : Data → Option A) → 
 all_back shown read back [] = refl
 all_back shown read back (x ∷ xs) = rw (back x, all_back shown read back xs) refl
 
-attribute_back : (a : OwnedAttribute) → attribute_of (attribute_value a) ≡ Some a
+attribute_back : (a : OwnedAttribute) → attribute_meant (attribute_value a) ≡ Some a
 attribute_back a = by a.name.namespace a.name.prefix
   where
-    by : (u p : Option (List ℕ)) → attribute_of (attribute_value (record { name = record { local_name = a.name.local_name; namespace = u; prefix = p }; value = a.value })) ≡ Some (record { name = record { local_name = a.name.local_name; namespace = u; prefix = p }; value = a.value })
+    by : (u p : Option (List ℕ)) → attribute_meant (attribute_value (record { name = record { local_name = a.name.local_name; namespace = u; prefix = p }; value = a.value })) ≡ Some (record { name = record { local_name = a.name.local_name; namespace = u; prefix = p }; value = a.value })
     by None None = refl
     by None (Some p) = refl
     by (Some u) None = refl
@@ -43,14 +43,14 @@ start_back l (Some u) None None [] = refl
 start_back l (Some u) None (Some d) [] = refl
 start_back l (Some u) (Some p) None [] = refl
 start_back l (Some u) (Some p) (Some d) [] = refl
-start_back l None None None (a ∷ as') = rw (all_back attribute_value attribute_of attribute_back (a ∷ as')) refl
-start_back l None None (Some d) (a ∷ as') = rw (all_back attribute_value attribute_of attribute_back (a ∷ as')) refl
-start_back l None (Some p) None (a ∷ as') = rw (all_back attribute_value attribute_of attribute_back (a ∷ as')) refl
-start_back l None (Some p) (Some d) (a ∷ as') = rw (all_back attribute_value attribute_of attribute_back (a ∷ as')) refl
-start_back l (Some u) None None (a ∷ as') = rw (all_back attribute_value attribute_of attribute_back (a ∷ as')) refl
-start_back l (Some u) None (Some d) (a ∷ as') = rw (all_back attribute_value attribute_of attribute_back (a ∷ as')) refl
-start_back l (Some u) (Some p) None (a ∷ as') = rw (all_back attribute_value attribute_of attribute_back (a ∷ as')) refl
-start_back l (Some u) (Some p) (Some d) (a ∷ as') = rw (all_back attribute_value attribute_of attribute_back (a ∷ as')) refl
+start_back l None None None (a ∷ as') = rw (all_back attribute_value attribute_meant attribute_back (a ∷ as')) refl
+start_back l None None (Some d) (a ∷ as') = rw (all_back attribute_value attribute_meant attribute_back (a ∷ as')) refl
+start_back l None (Some p) None (a ∷ as') = rw (all_back attribute_value attribute_meant attribute_back (a ∷ as')) refl
+start_back l None (Some p) (Some d) (a ∷ as') = rw (all_back attribute_value attribute_meant attribute_back (a ∷ as')) refl
+start_back l (Some u) None None (a ∷ as') = rw (all_back attribute_value attribute_meant attribute_back (a ∷ as')) refl
+start_back l (Some u) None (Some d) (a ∷ as') = rw (all_back attribute_value attribute_meant attribute_back (a ∷ as')) refl
+start_back l (Some u) (Some p) None (a ∷ as') = rw (all_back attribute_value attribute_meant attribute_back (a ∷ as')) refl
+start_back l (Some u) (Some p) (Some d) (a ∷ as') = rw (all_back attribute_value attribute_meant attribute_back (a ∷ as')) refl
 
 event_back : (e : XmlEvent) → event_of (event_value e) ≡ Some e
 unfolding start

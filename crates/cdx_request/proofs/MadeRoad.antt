@@ -13,7 +13,7 @@ use Rattle.cdx_schema.specs.Trips.{in_json, in_xml}
 use Rattle.cdx_schema.specs.Laws.{HasBillShape, IsShallow, LeadsFrom}
 use Rattle.cdx_schema.specs.Roads.{Doc, json, xml, from_json, denotes}
 use Rattle.cdx_schema.proofs.Stated.{json_back, leads}
-use Rattle.cdx_request.specs.Made.{made_component, made_components, made_bill, made_doc, made_hops, made_road, counted}
+use Rattle.cdx_request.specs.Made.{made_component, made_components, made_bill, made_doc, made_hops, made_road, count_answer}
 use Rattle.cdx_request.specs.Served.{IsMade, MadeLaw}
 
 -- ---- a bill
@@ -69,7 +69,7 @@ bill_denoted n =
 
 -- two documents in the forms of the hops
 two_docs : (n : ℕ) (docs : List Doc) → made_road n ≡ Ok docs → LeadsFrom (made_bill n) made_hops docs → IsMade n
-two_docs n (xml root ∷ json x ∷ []) is l = record { root = root; value = x; led = is; counted = ap (counted n) is }
+two_docs n (xml root ∷ json x ∷ []) is l = record { root = root; value = x; led = is; counted = ap (count_answer n) is }
 two_docs n [] is l = absurd (omega (arith, l.0))
 two_docs n (y ∷ []) is l = absurd (omega (arith, l.0))
 two_docs n (y ∷ z ∷ w ∷ more) is l = absurd (omega (arith, l.0))

@@ -18,7 +18,7 @@ use Rattle.cdx_schema.specs.Roads.{Doc, json, xml}
 use Rattle.cdx_request.specs.Parts.{◌>>=◌, member_count, text_at, version_at, all_in}
 use Rattle.cdx_request.specs.EventReading.{events_of}
 use Rattle.cdx_request.specs.Refusals.{only}
-use Rattle.cdx_request.specs.Requests.{Misread, Sent, sent_value, sent_events, sent_under, sent_of, rooted, doc_of, doc_if, form_of, hop_parts, hop_of, hops_at, Request, Asked, asked_parts, asked_of, asking, request_if}
+use Rattle.cdx_request.specs.Requests.{Misread, Sent, sent_value, sent_events, sent_under, sent_of, rooted, doc_of, doc_if, form_named, hop_parts, hop_meant, hops_at, Request, Asked, asked_parts, asked_of, asking, request_if}
 use Rattle.cdx_request.specs.RequestValues.{form_word, hop_value, sent, asked}
 use Rattle.cdx_request.specs.SameValues.{HoldsTheSame}
 use Rattle.cdx_request.specs.Alone.{WritesSent, WritesAsked, SentAlone, DocsAlone, HopsAlone, AskedAlone, RequestsAlone}
@@ -80,7 +80,7 @@ docs_alone d x = by (sent_of d) refl
 
 -- ---- hops
 
-form_is : (s : List ℕ) (f : Form) → form_of s ≡ Some f → s ≡ form_word f
+form_is : (s : List ℕ) (f : Form) → form_named s ≡ Some f → s ≡ form_word f
 form_is s f = by (bytes_eq s (codes "json")) (bytes_eq s (codes "xml")) refl refl
   where
     by : (b c : Bool) → bytes_eq s (codes "json") ≡ b → bytes_eq s (codes "xml") ≡ c → (if b then Some in_json else (if c then Some in_xml else None)) ≡ Some f → s ≡ form_word f
@@ -97,11 +97,11 @@ version_is s v = by (bytes_eq s (label V1_3)) (bytes_eq s (label V1_4)) (bytes_e
     by false false true p q r e = (bytes_eq-Decides s (label V1_5)).0 r ∙ ap label (same_some V1_5 v e)
     by false false false p q r e = absurd cc
 
-hop_held : (ds : Members) (h : Hop) → hop_of (object ds) ≡ Some h → HoldsTheSame (object ds) (hop_value h)
+hop_held : (ds : Members) (h : Hop) → hop_meant (object ds) ≡ Some h → HoldsTheSame (object ds) (hop_value h)
 hop_held ds h e =
     let t = tested (members_len ds == 2) (hop_parts (object ds)) h e in
-    let form = given (text_at (codes "form") (object ds) >>= form_of) _ h t.1 in
-    let word = given (text_at (codes "form") (object ds)) form_of form.0 form.1 in
+    let form = given (text_at (codes "form") (object ds) >>= form_named) _ h t.1 in
+    let word = given (text_at (codes "form") (object ds)) form_named form.0 form.1 in
     let version = given (version_at (codes "version") (object ds)) _ h form.2 in
     let name = given (text_at (codes "version") (object ds)) version_of version.0 version.1 in
     subst (λ (h : Hop). HoldsTheSame (object ds) (hop_value h)) (same_some (record { form = form.0; version = version.0 }) h version.2) (
@@ -138,7 +138,7 @@ asked_alone d a e =
     let sent = given (get (codes "doc") d >>= sent_of) _ a from.2 in
     let doc = given (get (codes "doc") d) sent_of sent.0 sent.1 in
     let hops = given (hops_at d) _ a sent.2 in
-    let items = given (get (codes "hops") d >>= as_array) (all_in hop_of) hops.0 hops.1 in
+    let items = given (get (codes "hops") d >>= as_array) (all_in hop_meant) hops.0 hops.1 in
     let list = given (get (codes "hops") d) as_array items.0 items.1 in
     subst (λ (a : Asked). WritesAsked d a) (same_some (record { from = from.0; sent = sent.0; hops = hops.0 }) a hops.2) (record {
       three = count (member_count d) 3 t.0;
@@ -147,7 +147,7 @@ asked_alone d a e =
       hops = (
         array items.0,
         list.1 ∙ ap (λ (x : Data). Some x) (is_array list.0 items.0 list.2),
-        same_items hop_value items.0 hops.0 (all_alone (λ x h. HoldsTheSame x (hop_value h)) hop_of hops_alone items.0 hops.0 items.2),
+        same_items hop_value items.0 hops.0 (all_alone (λ x h. HoldsTheSame x (hop_value h)) hop_meant hops_alone items.0 hops.0 items.2),
       );
     })
 

@@ -13,8 +13,8 @@ use Rattle.cdx_models.specs.Trees.{Tree}
 use Rattle.cdx_schema.specs.Kinds.{a_bill}
 use Rattle.cdx_schema.specs.Keeping.{keep}
 use Rattle.cdx_schema.specs.Trips.{Form, in_json, in_xml, Hop}
-use Rattle.cdx_schema.specs.Roads.{Doc, json, xml, denotes, written, fits_all, hops_from}
-use Rattle.cdx_request.specs.Requests.{Misread, Sent, sent_value, sent_events, rooted, doc_of, doc_if, sent_of, hop_of, Request, Asked, asking, request_if, asked_of}
+use Rattle.cdx_schema.specs.Roads.{Doc, json, xml, denotes, document_of, fits_all, hops_from}
+use Rattle.cdx_request.specs.Requests.{Misread, Sent, sent_value, sent_events, rooted, doc_of, doc_if, sent_of, hop_meant, Request, Asked, asking, request_if, asked_of}
 use Rattle.cdx_request.specs.Replies.{doc_value}
 use Rattle.cdx_request.specs.RequestValues.{has_root, hop_value, request_value, sent, asked}
 use Rattle.cdx_request.specs.Served.{DocsBack, RequestsBack, AskedHaveRoots, AnsweredHaveRoots}
@@ -43,15 +43,15 @@ version_back V1_3 = refl
 version_back V1_4 = refl
 version_back V1_5 = refl
 
-hop_back : (h : Hop) → hop_of (hop_value h) ≡ Some h
+hop_back : (h : Hop) → hop_meant (hop_value h) ≡ Some h
 hop_back h = by h.form h.version
   where
-    by : (f : Form) (v : SpecVersion) → hop_of (hop_value (record { form = f; version = v })) ≡ Some (record { form = f; version = v })
+    by : (f : Form) (v : SpecVersion) → hop_meant (hop_value (record { form = f; version = v })) ≡ Some (record { form = f; version = v })
     by in_json v = rw (version_back v) refl
     by in_xml v = rw (version_back v) refl
 
 asked_back : (r : Request) → asked_of (request_value r) ≡ Some (asked r)
-asked_back r = rw (version_back r.from, sent_back r.doc, all_back hop_value hop_of hop_back r.hops) refl
+asked_back r = rw (version_back r.from, sent_back r.doc, all_back hop_value hop_meant hop_back r.hops) refl
 
 pub requests_back : RequestsBack
 requests_back r h = ap request_if (asked_back r) ∙ ap (asking r.from r.hops) (rooted_back r.doc h)
@@ -77,7 +77,7 @@ request_has (Some a) r h = doc_has a.sent r.doc (asking_has a.from a.hops (doc_o
 pub asked_have_roots : AskedHaveRoots
 asked_have_roots d r h = request_has (asked_of d) r h
 
-written_has : (f : Form) (w : SpecVersion) (b : Tree) → has_root (written f w b) ≡ true
+written_has : (f : Form) (w : SpecVersion) (b : Tree) → has_root (document_of f w b) ≡ true
 written_has in_json w b = refl
 written_has in_xml w b = refl
 
@@ -86,7 +86,7 @@ docs_have [] x v docs h = rw (sym (same_ok [] docs h)) refl
 docs_have (g ∷ hs) x v docs h =
     let b = bound (denotes x v) _ docs h in
     let kept_bill = keep g.version b.0 a_bill in
-    let doc = written g.form g.version kept_bill in
+    let doc = document_of g.form g.version kept_bill in
     let r = bound (hops_from doc g.version hs) (λ rest. Ok (doc ∷ rest)) docs b.2 in
     subst (λ (docs : List Doc). list_all has_root docs ≡ true) (same_ok (doc ∷ r.0) docs r.2)
     (rw (written_has g.form g.version kept_bill) (docs_have hs doc g.version r.0 r.1))

@@ -30,13 +30,13 @@ attribute_parts d = do
   Some (record { name = name; value = value })
 
 -- a name and a value
-abbrev pub attribute_of : Data → Option OwnedAttribute
-attribute_of d = if member_count d == name_count d + 1 then attribute_parts d else None
+abbrev pub attribute_meant : Data → Option OwnedAttribute
+attribute_meant d = if member_count d == name_count d + 1 then attribute_parts d else None
 
 -- no attributes, or an array of them, which may be empty
 abbrev pub if_attributes : Option Data → Option (List OwnedAttribute)
 if_attributes None = Some []
-if_attributes (Some d) = as_array d >>= all_in attribute_of
+if_attributes (Some d) = as_array d >>= all_in attribute_meant
 
 -- ---- events
 

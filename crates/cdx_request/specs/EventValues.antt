@@ -7,16 +7,16 @@ use Rattle.cdx_events.specs.declared.name.OwnedAttribute.{OwnedAttribute}
 use Rattle.cdx_events.specs.declared.event.XmlEvent.{XmlEvent}
 use Rattle.cdx_events.specs.declared.event.XmlEvent.TheVariants.{StartDocument, EndDocument, StartElement, EndElement, Characters, CData}
 
-abbrev pub with_text : List ℕ → Option (List ℕ) → Members → Members
-with_text name None ms = ms
-with_text name (Some s) ms = put name (string s) ms
+abbrev pub text_put : List ℕ → Option (List ℕ) → Members → Members
+text_put name None ms = ms
+text_put name (Some s) ms = put name (string s) ms
 
 -- A name: its local part under the member given, its namespace under `uri`, and its prefix.
-abbrev pub named : List ℕ → OwnedName → Members → Members
-named local n ms = with_text (codes "prefix") n.prefix (with_text (codes "uri") n.namespace (put local (string n.local_name) ms))
+abbrev pub with_name : List ℕ → OwnedName → Members → Members
+with_name local n ms = text_put (codes "prefix") n.prefix (text_put (codes "uri") n.namespace (put local (string n.local_name) ms))
 
 abbrev pub attribute_value : OwnedAttribute → Data
-attribute_value a = object (named (codes "name") a.name (member (codes "value") (string a.value) no_members))
+attribute_value a = object (with_name (codes "name") a.name (member (codes "value") (string a.value) no_members))
 
 abbrev pub with_attributes : List OwnedAttribute → Members → Members
 with_attributes [] ms = ms
@@ -28,8 +28,8 @@ one_text name s = object (member name (string s) no_members)
 abbrev pub event_value : XmlEvent → Data
 event_value StartDocument = one_text (codes "document") (codes "start")
 event_value EndDocument = one_text (codes "document") (codes "end")
-event_value (StartElement name attributes namespace) = object (with_attributes attributes (with_text (codes "default") namespace.default (named (codes "element") name no_members)))
-event_value (EndElement name) = object (named (codes "end") name no_members)
+event_value (StartElement name attributes namespace) = object (with_attributes attributes (text_put (codes "default") namespace.default (with_name (codes "element") name no_members)))
+event_value (EndElement name) = object (with_name (codes "end") name no_members)
 event_value (Characters s) = one_text (codes "text") s
 event_value (CData s) = one_text (codes "cdata") s
 

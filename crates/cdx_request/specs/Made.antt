@@ -55,13 +55,13 @@ made_counts bytes n events = only (codes "made") (object (
     member (codes "events") (value.number (unsigned events)) no_members))))
 
 -- Its road has these two documents (`MadeLaw`).
-abbrev pub counted : ℕ → Result (List Doc) Refusal → Data
-counted n (Ok (xml root ∷ json x ∷ [])) = made_counts (length (compact_text x)) n (length (document root))
-counted n _ = null
+abbrev pub count_answer : ℕ → Result (List Doc) Refusal → Data
+count_answer n (Ok (xml root ∷ json x ∷ [])) = made_counts (length (compact_text x)) n (length (document root))
+count_answer n _ = null
 
 -- the answer of so many components
 abbrev pub made_answer : ℕ → Data
-made_answer n = counted n (made_road n)
+made_answer n = count_answer n (made_road n)
 
 abbrev pub made_reply : ℕ → Reply
 made_reply n = reply 0 (made_answer n)

@@ -54,21 +54,21 @@ doc_in d = doc_if (sent_of d)
 
 -- ---- the hops
 
-abbrev pub form_of : List ℕ → Option Form
-form_of s = if bytes_eq s (codes "json") then Some in_json else (if bytes_eq s (codes "xml") then Some in_xml else None)
+abbrev pub form_named : List ℕ → Option Form
+form_named s = if bytes_eq s (codes "json") then Some in_json else (if bytes_eq s (codes "xml") then Some in_xml else None)
 
 abbrev pub hop_parts : Data → Option Hop
 hop_parts d = do
-  form ← text_at (codes "form") d >>= form_of
+  form ← text_at (codes "form") d >>= form_named
   version ← version_at (codes "version") d
   Some (record { form = form; version = version })
 
 -- an object with `form` and `version`, and no other member
-abbrev pub hop_of : Data → Option Hop
-hop_of d = if member_count d == 2 then hop_parts d else None
+abbrev pub hop_meant : Data → Option Hop
+hop_meant d = if member_count d == 2 then hop_parts d else None
 
 abbrev pub hops_at : Data → Option (List Hop)
-hops_at d = get (codes "hops") d >>= as_array >>= all_in hop_of
+hops_at d = get (codes "hops") d >>= as_array >>= all_in hop_meant
 
 -- ---- requests
 

@@ -15,7 +15,7 @@ use Rattle.cdx_schema.specs.Held.{held_kind}
 use Rattle.cdx_models.specs.declared.errors.XmlReadError.{XmlReadError}
 use Rattle.cdx_schema.specs.Trips.{is_hollow, is_passed_over}
 use Rattle.cdx_schema.specs.XmlReading.{Plan, find_child, record_plan, plan_of_list, tools_plan, content_from}
-use Rattle.cdx_schema.specs.XmlSpelling.{nodes_of, items_nodes, fields_nodes, row_nodes, wrapped, lone, tag_of, named}
+use Rattle.cdx_schema.specs.XmlSpelling.{nodes_of, items_nodes, fields_nodes, row_nodes, wrapped, lone, tag_of, each_under}
 use Rattle.cdx_events.specs.EmptyTexts.{lean, lean_nodes}
 use Rattle.cdx_schema.specs.Dropped.{earlier, record_hole, child_hole, node_hole, hole, holes, has_empty, have_empty, any_empty}
 use Rattle.cdx_schema.proofs.JsonBack.{if_true, and_true, both_false, same_name, Held, AllHeld, FieldsHeld, RowHeld}
@@ -23,7 +23,7 @@ use Rattle.cdx_schema.proofs.XmlBack.{row_written}
 use Rattle.cdx_schema.proofs.XmlLaw.{is_plain, tag_plain, optional_text}
 use Rattle.cdx_schema.proofs.JsonBack.{one_text_of}
 use Rattle.cdx_schema.proofs.HeldKept.{held_kept, fits_first}
-use Rattle.cdx_schema.specs.Membership.{IsListOf}
+use Rattle.cdx_schema.specs.Membership.{IsListKind}
 use Rattle.cdx_schema.specs.Keeping.{keep}
 use Rattle.cdx_schema.specs.Depth.{top}
 use Rattle.cdx_schema.specs.JsonSpelling.{is_written}
@@ -53,7 +53,7 @@ bare_solid : (w : SpecVersion) (k : Kind) → is_bare k ≡ true → KindSolid w
 unfolding has_empty
 bare_solid w k e d (items ts) h = by k e h.0
   where
-    by : (j : Kind) → is_bare j ≡ true → IsListOf j → have_empty ts ≡ false
+    by : (j : Kind) → is_bare j ≡ true → IsListKind j → have_empty ts ≡ false
     by a_text e h = absurd (true≢false h)
     by a_number e h = absurd (true≢false h)
     by a_boolean e h = absurd (true≢false h)
@@ -398,7 +398,7 @@ data_back : (w : SpecVersion) (d : Depth) (ts : Trees) → AllHeld w d ts an_ent
 data_back w d ts h = all_solid w an_entry (entry_solid w) d ts h
 
 abbrev ListBack : SpecVersion → Depth → Trees → Type 0
-ListBack w d ts = (k : Kind) (tag : List ℕ) (plan : Plan) (p : ℕ) → AllHeld w d ts k → ItemFinds w d plan k tag → holes (lean_nodes (items_nodes ts w (named tag) k)) w p plan ≡ None → have_empty ts ≡ false
+ListBack w d ts = (k : Kind) (tag : List ℕ) (plan : Plan) (p : ℕ) → AllHeld w d ts k → ItemFinds w d plan k tag → holes (lean_nodes (items_nodes ts w (each_under tag) k)) w p plan ≡ None → have_empty ts ≡ false
 
 items_case : (w : SpecVersion) (d : Depth) (ts : Trees) (k : Kind) → Held w d (items ts) k → ListBack w d ts → Back w (items ts) k
 unfolding hole nodes_of list has_empty
@@ -451,10 +451,10 @@ mutual
   back w d (fields n ts) k h tag p e = fields_case w d n ts k h (λ plan q c i z. rows_back w (inside n d) ts (rows n) plan q c h.2 i z) tag p e
   back w d _ k h tag p e = refl
 
-  pub items_back : (w : SpecVersion) (d : Depth) (ts : Trees) (k : Kind) (tag : List ℕ) (plan : Plan) (p : ℕ) → AllHeld w d ts k → ItemFinds w d plan k tag → holes (lean_nodes (items_nodes ts w (named tag) k)) w p plan ≡ None → have_empty ts ≡ false
+  pub items_back : (w : SpecVersion) (d : Depth) (ts : Trees) (k : Kind) (tag : List ℕ) (plan : Plan) (p : ℕ) → AllHeld w d ts k → ItemFinds w d plan k tag → holes (lean_nodes (items_nodes ts w (each_under tag) k)) w p plan ≡ None → have_empty ts ≡ false
   items_back w d none k tag plan p h i e = refl
   items_back w d (more t ts) k tag plan p h i e =
-      let s : (holes (lean_nodes (if is_passed_over t then no_nodes else lone (wrapped t w tag k (nodes_of t w k)))) w p plan ≡ None) × ((q : ℕ) × (holes (lean_nodes (items_nodes ts w (named tag) k)) w q plan ≡ None)) = lean_split (if is_passed_over t then no_nodes else lone (wrapped t w tag k (nodes_of t w k))) (items_nodes ts w (named tag) k) w plan p e in
+      let s : (holes (lean_nodes (if is_passed_over t then no_nodes else lone (wrapped t w tag k (nodes_of t w k)))) w p plan ≡ None) × ((q : ℕ) × (holes (lean_nodes (items_nodes ts w (each_under tag) k)) w q plan ≡ None)) = lean_split (if is_passed_over t then no_nodes else lone (wrapped t w tag k (nodes_of t w k))) (items_nodes ts w (each_under tag) k) w plan p e in
       both_false (has_empty t) (have_empty ts) (item_back w d t k tag plan p (is_passed_over t) refl h.0 (i t h.0) (λ a b c. back w d t k h.0 a b c) s.0) (items_back w d ts k tag plan s.1.0 h.1 i s.1.1)
 
   pub tree_items : (w : SpecVersion) (d : Depth) (t : Tree) → ItemsBack w d t

@@ -15,7 +15,7 @@ use Rattle.cdx_schema.specs.Held.{held_kind}
 use Rattle.cdx_models.specs.declared.errors.XmlReadError.{XmlReadError}
 use Rattle.cdx_schema.specs.Trips.{is_hollow, is_passed_over}
 use Rattle.cdx_schema.specs.XmlReading.{Plan, Child, Place, last, all, once, find_child, row_children, record_plan, plan_of_list, tools_plan, data_plan, signature_plan, content_from}
-use Rattle.cdx_schema.specs.XmlSpelling.{nodes_of, items_nodes, fields_nodes, row_nodes, wrapped, lone, tag_of, named}
+use Rattle.cdx_schema.specs.XmlSpelling.{nodes_of, items_nodes, fields_nodes, row_nodes, wrapped, lone, tag_of, each_under}
 use Rattle.cdx_events.specs.EmptyTexts.{lean, lean_nodes}
 use Rattle.cdx_schema.specs.Dropped.{earlier, record_hole, child_hole, node_hole, hole, holes, has_empty, have_empty, any_empty}
 use Rattle.cdx_schema.proofs.JsonBack.{is_in, distinct, same_itself, or_false, apart_first, is_in_first, and_true, same_name, Held, AllHeld, FieldsHeld, RowHeld}
@@ -437,7 +437,7 @@ pub tool_finds : (w : SpecVersion) (d : Depth) → ItemFinds w d tools_plan (a_r
 tool_finds w d t h = let f : (c : Child) × (find_child w (tag_of (a_record tool) t (codes "tool")) tools_plan.children ≡ Some c) × (c.field ≡ 0) × (c.place ≡ all) × (c.kind ≡ a_record tool) = finds_tool w d t h in (f.0, f.1, f.4)
 
 abbrev ListWhole : SpecVersion → Depth → Trees → Type 0
-ListWhole w d ts = (k : Kind) (tag : List ℕ) (plan : Plan) → AllHeld w d ts k → ItemFinds w d plan k tag → HasNone (lean_nodes (items_nodes ts w (named tag) k)) w plan
+ListWhole w d ts = (k : Kind) (tag : List ℕ) (plan : Plan) → AllHeld w d ts k → ItemFinds w d plan k tag → HasNone (lean_nodes (items_nodes ts w (each_under tag) k)) w plan
 
 items_case : (w : SpecVersion) (d : Depth) (ts : Trees) (k : Kind) → Held w d (items ts) k → ListWhole w d ts → Whole w (items ts) k
 unfolding hole nodes_of list
@@ -493,11 +493,11 @@ mutual
   whole w d (items ts) k h f = items_case w d ts k h (λ j tag plan g i. items_whole w d ts j tag plan g f i)
   whole w d (fields n ts) k h f = fields_case w d n ts k h f (λ plan c i. rows_whole w (inside n d) ts (rows n) plan c h.2 (or_false (any_empty ts (rows n)) (have_empty ts) f).1 i)
 
-  pub items_whole : (w : SpecVersion) (d : Depth) (ts : Trees) (k : Kind) (tag : List ℕ) (plan : Plan) → AllHeld w d ts k → have_empty ts ≡ false → ItemFinds w d plan k tag → HasNone (lean_nodes (items_nodes ts w (named tag) k)) w plan
+  pub items_whole : (w : SpecVersion) (d : Depth) (ts : Trees) (k : Kind) (tag : List ℕ) (plan : Plan) → AllHeld w d ts k → have_empty ts ≡ false → ItemFinds w d plan k tag → HasNone (lean_nodes (items_nodes ts w (each_under tag) k)) w plan
   items_whole w d none k tag plan h f i = nothing_none w plan
   items_whole w d (more t ts) k tag plan h f i =
       let e : (has_empty t ≡ false) × (have_empty ts ≡ false) = or_false (has_empty t) (have_empty ts) f in
-      lean_both (if is_passed_over t then no_nodes else lone (wrapped t w tag k (nodes_of t w k))) (items_nodes ts w (named tag) k) w plan
+      lean_both (if is_passed_over t then no_nodes else lone (wrapped t w tag k (nodes_of t w k))) (items_nodes ts w (each_under tag) k) w plan
       (passed (is_passed_over t) (lone (wrapped t w tag k (nodes_of t w k))) w plan (one_child w plan t k tag (tag_of k t tag) (whole w d t k h.0 e.0) refl (i t h.0)))
       (items_whole w d ts k tag plan h.1 e.1 i)
 

@@ -16,7 +16,7 @@ use Rattle.cdx_schema.specs.Depth.{Depth, top, inside, name_too_deep}
 use Rattle.cdx_models.specs.Entries.{entry_of}
 use Rattle.cdx_schema.specs.JsonReading.{is_required}
 use Rattle.cdx_schema.specs.XmlTexts.{boolean_of, number_of, boolean_tree, of_text}
-use Rattle.cdx_schema.specs.XmlReading.{Reading, Child, Plan, record_plan, plan_of_list, tools_plan, data_plan, signature_plan, no_plan, find_child, stored, stray, unknown, is_second, child_read, find_attribute, parsed, attribute_read, attribute_or_read, row_attribute, attributes_read, in_force, after_text, text_in, exact_text, Content, no_content, any_text, one_text_alone, content_from, owed, lacks, lacking_row, filled, ended, Element, end_of, text_read, number_alone, number_in, list_of, content_read, record_so_far, record_read, tools_object_of, tools_of, data_of, signature_of, in_namespace, kind_read, xread, nodes_read, xml_denotes}
+use Rattle.cdx_schema.specs.XmlReading.{ElementReading, Child, Plan, record_plan, plan_of_list, tools_plan, data_plan, signature_plan, no_plan, find_child, stored, stray, unknown, is_second, child_read, find_attribute, parsed, attribute_read, attribute_or_read, row_attribute, attributes_read, in_force, after_text, text_in, exact_text, Content, no_content, any_text, one_text_alone, content_from, name_owed, lacks, lacking_row, filled, ended, Element, end_of, text_read, number_alone, number_in, list_of, content_read, record_so_far, record_read, tools_object_of, tools_of, data_of, signature_of, in_namespace, kind_read, xread, nodes_read, xml_denotes}
 use Rattle.cdx_events.specs.EmptyTexts.{lean, lean_nodes}
 use Rattle.cdx_schema.specs.Dropped.{earlier, if_nothing, record_hole, kind_hole, child_hole, hole, holes, unless}
 use Rattle.cdx_events.specs.declared.event.EventKind.TheVariants as kinds
@@ -100,8 +100,8 @@ unfolding ended
 ended_ok [] ts v n p q us h = h
 ended_ok (r ∷ rs) none v n p q us h = h
 ended_ok (r ∷ rs) (more t ts) v n p q us h =
-    either_ok (lacks (owed r.xml) r t v) (lacking_row (owed r.xml) n p (Ok none)) (lacking_row (owed r.xml) n q (Ok none)) (ended rs ts v n p >>= (λ vs. Ok (more (filled r t) vs))) (ended rs ts v n q >>= (λ vs. Ok (more (filled r t) vs))) us
-    (lacking_ok (owed r.xml) n p q us)
+    either_ok (lacks (name_owed r.xml) r t v) (lacking_row (name_owed r.xml) n p (Ok none)) (lacking_row (name_owed r.xml) n q (Ok none)) (ended rs ts v n p >>= (λ vs. Ok (more (filled r t) vs))) (ended rs ts v n q >>= (λ vs. Ok (more (filled r t) vs))) us
+    (lacking_ok (name_owed r.xml) n p q us)
     (λ g. bind_ok (ended rs ts v n p) (λ vs. Ok (more (filled r t) vs)) us g (λ vs i j. ap (λ z. z >>= (λ ws. Ok (more (filled r t) ws))) (ended_ok rs ts v n p q vs i) ∙ j)) h
 
 stray_ok : (r : Rule) (s : EventKind) (around : List ℕ) (p q : ℕ) (ts us : Trees) → stray r s around p ts ≡ Ok us → stray r s around q ts ≡ Ok us
@@ -287,7 +287,7 @@ module _ (n : List ℕ) (as' : List OwnedAttribute) (nsp : Option (List ℕ)) (p
 
 -- ---- nodes
 
-child_lean : (o : Option Child) (r : Rule) (read read' : Reading) (look : Kind → Option XmlReadError) (around : List ℕ) (v : SpecVersion) (d : Depth) (p q : ℕ) (ts us : Trees)
+child_lean : (o : Option Child) (r : Rule) (read read' : ElementReading) (look : Kind → Option XmlReadError) (around : List ℕ) (v : SpecVersion) (d : Depth) (p q : ℕ) (ts us : Trees)
     → ((k : Kind) (t : Tree) → read v k p d ≡ Ok t → read' v k q d ≡ unless (look k) t)
     → child_read o r read around v d p ts ≡ Ok us → child_read o r read' around v d q ts ≡ unless (child_hole o look) us
 child_lean None r read read' look around v d p q ts us f h = unknown_ok r around p q ts us h

@@ -8,7 +8,7 @@ use Rattle.cdx_events.specs.declared.event.XmlEvent.{XmlEvent}
 use Rattle.cdx_events.specs.declared.event.XmlEvent.TheVariants.{StartDocument, EndDocument, StartElement, EndElement, Characters, CData}
 use Rattle.cdx_events.specs.Nodes.{Node, characters, cdata, events_of, events_of_all, GoesOn}
 use Rattle.cdx_events.specs.Balance.{Frame, opened, names}
-use Rattle.cdx_events.specs.Root.{with, node_of, opening}
+use Rattle.cdx_events.specs.Root.{with, node_of, frame_opened}
 use Rattle.cdx_events.proofs.Checks.{checks, checks_all, inside_checks, goes_checks}
 use Rattle.cdx_events.proofs.Hears.{opened_with, opened_end}
 use Rattle.cdx_schema.specs.Soon.{ends, BeginsElement, IsElement, IsEnded}
@@ -67,7 +67,7 @@ pub data After (name : OwnedName) (events : List XmlEvent) : Type 0 where
   over : (x : Frame) → events ≡ events_of (node_of x) → x.name ≡ name → After name events
 
 pub after_event : (f : Frame) (fs : List Frame) (e : XmlEvent) → Allowed f.name e → After (outer_name f fs) (opened (f ∷ fs) ++ e ∷ [])
-after_event f fs (StartElement n a s) h = still (opening n a s) (f ∷ fs) refl refl
+after_event f fs (StartElement n a s) h = still (frame_opened n a s) (f ∷ fs) refl refl
 after_event f [] (Characters t) h = still (with f (characters t)) [] (sym (opened_with f [] (characters t))) refl
 after_event f (g ∷ fs) (Characters t) h = still (with f (characters t)) (g ∷ fs) (sym (opened_with f (g ∷ fs) (characters t))) refl
 after_event f [] (CData t) h = still (with f (cdata t)) [] (sym (opened_with f [] (cdata t))) refl

@@ -9,7 +9,7 @@ use Rattle.cdx_models.specs.declared.bom.SpecVersion.{SpecVersion}
 use Rattle.cdx_models.specs.declared.errors.XmlReadError.{XmlReadError}
 use Rattle.cdx_models.specs.declared.errors.XmlReadError.TheVariants.{ElementReadError, UnexpectedElementReadError, RequiredDataMissing, RequiredAttributeMissing, InvalidParseError, InvalidNamespaceError, TooDeep, Memory}
 use Rattle.cdx_models.specs.Trees.{Tree}
-use Rattle.cdx_schema.specs.Locality.{fault_place, root_of, IsDocumentFault}
+use Rattle.cdx_schema.specs.Locality.{fault_place, balanced_root, IsDocumentFault}
 use Rattle.cdx_schema.specs.XmlReading.{xml_denotes}
 use Rattle.cdx_schema.specs.Early.{IsFrontFault, short, place_of, unbalanced, the_lower, broken_at, IsEarly, whole, broken}
 use Rattle.cdx_schema.proofs.Local.{stands_inside}
@@ -30,7 +30,7 @@ document_place (ElementReadError kind p) d = absurd d
 document_place (Memory e) d = refl
 
 pub inside_place : (v : SpecVersion) (front : List XmlEvent) (f : XmlReadError) → Inside v front f → place_of f ≡ fault_place f
-inside_place v front f i = document_place f (refuses_by_faults (root_of i.goes.balanced) v f (i.blocks i.goes.rest i.goes.balanced))
+inside_place v front f i = document_place f (refuses_by_faults (balanced_root i.goes.balanced) v f (i.blocks i.goes.rest i.goes.balanced))
 
 -- ---- the lower of the two
 
@@ -189,19 +189,19 @@ early_short v events g l = early_goes v events None g (short l refl)
 
 -- ---- balanced events
 
-pub whole_denotes : (v : SpecVersion) (events : List XmlEvent) → IsEarly v events None → (b : IsBalanced events) → (t : Tree) × (xml_denotes (root_of b) v ≡ Ok t)
-whole_denotes v events h b = by (xml_denotes (root_of b) v) refl
+pub whole_denotes : (v : SpecVersion) (events : List XmlEvent) → IsEarly v events None → (b : IsBalanced events) → (t : Tree) × (xml_denotes (balanced_root b) v ≡ Ok t)
+whole_denotes v events h b = by (xml_denotes (balanced_root b) v) refl
   where
-    by : (r : Result Tree XmlReadError) → xml_denotes (root_of b) v ≡ r → (t : Tree) × (xml_denotes (root_of b) v ≡ Ok t)
+    by : (r : Result Tree XmlReadError) → xml_denotes (balanced_root b) v ≡ r → (t : Tree) × (xml_denotes (balanced_root b) v ≡ Ok t)
     by (Ok t) e = (t, e)
     by (Err f) e =
         let same = append-nil events in
         let c : IsBalanced (events ++ []) = subst IsBalanced (sym same) b in
         let place = stands_inside events b v f e in
-        let long : 1 < length events = omega (arith, ap length b.whole, length-append (Rattle.cdx_events.specs.Nodes.events_of (root_of b)) (Rattle.cdx_events.specs.declared.event.XmlEvent.TheVariants.EndDocument ∷ [])) in
+        let long : 1 < length events = omega (arith, ap length b.whole, length-append (Rattle.cdx_events.specs.Nodes.events_of (balanced_root b)) (Rattle.cdx_events.specs.declared.event.XmlEvent.TheVariants.EndDocument ∷ [])) in
         absurd (front_clean v events (none_goes v events h).1 f (inside_of v events f [] c long place (ap (λ x. xml_denotes x v) (Rattle.cdx_schema.proofs.EarlyFaults.root_same (events ++ []) events c b same) ∙ e)))
 
-pub denotes_none : (v : SpecVersion) (events : List XmlEvent) (b : IsBalanced events) (t : Tree) → xml_denotes (root_of b) v ≡ Ok t → IsEarly v events None
+pub denotes_none : (v : SpecVersion) (events : List XmlEvent) (b : IsBalanced events) (t : Tree) → xml_denotes (balanced_root b) v ≡ Ok t → IsEarly v events None
 denotes_none v events b t d = by (early_there v events).0 (early_there v events).1
   where
     ok_err : (r : Result Tree XmlReadError) (f : XmlReadError) → r ≡ Ok t → r ≡ Err f → ⊥
@@ -212,7 +212,7 @@ denotes_none v events b t d = by (early_there v events).0 (early_there v events)
     by (Some f) (whole c inside h e) =
         let i = front_inside v events f (subst (λ o. IsFrontFault v events o) (sym e) h) in
         let c : IsBalanced (events ++ []) = subst IsBalanced (sym (append-nil events)) b in
-        absurd (ok_err (xml_denotes (root_of b) v) f d (ap (λ x. xml_denotes x v) (sym (Rattle.cdx_schema.proofs.EarlyFaults.root_same (events ++ []) events c b (append-nil events))) ∙ i.blocks [] c))
+        absurd (ok_err (xml_denotes (balanced_root b) v) f d (ap (λ x. xml_denotes x v) (sym (Rattle.cdx_schema.proofs.EarlyFaults.root_same (events ++ []) events c b (append-nil events))) ∙ i.blocks [] c))
     by (Some f) (broken p c inside h e) = absurd (c.unbalanced b)
 
 -- ---- where an early fault stands
@@ -243,7 +243,7 @@ inside_shorter v events front rest more f g e i l =
     ]
   where
     one : 1 ≤ fault_place f
-    one = (Rattle.cdx_schema.proofs.FaultPlaces.denoted_within (root_of i.goes.balanced) v f (i.blocks i.goes.rest i.goes.balanced)).0
+    one = (Rattle.cdx_schema.proofs.FaultPlaces.denoted_within (balanced_root i.goes.balanced) v f (i.blocks i.goes.rest i.goes.balanced)).0
 
     long : length events ≤ length front → 1 < length events
     long le = omega (arith, one, l)

@@ -19,7 +19,7 @@ use Rattle.cdx_schema.specs.Depth.{Depth, top, inside, name_too_deep}
 use Rattle.cdx_models.specs.Entries.{entry_of}
 use Rattle.cdx_schema.specs.JsonReading.{is_required}
 use Rattle.cdx_schema.specs.XmlTexts.{boolean_of, number_of, boolean_tree, of_text}
-use Rattle.cdx_schema.specs.XmlReading.{Reading, Child, Plan, row_children, children_from, record_plan, plan_of_list, tools_plan, data_plan, signature_plan, no_plan, find_child, stored, stray, unknown, is_second, child_read, node_read, find_attribute, parsed, attribute_read, attribute_or_read, row_attribute, attributes_read, in_force, after_text, text_in, exact_text, Content, no_content, any_text, one_text_alone, content_from, owed, lacks, lacking_row, filled, ended, Element, end_of, text_read, boolean_read, number_alone, number_in, list_of, content_read, record_so_far, record_read, tools_object_of, tools_of, data_of, signature_of, tools_read, signature_read, in_namespace, kind_read, xread, nodes_read, xml_denotes}
+use Rattle.cdx_schema.specs.XmlReading.{ElementReading, Child, Plan, row_children, children_from, record_plan, plan_of_list, tools_plan, data_plan, signature_plan, no_plan, find_child, stored, stray, unknown, is_second, child_read, node_read, find_attribute, parsed, attribute_read, attribute_or_read, row_attribute, attributes_read, in_force, after_text, text_in, exact_text, Content, no_content, any_text, one_text_alone, content_from, name_owed, lacks, lacking_row, filled, ended, Element, end_of, text_read, boolean_read, number_alone, number_in, list_of, content_read, record_so_far, record_read, tools_object_of, tools_of, data_of, signature_of, tools_read, signature_read, in_namespace, kind_read, xread, nodes_read, xml_denotes}
 use Rattle.cdx_schema.specs.Locality.{fault_place, IsDocumentFault, RefusesByFaults}
 use Rattle.cdx_schema.proofs.JsonBack.{and_true}
 use Rattle.cdx_events.specs.declared.event.EventKind.TheVariants as kinds
@@ -107,8 +107,8 @@ unfolding ended
 ended_place [] ts v around p f h = ok_err h
 ended_place (r ∷ rs) none v around p f h = ok_err h
 ended_place (r ∷ rs) (more t ts) v around p f h =
-    either_place (lacks (owed r.xml) r t v) (lacking_row (owed r.xml) around p (Ok none)) (ended rs ts v around p >>= (λ us. Ok (more (filled r t) us))) f p h
-    (lacking_place (owed r.xml) around p f)
+    either_place (lacks (name_owed r.xml) r t v) (lacking_row (name_owed r.xml) around p (Ok none)) (ended rs ts v around p >>= (λ us. Ok (more (filled r t) us))) f p h
+    (lacking_place (name_owed r.xml) around p f)
     (λ g. bind_err (ended rs ts v around p) (λ us. Ok (more (filled r t) us)) f g (ended_place rs ts v around p f) (λ us i j. ok_err j))
 
 -- ---- plans that hold no bill
@@ -339,7 +339,7 @@ unknown_place lax around p ts f h = ok_err h
 unknown_place strict around p ts f h = ap fault_place (sym (err_same h))
 
 -- A node's fault stands at its place, or is the fault of the child that it is read as.
-child_fault : {Q : Type 0} (o : Option Child) (r : Rule) (read : Reading) (around : List ℕ) (v : SpecVersion) (d : Depth) (p : ℕ) (ts : Trees) (f : XmlReadError) → NoBillIn o → (fault_place f ≡ p → Q) → ((k : Kind) → no_bill k ≡ true → read v k p d ≡ Err f → Q)
+child_fault : {Q : Type 0} (o : Option Child) (r : Rule) (read : ElementReading) (around : List ℕ) (v : SpecVersion) (d : Depth) (p : ℕ) (ts : Trees) (f : XmlReadError) → NoBillIn o → (fault_place f ≡ p → Q) → ((k : Kind) → no_bill k ≡ true → read v k p d ≡ Err f → Q)
     → child_read o r read around v d p ts ≡ Err f → Q
 child_fault None r read around v d p ts f b here g h = here (unknown_place r around p ts f h)
 child_fault {Q} (Some c) r read around v d p ts f b here g h = by (is_second c.place (field c.field ts)) h
@@ -348,7 +348,7 @@ child_fault {Q} (Some c) r read around v d p ts f b here g h = by (is_second c.p
     by true i = here (ap fault_place (sym (err_same i)))
     by false i = bind_err (read v c.kind p d) (λ t. Ok (stored c.place c.field t ts)) f i (g c.kind b) (λ t j k. ok_err k)
 
-node_fault : {Q : Type 0} (x : Node) (read : Reading) (plan : Plan) (around : List ℕ) (v : SpecVersion) (d : Depth) (p : ℕ) (ts : Trees) (f : XmlReadError) → no_bills plan.children ≡ true → (fault_place f ≡ p → Q) → ((k : Kind) → no_bill k ≡ true → read v k p d ≡ Err f → Q)
+node_fault : {Q : Type 0} (x : Node) (read : ElementReading) (plan : Plan) (around : List ℕ) (v : SpecVersion) (d : Depth) (p : ℕ) (ts : Trees) (f : XmlReadError) → no_bills plan.children ≡ true → (fault_place f ≡ p → Q) → ((k : Kind) → no_bill k ≡ true → read v k p d ≡ Err f → Q)
     → node_read x read plan around v d p ts ≡ Err f → Q
 node_fault (characters t) read plan around v d p ts f b here g h = here (stray_place plan.rule _ around p ts f h)
 node_fault (cdata t) read plan around v d p ts f b here g h = here (stray_place plan.rule _ around p ts f h)

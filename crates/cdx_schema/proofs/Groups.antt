@@ -18,11 +18,11 @@ use Rattle.cdx_schema.specs.Table.{rows}
 use Rattle.cdx_schema.specs.Results.{◌>>=◌}
 use Rattle.cdx_schema.specs.Faults.{JsonFault, here, too_deep, wrong_kind, nested}
 use Rattle.cdx_schema.specs.JsonReading.{jread, seen, rows_read, row_read, own_read, or_else, Object}
-use Rattle.cdx_schema.specs.JsonSpelling.{members_spelled, own_members, set_member, stands, jspell}
+use Rattle.cdx_schema.specs.JsonSpelling.{members_spelled, own_members, set_member, is_spelled, jspell}
 use Rattle.cdx_schema.specs.Keeping.{kept, rows_kept}
 use Rattle.cdx_schema.specs.XmlReading.{xread, nodes_read, node_read, attributes_read, Plan, plan_of_list, record_so_far, content_from, no_content, content_read, record_plan, in_force}
 use Rattle.cdx_schema.specs.XmlSpelling.{nodes_of, fields_nodes, attributes_in, lone}
-use Rattle.cdx_schema.specs.RowLaws.{AreFor, ReadsRows, ReadsGroups, SpellsRows, SpellsGroups, SetsMembers, WritesRows, WritesGroups, KeepsRows, KeepsGroups, element_at, ReadsList, ListOneMore, ReadsRecord, RecordOneMore}
+use Rattle.cdx_schema.specs.RowLaws.{AreFor, ReadsRows, ReadsGroups, SpellsRows, SpellsGroups, SetsMembers, WritesRows, WritesGroups, KeepsRows, KeepsGroups, element_at, LastStepGivesItems, ListOneMore, ReadsRecord, RecordOneMore}
 use Rattle.cdx_events.specs.declared.name.OwnedName.{OwnedName}
 use Rattle.cdx_events.specs.declared.name.OwnedAttribute.{OwnedAttribute}
 use Rattle.cdx_events.specs.declared.name.Namespace.{Namespace}
@@ -202,10 +202,10 @@ mutual
   sets_members rs none w ms q = refl
   sets_members [] (more t ts) w ms q = refl
   sets_members (r ∷ rs) (more t ts) w ms q =
-      sets_members rs ts w (if stands r t w then set_member r.json (jspell t w r.kind) (own_members t w) ms else ms) q
-      ∙ (ap (or_else (get_member q (members_spelled ts w rs no_members))) (set_or (stands r t w) r.json (jspell t w r.kind) (own_members t w) q ms (own_or t w ms q))
-      ∙ (or_else_again (get_member q (members_spelled ts w rs no_members)) (get_member q (if stands r t w then set_member r.json (jspell t w r.kind) (own_members t w) no_members else no_members)) (get_member q ms)
-      ∙ ap (λ o. or_else o (get_member q ms)) (sym (sets_members rs ts w (if stands r t w then set_member r.json (jspell t w r.kind) (own_members t w) no_members else no_members) q))))
+      sets_members rs ts w (if is_spelled r t w then set_member r.json (jspell t w r.kind) (own_members t w) ms else ms) q
+      ∙ (ap (or_else (get_member q (members_spelled ts w rs no_members))) (set_or (is_spelled r t w) r.json (jspell t w r.kind) (own_members t w) q ms (own_or t w ms q))
+      ∙ (or_else_again (get_member q (members_spelled ts w rs no_members)) (get_member q (if is_spelled r t w then set_member r.json (jspell t w r.kind) (own_members t w) no_members else no_members)) (get_member q ms)
+      ∙ ap (λ o. or_else o (get_member q ms)) (sym (sets_members rs ts w (if is_spelled r t w then set_member r.json (jspell t w r.kind) (own_members t w) no_members else no_members) q))))
 
   own_or : (t : Tree) (w : SpecVersion) (ms : Members) (q : List ℕ) → get_member q (own_members t w ms) ≡ or_else (get_member q (own_members t w no_members)) (get_member q ms)
   own_or (fields n ts) w ms q = sets_members (rows n) ts w ms q
@@ -229,7 +229,7 @@ keeps_groups front back ts us w l h = kept_in_groups w l ts us front back (for_c
 
 -- ---- one node more, on elements
 
-pub reads_list : ReadsList
+pub reads_list : LastStepGivesItems
 unfolding xread
 reads_list n as' space xs l v p d = refl
 

@@ -22,9 +22,9 @@ use Rattle.cdx_models.specs.declared.errors.Step.{Step}
 use Rattle.cdx_schema.specs.Faults.{JsonFault, to_member, under}
 use Rattle.cdx_schema.specs.Depth.{Depth, inside, name_too_deep}
 use Rattle.cdx_schema.specs.JsonReading.{Found, nothing, found, Object, jread, items_read, seen, as_found, rows_read, row_read, member_read, named_read, member_name, first_or_old, found_read, when_nothing, own_read, record_read, identifier_read, id_read, name_read, no_own, is_lone_license, choice_read, signature_read, chain_read, format_read}
-use Rattle.cdx_schema.specs.JsonSpelling.{jspell, items_spelled, members_spelled, own_members, is_written, stands, set_member, heading}
+use Rattle.cdx_schema.specs.JsonSpelling.{jspell, items_spelled, members_spelled, own_members, is_written, is_spelled, set_member, heading}
 use Rattle.cdx_schema.specs.RowLaws.{old_names}
-use Rattle.cdx_schema.specs.Membership.{Never, IsRecordOf, IsBooleanOf, IsListOf}
+use Rattle.cdx_schema.specs.Membership.{Never, IsRecordOf, IsBooleanOf, IsListKind}
 use Rattle.cdx_models.specs.Entries.{is_flow, entry_of}
 use Rattle.cdx_schema.specs.Held.{held_kind}
 
@@ -176,7 +176,7 @@ mutual
   other q (more t ts) w [] ms own h = refl
   other q (more t ts) w (r ∷ rs) ms own h =
       other q ts w rs _ own.1 (not_in_append q (row_names r.old_name r.json (own_names r.kind)) (names rs) h).1
-      ∙ left_at q (stands r t w) r (jspell t w r.kind) (own_members t w) ms (not_in_append q (row_names r.old_name r.json (own_names r.kind)) (names rs) h).0
+      ∙ left_at q (is_spelled r t w) r (jspell t w r.kind) (own_members t w) ms (not_in_append q (row_names r.old_name r.json (own_names r.kind)) (names rs) h).0
       (λ e. own_other q t w r.kind ms (subst (λ (j : Member). IsOwn t j r.kind) e own.0) (subst (λ (j : Member). is_in q (row_names r.old_name j (own_names r.kind)) ≡ false) e (not_in_append q (row_names r.old_name r.json (own_names r.kind)) (names rs) h).0))
 
   own_other : (q : List ℕ) (t : Tree) (w : SpecVersion) (k : Kind) (ms : Members) → IsOwn t merged k → is_in q (own_names k) ≡ false
@@ -247,7 +247,7 @@ IsSpelled w d t r = ((is_written r.need t ≡ false) × (when_nothing r.need w �
 
 -- a name under which the row was set, if it stands
 abbrev pub IsSetAt : List ℕ → SpecVersion → Tree → Row → Members → Members → Type 0
-IsSetAt n w t r ms final = get_member n final ≡ get_member n (if stands r t w then put n (jspell t w r.kind) ms else ms)
+IsSetAt n w t r ms final = get_member n final ≡ get_member n (if is_spelled r t w then put n (jspell t w r.kind) ms else ms)
 
 -- what is read under a name of which there is nothing
 pub nothing_gets : (n : List ℕ) (w : SpecVersion) (d : Depth) (t : Tree) (r : Row) (final : Members) → get_member n final ≡ None → when_nothing r.need w ≡ Ok t → named_read n (seen final) r w d ≡ Ok t
@@ -256,25 +256,25 @@ nothing_gets n w d t r final at h = under_ok (to_member n) _ t (ap (λ f. found_
 -- An old name has nothing, and the row is read under it only where the first has nothing.
 pub named_gets : (n : List ℕ) (old : Option (List ℕ)) (w : SpecVersion) (d : Depth) (t : Tree) (r : Row) (ms final : Members)
     → get_member n ms ≡ None → IsSetAt n w t r ms final
-    → ((q : List ℕ) → is_in q (old_names old) ≡ true → stands r t w ≡ false → get_member q final ≡ None)
+    → ((q : List ℕ) → is_in q (old_names old) ≡ true → is_spelled r t w ≡ false → get_member q final ≡ None)
     → IsSpelled w d t r → knows r.since w ≡ true
     → named_read (member_name (seen final) n old) (seen final) r w d ≡ Ok t
 named_gets n old w d t r ms final clear is olds (inl h) known = by old olds
   where
-    unset : stands r t w ≡ false
+    unset : is_spelled r t w ≡ false
     unset = rw (known, h.0) refl
 
     at : get_member n final ≡ None
-    at = is ∙ (ap (get_member n) (if_false (stands r t w) (put n (jspell t w r.kind) ms) ms unset) ∙ clear)
+    at = is ∙ (ap (get_member n) (if_false (is_spelled r t w) (put n (jspell t w r.kind) ms) ms unset) ∙ clear)
 
-    by : (o : Option (List ℕ)) → ((q : List ℕ) → is_in q (old_names o) ≡ true → stands r t w ≡ false → get_member q final ≡ None) → named_read (member_name (seen final) n o) (seen final) r w d ≡ Ok t
+    by : (o : Option (List ℕ)) → ((q : List ℕ) → is_in q (old_names o) ≡ true → is_spelled r t w ≡ false → get_member q final ≡ None) → named_read (member_name (seen final) n o) (seen final) r w d ≡ Ok t
     by None f = nothing_gets n w d t r final at h.1
     by (Some m) f = ap (λ x. named_read (first_or_old x n m) (seen final) r w d) (seen_is final n ∙ ap as_seen at)
         ∙ nothing_gets m w d t r final (f m (rw (same_itself m) refl) unset) h.1
 named_gets n old w d t r ms final clear is olds (inr h) known = by old
   where
     at : get_member n final ≡ Some (jspell t w r.kind)
-    at = is ∙ (ap (get_member n) (if_true (stands r t w) (put n (jspell t w r.kind) ms) ms (rw (known, h.0) refl)) ∙ get_member-put n (jspell t w r.kind) ms)
+    at = is ∙ (ap (get_member n) (if_true (is_spelled r t w) (put n (jspell t w r.kind) ms) ms (rw (known, h.0) refl)) ∙ get_member-put n (jspell t w r.kind) ms)
 
     there : seen final n ≡ found (jread (jspell t w r.kind))
     there = seen_is final n ∙ (ap as_seen at ∙ h.1)
@@ -288,14 +288,14 @@ named_gets n old w d t r ms final clear is olds (inr h) known = by old
 
 pub row_gets_known : (j : Member) (own : Kind → Result Tree JsonFault) (w : SpecVersion) (d : Depth) (t : Tree) (r : Row) (ms final : Members)
     → ((q : List ℕ) → is_in q (row_names r.old_name j (own_names r.kind)) ≡ true → get_member q ms ≡ None)
-    → ((q : List ℕ) → is_in q (row_names r.old_name j (own_names r.kind)) ≡ true → get_member q final ≡ get_member q (if stands r t w then set_member j (jspell t w r.kind) (own_members t w) ms else ms))
+    → ((q : List ℕ) → is_in q (row_names r.old_name j (own_names r.kind)) ≡ true → get_member q final ≡ get_member q (if is_spelled r t w then set_member j (jspell t w r.kind) (own_members t w) ms else ms))
     → IsSpelled w d t r
     → knows r.since w ≡ true
     → OwnAt j own r t w
     → member_read j (seen final) own r w d ≡ Ok t
 row_gets_known (member n) own w d t r ms final clear later h known o =
     named_gets n r.old_name w d t r ms final (clear n (rw (same_itself n) refl)) (later n (rw (same_itself n) refl))
-    (λ q i unset. later q (behind q i) ∙ (ap (get_member q) (if_false (stands r t w) (put n (jspell t w r.kind) ms) ms unset) ∙ clear q (behind q i))) h known
+    (λ q i unset. later q (behind q i) ∙ (ap (get_member q) (if_false (is_spelled r t w) (put n (jspell t w r.kind) ms) ms unset) ∙ clear q (behind q i))) h known
   where
     behind : (q : List ℕ) → is_in q (old_names r.old_name) ≡ true → is_in q (n ∷ old_names r.old_name) ≡ true
     behind q i = by (bytes_eq q n)
@@ -307,7 +307,7 @@ row_gets_known merged own w d t r ms final clear later h known o = o
 
 pub row_gets : (own : Kind → Result Tree JsonFault) (w : SpecVersion) (d : Depth) (t : Tree) (r : Row) (ms final : Members)
     → ((q : List ℕ) → is_in q (row_names r.old_name r.json (own_names r.kind)) ≡ true → get_member q ms ≡ None)
-    → ((q : List ℕ) → is_in q (row_names r.old_name r.json (own_names r.kind)) ≡ true → get_member q final ≡ get_member q (if stands r t w then set_member r.json (jspell t w r.kind) (own_members t w) ms else ms))
+    → ((q : List ℕ) → is_in q (row_names r.old_name r.json (own_names r.kind)) ≡ true → get_member q final ≡ get_member q (if is_spelled r t w then set_member r.json (jspell t w r.kind) (own_members t w) ms else ms))
     → IsBack w d t r
     → OwnAt r.json own r t w
     → row_read (seen final) own r w d ≡ Ok t
@@ -340,8 +340,8 @@ apart_first q xs ys d h = by (is_in q xs) refl
 
 -- what the row leaves of a name that it doesn't have
 pub left_row : (q : List ℕ) (t : Tree) (r : Row) (w : SpecVersion) (ms : Members) → IsOwn t r.json r.kind → is_in q (row_names r.old_name r.json (own_names r.kind)) ≡ false
-    → get_member q (if stands r t w then set_member r.json (jspell t w r.kind) (own_members t w) ms else ms) ≡ get_member q ms
-left_row q t r w ms own h = left_at q (stands r t w) r (jspell t w r.kind) (own_members t w) ms h
+    → get_member q (if is_spelled r t w then set_member r.json (jspell t w r.kind) (own_members t w) ms else ms) ≡ get_member q ms
+left_row q t r w ms own h = left_at q (is_spelled r t w) r (jspell t w r.kind) (own_members t w) ms h
     (λ e. own_other q t w r.kind ms (subst (λ (j : Member). IsOwn t j r.kind) e own) (subst (λ (j : Member). is_in q (row_names r.old_name j (own_names r.kind)) ≡ false) e h))
 
 -- The rows of what was spelled by the rows are the fields.
@@ -430,7 +430,7 @@ abbrev mutual
   Held w d (text s) k = IsTextHeld k s
   Held w d (number n) k = IsNumberHeld k n
   Held w d (boolean b) k = IsBooleanOf k
-  Held w d (items ts) k = IsListOf k × AllHeld w d ts (held_kind k)
+  Held w d (items ts) k = IsListKind k × AllHeld w d ts (held_kind k)
   Held w d (fields n ts) k = IsRecordHeld w k n ts × (name_too_deep n d ≡ false) × FieldsHeld w (inside n d) ts (rows n)
 
   pub AllHeld : SpecVersion → Depth → Trees → Kind → Type 0
@@ -466,7 +466,7 @@ unfolding jspell jread
 boolean_back w d b a_boolean h = (refl, refl)
 boolean_back w d b _ h = absurd (true≢false h)
 
-pub list_back : (w : SpecVersion) (d : Depth) (ts : Trees) (k : Kind) → IsListOf k → items_read (items_spelled ts w (held_kind k)) w (held_kind k) d 0 ≡ Ok ts → IsRead w d (items ts) k
+pub list_back : (w : SpecVersion) (d : Depth) (ts : Trees) (k : Kind) → IsListKind k → items_read (items_spelled ts w (held_kind k)) w (held_kind k) d 0 ≡ Ok ts → IsRead w d (items ts) k
 unfolding jspell jread
 list_back w d ts (a_list l) h e = (refl, rw e refl)
 list_back w d ts a_tools h e = (refl, rw e refl)
@@ -691,7 +691,7 @@ pub own_boolean : (k : Kind) → IsBooleanOf k → is_own_kind k ≡ true → Ne
 own_boolean a_boolean h o = sym o
 own_boolean _ h o = h
 
-pub own_items : (k : Kind) → IsListOf k → is_own_kind k ≡ true → Never
+pub own_items : (k : Kind) → IsListKind k → is_own_kind k ≡ true → Never
 own_items (a_list l) h o = sym o
 own_items a_tools h o = sym o
 own_items a_data h o = sym o
@@ -752,7 +752,7 @@ expression_lone w d (more a (more b (more c us))) h = absurd (true≢false h.1.1
 expression_lone w d (more a (more b none)) h = by (held_text w d b (required_held w d b (must (row a_text content "expression")) refl refl h.1.0))
   where
     by : (s : List ℕ) × (b ≡ text s) → is_lone_license (spelled expression (two a b) w) ≡ false
-    by e = subst (λ (t : Tree). is_lone_license (spelled expression (two a t) w) ≡ false) (sym e.1) (not_lone (stands respelled_reference a w) (jspell a w a_text) (json.string e.0))
+    by e = subst (λ (t : Tree). is_lone_license (spelled expression (two a t) w) ≡ false) (sym e.1) (not_lone (is_spelled respelled_reference a w) (jspell a w a_text) (json.string e.0))
 
 pub expression_back : (w : SpecVersion) (d : Depth) (ts : Trees) → FieldsHeld w d ts (rows expression) → AreOwn ts (rows expression) → AreBack w d ts (rows expression)
     → IsRead w d (fields expression ts) a_license_choice
@@ -798,7 +798,7 @@ class_entry_back V1_5 d ts h o b = (
 -- ---- signatures
 
 pub signed_at : (w : SpecVersion) (d : Depth) (t : Tree) (r : Row) → r.need ≡ required → r.since ≡ V1_3 → IsBack w d t r
-    → (stands r t w ≡ true) × IsRead w d t r.kind
+    → (is_spelled r t w ≡ true) × IsRead w d t r.kind
 signed_at w d t r need since (inl h) = absurd (true≢false (subst (λ (s : SpecVersion). knows s w ≡ false) since h.0))
 signed_at w d t r need since (inr (inl h)) = absurd (err_ok (subst (λ (n : Need). when_nothing n w ≡ Ok t) need h.2))
 signed_at w d t r need since (inr (inr h)) = (rw (h.0, h.1) refl, (h.2, h.3))
@@ -809,7 +809,7 @@ signers_back w d none h = absurd (true≢false h)
 signers_back w d (more t (more u us)) h = absurd (true≢false h.1)
 signers_back w d (more t none) h = by (signed_at w d t signers_row refl refl h.0)
   where
-    by : (stands signers_row t w ≡ true) × IsRead w d t (a_list signer_list) → IsRead w d (fields signers (one t)) a_signature
+    by : (is_spelled signers_row t w ≡ true) × IsRead w d t (a_list signer_list) → IsRead w d (fields signers (one t)) a_signature
     by e = (refl, rw (e.0, e.1.0, e.1.1) refl)
 
 -- ---- chains, signers and bills
@@ -823,7 +823,7 @@ chain_back w d none h = absurd (true≢false h)
 chain_back w d (more t (more u us)) h = absurd (true≢false h.1)
 chain_back w d (more t none) h = by (signed_at w d t chain_row refl refl h.0)
   where
-    by : (stands chain_row t w ≡ true) × IsRead w d t (a_list chain_list) → IsRead w d (fields chain (one t)) a_signature
+    by : (is_spelled chain_row t w ≡ true) × IsRead w d t (a_list chain_list) → IsRead w d (fields chain (one t)) a_signature
     by e = (refl, rw (e.0, e.1.0, e.1.1) refl)
 
 pub none_found : (ms : Members) (q : List ℕ) → get_member q ms ≡ None → seen ms q ≡ nothing

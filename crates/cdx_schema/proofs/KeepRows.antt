@@ -5,7 +5,7 @@ use Rattle.cdx_models.specs.declared.bom.SpecVersion.TheVariants.{V1_3, V1_4, V1
 use Rattle.cdx_models.specs.Trees.{Tree, absent, number, items, fields, none, more, one, two, bill, component, tool, tools_object, metadata}
 use Rattle.cdx_schema.specs.Kinds as kind
 use Rattle.cdx_schema.specs.Keeping.{keep, fits}
-use Rattle.cdx_schema.specs.Trips.{IsSame, after, in_json}
+use Rattle.cdx_schema.specs.Trips.{IsSame, after_road, in_json}
 use Rattle.cdx_schema.proofs.Literals.{t', reading_on_literals}
 
 abbrev an_unversioned : Tree
@@ -45,6 +45,6 @@ same_tools : IsSame (bill_of "1.5" (with_tools (items none))) (bill_of "1.5" (wi
 unfolding reading_on_literals
 same_tools = refl
 
-lowest_so_far : after (bill_of "1.5" tool_components) (record { form = in_json; version = V1_3 }) (record { form = in_json; version = V1_5 } ∷ []) ≡ bill_of "1.5" (with_tools (items none))
+lowest_so_far : after_road (bill_of "1.5" tool_components) (record { form = in_json; version = V1_3 }) (record { form = in_json; version = V1_5 } ∷ []) ≡ bill_of "1.5" (with_tools (items none))
 unfolding reading_on_literals
 lowest_so_far = refl

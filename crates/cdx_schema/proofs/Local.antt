@@ -13,9 +13,9 @@ use Rattle.cdx_models.specs.declared.errors.XmlReadError.{XmlReadError}
 use Rattle.cdx_schema.specs.Faults.{unexpected, namespaced}
 use Rattle.cdx_schema.specs.Depth.{Depth, top}
 use Rattle.cdx_schema.specs.XmlTexts.{number_of}
-use Rattle.cdx_schema.specs.XmlReading.{Reading, Child, Plan, find_child, stored, is_second, child_read, node_read, after_text, text_in, number_alone, number_in, record_read, in_namespace, xread, nodes_read, xml_denotes}
+use Rattle.cdx_schema.specs.XmlReading.{ElementReading, Child, Plan, find_child, stored, is_second, child_read, node_read, after_text, text_in, number_alone, number_in, record_read, in_namespace, xread, nodes_read, xml_denotes}
 use Rattle.cdx_schema.specs.Membership.{Never}
-use Rattle.cdx_schema.specs.Locality.{fault_place, root_of, IsLocal, StandsInside}
+use Rattle.cdx_schema.specs.Locality.{fault_place, balanced_root, IsLocal, StandsInside}
 use Rattle.cdx_schema.proofs.FaultPlaces.{ok_err, err_same, bind_err, err_bind, no_bill, no_bills, elem, kind_out, record_out, after_place, text_within, number_within, NoBillIn, find_no_bill, nodes_within, xread_within, denoted_within}
 use Rattle.cdx_events.specs.declared.event.EventKind.TheVariants as kinds
 use Rattle.cdx_events.specs.declared.name.OwnedAttribute.{OwnedAttribute}
@@ -150,14 +150,14 @@ if_agree : {A : Type 0} (b : Bool) (e : XmlReadError) (r r' : Result A XmlReadEr
 if_agree true e r r' f h g = ap (λ z. Err z) (err_same h)
 if_agree false e r r' f h g = g h
 
-child_agree : (o : Option Child) (r : Rule) (read read' : Reading) (around : List ℕ) (v : SpecVersion) (d : Depth) (p : ℕ) (ts : Trees) (f : XmlReadError) → NoBillIn o → ((k : Kind) → no_bill k ≡ true → read v k p d ≡ Err f → read' v k p d ≡ Err f)
+child_agree : (o : Option Child) (r : Rule) (read read' : ElementReading) (around : List ℕ) (v : SpecVersion) (d : Depth) (p : ℕ) (ts : Trees) (f : XmlReadError) → NoBillIn o → ((k : Kind) → no_bill k ≡ true → read v k p d ≡ Err f → read' v k p d ≡ Err f)
     → child_read o r read around v d p ts ≡ Err f → child_read o r read' around v d p ts ≡ Err f
 child_agree None r read read' around v d p ts f b g h = h
 child_agree (Some c) r read read' around v d p ts f b g h =
     if_agree (is_second c.place (field c.field ts)) (unexpected p around kinds.StartElement) (read v c.kind p d >>= (λ t. Ok (stored c.place c.field t ts))) (read' v c.kind p d >>= (λ t. Ok (stored c.place c.field t ts))) f h
     (λ z. bind_err (read v c.kind p d) (λ t. Ok (stored c.place c.field t ts)) f z (λ i. err_bind (read' v c.kind p d) (λ t. Ok (stored c.place c.field t ts)) f (g c.kind b i)) (λ t i j. ok_err j))
 
-node_agree : (x y : Node) (q : ℕ) (read read' : Reading) (plan : Plan) (around : List ℕ) (v : SpecVersion) (d : Depth) (p : ℕ) (ts : Trees) (f : XmlReadError) → no_bills plan.children ≡ true → AgreeIn q p x y
+node_agree : (x y : Node) (q : ℕ) (read read' : ElementReading) (plan : Plan) (around : List ℕ) (v : SpecVersion) (d : Depth) (p : ℕ) (ts : Trees) (f : XmlReadError) → no_bills plan.children ≡ true → AgreeIn q p x y
     → ((k : Kind) → no_bill k ≡ true → read v k p d ≡ Err f → read' v k p d ≡ Err f) → node_read x read plan around v d p ts ≡ Err f → node_read y read' plan around v d p ts ≡ Err f
 node_agree (characters t) (characters u) q read read' plan around v d p ts f b a g h = h
 node_agree (cdata t) (cdata u) q read read' plan around v d p ts f b a g h = h
@@ -383,11 +383,11 @@ pub length_document : (x : Node) → length (document x) ≡ suc (places x + 1)
 length_document x = ap suc (length-append (events_of x) (EndDocument ∷ []) ∙ ap (λ i. i + 1) (length_events x))
 
 pub stands_inside : StandsInside
-stands_inside events b v f h = omega (arith, (denoted_within (root_of b) v f h).1, length_document (root_of b), ap length b.whole)
+stands_inside events b v f h = omega (arith, (denoted_within (balanced_root b) v f h).1, length_document (balanced_root b), ap length b.whole)
 
 pub local_faults : IsLocal
-local_faults events b v f h rest c = local_same (root_of b) (root_of c) v f h
-    (subst (λ (es : List XmlEvent). AreSame (suc (fault_place f)) es (document (root_of c))) b.whole
+local_faults events b v f h rest c = local_same (balanced_root b) (balanced_root c) v f h
+    (subst (λ (es : List XmlEvent). AreSame (suc (fault_place f)) es (document (balanced_root c))) b.whole
     (subst (λ (es : List XmlEvent). AreSame (suc (fault_place f)) events es) c.whole
     (same_front (suc (fault_place f)) events rest (stands_inside events b v f h))))
 

@@ -13,8 +13,8 @@ use Rattle.cdx_schema.specs.Table.{rows, list}
 use Rattle.cdx_schema.specs.Held.{held_kind}
 use Rattle.cdx_schema.specs.Depth.{Depth, top, inside, name_too_deep}
 use Rattle.cdx_schema.specs.Keeping.{is_shallow, are_shallow}
-use Rattle.cdx_schema.specs.Membership.{HasShape, HaveShape, FieldsHaveShape, IsRecordOf, IsListOf, may_lack}
-use Rattle.cdx_schema.specs.JsonSpelling.{jspell, items_spelled, members_spelled, own_members, stands, set_member, heading, in_choice}
+use Rattle.cdx_schema.specs.Membership.{HasShape, HaveShape, FieldsHaveShape, IsRecordOf, IsListKind, may_lack}
+use Rattle.cdx_schema.specs.JsonSpelling.{jspell, items_spelled, members_spelled, own_members, is_spelled, set_member, heading, in_choice}
 use Rattle.cdx_schema.proofs.JsonBack.{and_true, not_true}
 
 -- ---- heights: a number, or so much above a component or a service at the same depth
@@ -151,7 +151,7 @@ unfolding list
 list_within hashes = refl
 list_within _ = refl
 
-held_within : (k : Kind) → IsListOf k → lower (up (kind_height (held_kind k))) (kind_height k) ≡ true
+held_within : (k : Kind) → IsListKind k → lower (up (kind_height (held_kind k))) (kind_height k) ≡ true
 unfolding list
 held_within (a_list l) h = list_within l
 held_within a_tools h = refl
@@ -220,7 +220,7 @@ wrapped_more _ n d = omega arith
 record_value : (k : Kind) (n : Name) (ts : Trees) (d : Depth) → IsRecordOf k n ts → value (wrapped k n) d ≤ value (kind_height k) d
 record_value k n ts d is = lower_than (wrapped k n) (kind_height k) d (record_within k n ts is)
 
-held_value : (k : Kind) (d : Depth) → IsListOf k → suc (value (kind_height (held_kind k)) d) ≤ value (kind_height k) d
+held_value : (k : Kind) (d : Depth) → IsListKind k → suc (value (kind_height (held_kind k)) d) ≤ value (kind_height k) d
 held_value k d h = subst (λ (m : ℕ). m ≤ value (kind_height k) d) (value_up (kind_height (held_kind k)) d) (lower_than (up (kind_height (held_kind k))) (kind_height k) d (held_within k h))
 
 member_value : (q : List ℕ) (k : Kind) (h : Height) (d : Depth) → is_within (member q) k h ≡ true → value (kind_height k) d ≤ value h d
@@ -277,8 +277,8 @@ mutual
   deep_rows (more t ts) w (r ∷ rs) d h b ms is s e v p =
       let q : (is_shallow t d ≡ true) × (are_shallow ts d ≡ true) = and_true (is_shallow t d) (are_shallow ts d) s in
       let f : (is_within r.json r.kind h ≡ true) × (are_within rs h ≡ true) = and_true (is_within r.json r.kind h) (are_within rs h) e in
-      deep_rows ts w rs d h b (if stands r t w then set_member r.json (jspell t w r.kind) (own_members t w) ms else ms) is.1 q.1 f.1 v
-      (set_depth (stands r t w) r.json r.kind h d b (jspell t w r.kind) (own_members t w) ms f.0 v p
+      deep_rows ts w rs d h b (if is_spelled r t w then set_member r.json (jspell t w r.kind) (own_members t w) ms else ms) is.1 q.1 f.1 v
+      (set_depth (is_spelled r t w) r.json r.kind h d b (jspell t w r.kind) (own_members t w) ms f.0 v p
       (absent_deep t w r (value (kind_height r.kind) d) is.0 (λ g. deep t w r.kind d g q.0))
       (λ g. absent_own t w r b ms is.0 p (λ o. deep_own t w r.kind d b ms o q.0 g p)))
 

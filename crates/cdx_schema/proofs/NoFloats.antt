@@ -13,7 +13,7 @@ use Rattle.cdx_schema.specs.Table.{rows}
 use Rattle.cdx_schema.specs.Held.{held_kind}
 use Rattle.cdx_schema.specs.Faults.{to_member, to_item}
 use Rattle.cdx_schema.specs.JsonReading.{first_float, float_of_items, float_of_members, or_else, behind}
-use Rattle.cdx_schema.specs.JsonSpelling.{jspell, items_spelled, members_spelled, own_members, stands, set_member, heading, in_choice}
+use Rattle.cdx_schema.specs.JsonSpelling.{jspell, items_spelled, members_spelled, own_members, is_spelled, set_member, heading, in_choice}
 
 pub or_none : {A : Type 0} (x y : Option A) → or_else x y ≡ None → (x ≡ None) × (y ≡ None)
 or_none None y h = (refl, h)
@@ -60,8 +60,8 @@ mutual
   no_row_float : (ts : Trees) (w : SpecVersion) (rs : List Row) (ms : Members) → float_of_members ms ≡ None → float_of_members (members_spelled ts w rs ms) ≡ None
   no_row_float none w rs ms h = h
   no_row_float (more t ts) w [] ms h = h
-  no_row_float (more t ts) w (r ∷ rs) ms h = no_row_float ts w rs (if stands r t w then set_member r.json (jspell t w r.kind) (own_members t w) ms else ms)
-      (set_floats (stands r t w) r.json (jspell t w r.kind) (own_members t w) ms (no_float t w r.kind) h (no_own_float t w ms h))
+  no_row_float (more t ts) w (r ∷ rs) ms h = no_row_float ts w rs (if is_spelled r t w then set_member r.json (jspell t w r.kind) (own_members t w) ms else ms)
+      (set_floats (is_spelled r t w) r.json (jspell t w r.kind) (own_members t w) ms (no_float t w r.kind) h (no_own_float t w ms h))
 
   no_own_float : (t : Tree) (w : SpecVersion) (ms : Members) → float_of_members ms ≡ None → float_of_members (own_members t w ms) ≡ None
   no_own_float (fields n ts) w ms h = no_row_float ts w (rows n) ms h

@@ -18,7 +18,7 @@ use Rattle.cdx_models.specs.declared.errors.Step.{Step}
 use Rattle.cdx_schema.specs.Faults.{JsonFault, to_member, to_item, under, here, wrong_kind, out_of_range, bad_spec_version, too_deep}
 use Rattle.cdx_schema.specs.Depth.{Depth, top, inside, name_too_deep, is_too_deep}
 use Rattle.cdx_models.specs.Entries.{is_flow, entry_of}
-use Rattle.cdx_schema.specs.JsonReading.{Reading, Found, nothing, a_null, found, Object, jread, items_read, seen, as_found, rows_read, row_read, member_read, member_name, found_read, when_nothing, when_null, own_read, no_own, record_read, under_name, id_read, name_read, is_lone_license, choice_read, license_read, signature_read, chain_read, tools_read, entry_read, bill_read, format_read, object_read, text_read, boolean_read, integer_read, number_read, version_read, item_kind, array_read, json_denotes, first_float}
+use Rattle.cdx_schema.specs.JsonReading.{ValueReading, Found, nothing, a_null, found, Object, jread, items_read, seen, as_found, rows_read, row_read, member_read, member_name, found_read, when_nothing, when_null, own_read, no_own, record_read, under_name, id_read, name_read, is_lone_license, choice_read, license_read, signature_read, chain_read, tools_read, entry_read, bill_read, format_read, object_read, text_read, boolean_read, integer_read, number_read, version_read, item_kind, array_read, json_denotes, first_float}
 use Rattle.cdx_schema.specs.Keeping.{is_shallow, are_shallow}
 use Rattle.cdx_schema.specs.Membership.{IsOfAll, AreOfAll, AreFieldsAll, IsTextOf, may_lack}
 use Rattle.cdx_schema.specs.Texts.{AreTexts, AreTextsIn, AreTextsOf}
@@ -52,7 +52,7 @@ under_was s (Err e) t h = absurd (err_ok h)
 abbrev pub IsReadOf : (Q : List ℕ → Type 0) → Kind → Depth → Tree → Type 0
 IsReadOf Q k d t = IsOfAll Q t k × (is_shallow t d ≡ true)
 
-abbrev Good : (Q : List ℕ → Type 0) → Reading → Type 0
+abbrev Good : (Q : List ℕ → Type 0) → ValueReading → Type 0
 Good Q read = (v : SpecVersion) (k : Kind) (d : Depth) (t : Tree) → read v k d ≡ Ok t → IsReadOf Q k d t
 
 abbrev GoodFound : (Q : List ℕ → Type 0) → Found → Type 0
@@ -372,7 +372,7 @@ match_good Q Less a b p q = p
 match_good Q Equal a b p q = q
 match_good Q Greater a b p q = p
 
-as_found_good : (Q : List ℕ → Type 0) (x : Data) (read : Reading) → Good Q read → GoodFound Q (as_found x read)
+as_found_good : (Q : List ℕ → Type 0) (x : Data) (read : ValueReading) → Good Q read → GoodFound Q (as_found x read)
 as_found_good Q json.null read g = tt
 as_found_good Q (json.boolean b) read g = g
 as_found_good Q (json.number n) read g = g

@@ -19,9 +19,9 @@ use Rattle.cdx_schema.specs.Depth.{Depth, top, inside, name_too_deep}
 use Rattle.cdx_models.specs.Entries.{entry_of}
 use Rattle.cdx_schema.specs.JsonReading.{is_required}
 use Rattle.cdx_schema.specs.XmlTexts.{boolean_of, number_of, boolean_tree, number_tree, of_text, below_2_32, digits_of}
-use Rattle.cdx_schema.specs.XmlReading.{Reading, Place, last, once, all, Child, Plan, row_children, children_from, record_plan, plan_of_list, tools_plan, data_plan, signature_plan, no_plan, find_child, appended, stored, stray, unknown, is_second, child_read, node_read, find_attribute, parsed, attribute_read, attribute_or_read, row_attribute, attributes_read, in_force, after_text, text_in, simple_text, exact_text, Content, no_content, any_text, one_text_alone, content_from, owed, lacks, lacking_row, filled, ended, Element, end_of, text_read, boolean_read, number_alone, number_in, list_of, list_read, content_read, record_so_far, record_read, reference_read, choice_read, identifier_read, tools_object_of, tools_of, data_of, signature_of, tools_read, data_read, signature_read, in_namespace, bill_read, kind_read, xread, nodes_read, xml_denotes}
+use Rattle.cdx_schema.specs.XmlReading.{ElementReading, Place, last, once, all, Child, Plan, row_children, children_from, record_plan, plan_of_list, tools_plan, data_plan, signature_plan, no_plan, find_child, appended, stored, stray, unknown, is_second, child_read, node_read, find_attribute, parsed, attribute_read, attribute_or_read, row_attribute, attributes_read, in_force, after_text, text_in, simple_text, exact_text, Content, no_content, any_text, one_text_alone, content_from, name_owed, lacks, lacking_row, filled, ended, Element, end_of, text_read, boolean_read, number_alone, number_in, list_of, list_read, content_read, record_so_far, record_read, reference_read, choice_read, identifier_read, tools_object_of, tools_of, data_of, signature_of, tools_read, data_read, signature_read, in_namespace, bill_read, kind_read, xread, nodes_read, xml_denotes}
 use Rattle.cdx_schema.specs.Keeping.{is_shallow, are_shallow}
-use Rattle.cdx_schema.specs.Membership.{Never, IsOfAll, AreOfAll, IsListOf, may_lack}
+use Rattle.cdx_schema.specs.Membership.{Never, IsOfAll, AreOfAll, IsListKind, may_lack}
 use Rattle.cdx_schema.specs.Texts.{AttributeTexts, NodeTexts, NodesTexts}
 use Rattle.cdx_schema.proofs.JsonBack.{and_true, err_ok}
 use Rattle.cdx_schema.proofs.HeldKept.{label_is}
@@ -105,7 +105,7 @@ now_present (suc i) u (more t ts) (b ∷ bs) a h = (h.0, now_present i u ts bs a
 abbrev GoodAt : (Q : List ℕ → Type 0) → Place → Kind → Kind → Type 0
 GoodAt Q last k s = (t : Tree) → IsOfAll Q t k → IsOfAll Q t s
 GoodAt Q once k s = (t : Tree) → IsOfAll Q t k → IsOfAll Q t s
-GoodAt Q all k s = IsListOf s × ((t : Tree) → IsOfAll Q t k → IsOfAll Q t (held_kind s))
+GoodAt Q all k s = IsListKind s × ((t : Tree) → IsOfAll Q t k → IsOfAll Q t (held_kind s))
 
 abbrev GoodChild : (Q : List ℕ → Type 0) → Child → List Kind → Type 0
 GoodChild Q c ks = GoodAt Q c.place c.kind (kind_at c.field ks)
@@ -125,11 +125,11 @@ append_shallow (more u ts) t d h g =
     let p : (is_shallow u d ≡ true) × (are_shallow ts d ≡ true) = and_true (is_shallow u d) (are_shallow ts d) h in
     both (is_shallow u d) (are_shallow (ts ⧺ one t) d) p.0 (append_shallow ts t d p.1 g)
 
-alone : (Q : List ℕ → Type 0) (t : Tree) (s : Kind) (d : Depth) → IsListOf s → IsOfAll Q t (held_kind s) → is_shallow t d ≡ true → IsReadOf Q s d (items (one t))
+alone : (Q : List ℕ → Type 0) (t : Tree) (s : Kind) (d : Depth) → IsListKind s → IsOfAll Q t (held_kind s) → is_shallow t d ≡ true → IsReadOf Q s d (items (one t))
 unfolding is_shallow
 alone Q t s d l h e = ((l, (h, tt)), both (is_shallow t d) true e refl)
 
-appended_slot : (Q : List ℕ → Type 0) (u t : Tree) (s : Kind) (d : Depth) → IsListOf s → SlotOf Q s d u → IsOfAll Q t (held_kind s) → is_shallow t d ≡ true → IsReadOf Q s d (appended u t)
+appended_slot : (Q : List ℕ → Type 0) (u t : Tree) (s : Kind) (d : Depth) → IsListKind s → SlotOf Q s d u → IsOfAll Q t (held_kind s) → is_shallow t d ≡ true → IsReadOf Q s d (appended u t)
 unfolding is_shallow
 appended_slot Q (items ts) t s d l (inr h, e) g f = ((l, append_of Q ts t (held_kind s) h.1 g), append_shallow ts t d e f)
 appended_slot Q (items ts) t s d l (inl h, e) g f = absurd (true≢false (sym (ap is_absent h)))
@@ -149,7 +149,7 @@ stored_holds Q all i k t ts ks bs d g h r = set_holds Q i (appended (field i ts)
 
 -- ---- nodes
 
-abbrev Good : (Q : List ℕ → Type 0) → Reading → Type 0
+abbrev Good : (Q : List ℕ → Type 0) → ElementReading → Type 0
 Good Q read = (v : SpecVersion) (k : Kind) (p : ℕ) (d : Depth) (t : Tree) → read v k p d ≡ Ok t → IsReadOf Q k d t
 
 stray_holds : (r : Rule) (s : EventKind) (around : List ℕ) (p : ℕ) (ts us : Trees) → stray r s around p ts ≡ Ok us → ts ≡ us
@@ -178,7 +178,7 @@ find_good Q v s (c ∷ cs) ks h = by (bytes_eq s c.name && knows c.since v) (fin
     by true g = h.0
     by false g = g
 
-child_holds : (Q : List ℕ → Type 0) (o : Option Child) (r : Rule) (read : Reading) (around : List ℕ) (v : SpecVersion) (d : Depth) (p : ℕ) (ts us : Trees) (ks : List Kind) (bs : List Bool) → GoodSome Q o ks → Good Q read → Holds Q ts ks bs d
+child_holds : (Q : List ℕ → Type 0) (o : Option Child) (r : Rule) (read : ElementReading) (around : List ℕ) (v : SpecVersion) (d : Depth) (p : ℕ) (ts us : Trees) (ks : List Kind) (bs : List Bool) → GoodSome Q o ks → Good Q read → Holds Q ts ks bs d
     → child_read o r read around v d p ts ≡ Ok us → Holds Q us ks bs d
 child_holds Q None r read around v d p ts us ks bs g f h e = subst (λ (x : Trees). Holds Q x ks bs d) (unknown_holds r around p ts us e) h
 child_holds Q (Some c) r read around v d p ts us ks bs g f h e =
@@ -187,7 +187,7 @@ child_holds Q (Some c) r read around v d p ts us ks bs g f h e =
     let x : (t : Tree) × (read v c.kind p d ≡ Ok t) × (Ok (stored c.place c.field t ts) ≡ Ok us) = bind_ok (read v c.kind p d) (λ t. Ok (stored c.place c.field t ts)) us a.1 in
     subst (λ (y : Trees). Holds Q y ks bs d) (ok_same x.2) (stored_holds Q c.place c.field c.kind x.0 ts ks bs d g h (f v c.kind p d x.0 x.1))
 
-node_holds : (Q : List ℕ → Type 0) (x : Node) (read : Reading) (plan : Plan) (around : List ℕ) (v : SpecVersion) (d : Depth) (p : ℕ) (ts us : Trees) (ks : List Kind) (bs : List Bool) → GoodChildren Q plan.children ks → Good Q read → Holds Q ts ks bs d
+node_holds : (Q : List ℕ → Type 0) (x : Node) (read : ElementReading) (plan : Plan) (around : List ℕ) (v : SpecVersion) (d : Depth) (p : ℕ) (ts us : Trees) (ks : List Kind) (bs : List Bool) → GoodChildren Q plan.children ks → Good Q read → Holds Q ts ks bs d
     → node_read x read plan around v d p ts ≡ Ok us → Holds Q us ks bs d
 node_holds Q (characters s) read plan around v d p ts us ks bs g f h e = subst (λ (x : Trees). Holds Q x ks bs d) (stray_holds plan.rule _ around p ts us e) h
 node_holds Q (cdata s) read plan around v d p ts us ks bs g f h e = subst (λ (x : Trees). Holds Q x ks bs d) (stray_holds plan.rule _ around p ts us e) h
@@ -502,12 +502,12 @@ children_ended Q required_first q r d l = (inl (refl, refl), refl)
 children_ended Q required q r d l = (inr (empty_filled Q r.kind d l).0, (empty_filled Q r.kind d l).1)
 children_ended Q else_empty q r d l = (inr (empty_filled Q r.kind d l).0, (empty_filled Q r.kind d l).1)
 
-absent_ended : (Q : List ℕ → Type 0) (r : Row) (v : SpecVersion) (d : Depth) → sound_since r.since r.need r.kind ≡ true → reads_xml r.xml r.need r.kind ≡ true → lacks (owed r.xml) r absent v ≡ false
+absent_ended : (Q : List ℕ → Type 0) (r : Row) (v : SpecVersion) (d : Depth) → sound_since r.since r.need r.kind ≡ true → reads_xml r.xml r.need r.kind ≡ true → lacks (name_owed r.xml) r absent v ≡ false
     → (last_flag_by (knows r.since v) r.xml r.need v ≡ true → true ≡ false) → Ended Q r d (filled r absent)
 unfolding is_shallow
 absent_ended Q r v d s h l f = by r.xml h l f
   where
-    by : (x : Spelled) → reads_xml x r.need r.kind ≡ true → lacks (owed x) r absent v ≡ false → (last_flag_by (knows r.since v) x r.need v ≡ true → true ≡ false)
+    by : (x : Spelled) → reads_xml x r.need r.kind ≡ true → lacks (name_owed x) r absent v ≡ false → (last_flag_by (knows r.since v) x r.need v ≡ true → true ≡ false)
         → (((filled (record r { xml = x }) absent ≡ absent) × (may_lack r.need ≡ true)) ⊎ IsOfAll Q (filled (record r { xml = x }) absent) r.kind) × (is_shallow (filled (record r { xml = x }) absent) d ≡ true)
     by (attribute q) g o e = (inl (refl, attribute_lacks (knows r.since v) r v refl s (and_true (is_leaf r.kind) (is_plain_need r.need) g).1 e), refl)
     by (attribute_or q m) g o e = (inl (refl, known_lacks (knows r.since v) r v refl s e), refl)
@@ -518,17 +518,17 @@ absent_ended Q r v d s h l f = by r.xml h l f
     by (children q) g o e = children_ended Q r.need q r d g
     by _ g o e = absurd (true≢false (e refl))
 
-row_ended : (Q : List ℕ → Type 0) (r : Row) (v : SpecVersion) (d : Depth) (t : Tree) → sound_since r.since r.need r.kind ≡ true → reads_xml r.xml r.need r.kind ≡ true → SlotOf Q r.kind d t → lacks (owed r.xml) r t v ≡ false
+row_ended : (Q : List ℕ → Type 0) (r : Row) (v : SpecVersion) (d : Depth) (t : Tree) → sound_since r.since r.need r.kind ≡ true → reads_xml r.xml r.need r.kind ≡ true → SlotOf Q r.kind d t → lacks (name_owed r.xml) r t v ≡ false
     → (last_flag_by (knows r.since v) r.xml r.need v ≡ true → is_absent t ≡ false) → Ended Q r d (filled r t)
 row_ended Q r v d t s h (inr is, sh) l f = subst (λ (x : Tree). Ended Q r d x) (sym (filled_there r t (of_there Q t r.kind is))) (inr is, sh)
-row_ended Q r v d t s h (inl is, sh) l f = subst (λ (x : Tree). Ended Q r d (filled r x)) (sym is) (absent_ended Q r v d s h (sym (ap (λ x. lacks (owed r.xml) r x v) is) ∙ l) (λ e. sym (ap is_absent is) ∙ f e))
+row_ended Q r v d t s h (inl is, sh) l f = subst (λ (x : Tree). Ended Q r d (filled r x)) (sym is) (absent_ended Q r v d s h (sym (ap (λ x. lacks (name_owed r.xml) r x v) is) ∙ l) (λ e. sym (ap is_absent is) ∙ f e))
 
 pub ended_good : (Q : List ℕ → Type 0) (rs : List Row) (ts : Trees) (v : SpecVersion) (around : List ℕ) (p : ℕ) (d : Depth) (us : Trees) → all_xml rs ≡ true → Holds Q ts (row_kinds rs) (last_flags rs v) d → ended rs ts v around p ≡ Ok us → AreRead Q rs d us
 unfolding ended is_shallow
 ended_good Q [] ts v around p d us h holds e = subst (λ (x : Trees). AreRead Q [] d x) (ok_same e) (tt, refl)
 ended_good Q (r ∷ rs) none v around p d us h holds e = absurd (true≢false holds.0)
 ended_good Q (r ∷ rs) (more t ts) v around p d us h holds e =
-    lacks_was (owed r.xml) r t v (lacks (owed r.xml) r t v) around p (ended rs ts v around p >>= (λ zs. Ok (more (filled r t) zs))) us refl e (λ l o.
+    lacks_was (name_owed r.xml) r t v (lacks (name_owed r.xml) r t v) around p (ended rs ts v around p >>= (λ zs. Ok (more (filled r t) zs))) us refl e (λ l o.
     let x : (zs : Trees) × (ended rs ts v around p ≡ Ok zs) × (Ok (more (filled r t) zs) ≡ Ok us) = bind_ok (ended rs ts v around p) (λ zs. Ok (more (filled r t) zs)) us o in
     let a : Ended Q r d (filled r t) = row_ended Q r v d t (row_parts r rs h).0 (row_parts r rs h).1 holds.0.0 l holds.1.0 in
     let b : AreRead Q rs d x.0 = ended_good Q rs ts v around p d x.0 (row_parts r rs h).2 (holds.0.1, holds.1.1) x.1 in
@@ -540,7 +540,7 @@ good_append : (Q : List ℕ → Type 0) (xs ys : List Child) (ks : List Kind) �
 good_append Q [] ys ks h g = g
 good_append Q (x ∷ xs) ys ks h g = (h.0, good_append Q xs ys ks h.1 g)
 
-list_kind_of : (k : Kind) → is_list_kind k ≡ true → IsListOf k
+list_kind_of : (k : Kind) → is_list_kind k ≡ true → IsListKind k
 list_kind_of (a_list l) h = tt
 list_kind_of _ h = absurd (true≢false (sym h))
 
@@ -553,7 +553,7 @@ row_children_good Q i r ks h e = by r.xml h
     by : (x : Spelled) → reads_xml x r.need r.kind ≡ true → GoodChildren Q (row_children i (record r { xml = x })) ks
     by (child q) g = (same_kind Q e, tt)
     by (filled_child q) g = (same_kind Q e, tt)
-    by (children q) g = (subst (λ (s : Kind). IsListOf s × ((t : Tree) → IsOfAll Q t (held_kind r.kind) → IsOfAll Q t (held_kind s))) (sym e) (list_kind_of r.kind g, λ t f. f), tt)
+    by (children q) g = (subst (λ (s : Kind). IsListKind s × ((t : Tree) → IsOfAll Q t (held_kind r.kind) → IsOfAll Q t (held_kind s))) (sym e) (list_kind_of r.kind g, λ t f. f), tt)
     by (either_child q m) g = (same_kind Q e, (same_kind Q e, tt))
     by _ g = tt
 

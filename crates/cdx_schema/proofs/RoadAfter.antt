@@ -10,7 +10,7 @@ use Rattle.cdx_schema.specs.Kinds.{a_bill}
 use Rattle.cdx_schema.specs.Depth.{top}
 use Rattle.cdx_schema.specs.Keeping.{kept, keep, fits, has_versions}
 use Rattle.cdx_schema.specs.Trips.{bare, settled, Form, in_json, in_xml, Hop, lowest_of, last_of, trips}
-use Rattle.cdx_schema.specs.Roads.{Doc, denotes, from_json, from_xml, written, fits_all, hops_from, road}
+use Rattle.cdx_schema.specs.Roads.{Doc, denotes, from_json, from_xml, document_of, fits_all, hops_from, road}
 use Rattle.cdx_schema.specs.Membership.{Never, AnyText}
 use Rattle.cdx_schema.specs.Laws.{HasBillShape, IsShallow, Fits, nth, after_all, IsInForm, DenotesAfter, LeadsFrom}
 use Rattle.cdx_schema.proofs.JsonBack.{and_true}
@@ -108,7 +108,7 @@ after_more b (h ∷ hs) g of =
 
 -- A bill that a document denotes, with what is needed of it.
 abbrev pub IsNext : Form → SpecVersion → Tree → Tree → Type 0
-IsNext f w c d = (denotes (written f w (keep w c a_bill)) w ≡ Ok d) × HasBillShape d × IsShallow d × (has_versions d a_bill ≡ has_versions c a_bill) × (settled d a_bill ≡ settled (taken f (keep w c a_bill)) a_bill)
+IsNext f w c d = (denotes (document_of f w (keep w c a_bill)) w ≡ Ok d) × HasBillShape d × IsShallow d × (has_versions d a_bill ≡ has_versions c a_bill) × (settled d a_bill ≡ settled (taken f (keep w c a_bill)) a_bill)
 
 pub hop : (f : Form) (w : SpecVersion) (c : Tree) → HasBillShape c → IsShallow c → Fits w c → (d : Tree) × IsNext f w c d
 hop in_json w c of s f = (
@@ -153,7 +153,7 @@ AllAfter b before [] (x ∷ xs) = Never
 AllAfter b before (h ∷ hs) [] = Never
 AllAfter b before (h ∷ hs) (x ∷ xs) = (IsInForm h.form x × DenotesAfter b (before ++ (h ∷ [])) x h.version) × AllAfter b (before ++ (h ∷ [])) hs xs
 
-in_form : (f : Form) (w : SpecVersion) (t : Tree) → IsInForm f (written f w t)
+in_form : (f : Form) (w : SpecVersion) (t : Tree) → IsInForm f (document_of f w t)
 in_form in_json w t = tt
 in_form in_xml w t = tt
 
@@ -185,7 +185,7 @@ roads b ob [] before x v c is of s f e = ([], refl, tt)
 roads b ob (h ∷ hs) before x v c is of s f e =
     let w : SpecVersion = h.version in
     let p : (fits w c a_bill ≡ true) × (fits_all hs c ≡ true) = and_true (fits w c a_bill) (fits_all hs c) f in
-    let y : Doc = written h.form w (keep w c a_bill) in
+    let y : Doc = document_of h.form w (keep w c a_bill) in
     let n : (d : Tree) × IsNext h.form w c d = hop h.form w c of s p.0 in
     let same : settled n.0 a_bill ≡ settled (after_all b (before ++ (h ∷ []))) a_bill =
     n.1.4 ∙ (taken_alike h.form (keep w c a_bill) (keep w (after_all b before) a_bill) (kept_alike w w c (after_all b before) a_bill e) ∙ ap (λ t. settled t a_bill) (after_more b before h ob)) in

@@ -7,7 +7,7 @@ use Rattle.cdx_models.specs.Trees.{Tree}
 use Rattle.cdx_schema.specs.Kinds.{a_bill}
 use Rattle.cdx_schema.specs.Keeping.{keep, fits, has_versions}
 use Rattle.cdx_schema.specs.Trips.{Hop, last_of}
-use Rattle.cdx_schema.specs.Roads.{Doc, Refusal, version_missing, denotes, written, fits_all, hops_from, road}
+use Rattle.cdx_schema.specs.Roads.{Doc, Refusal, version_missing, denotes, document_of, fits_all, hops_from, road}
 use Rattle.cdx_schema.specs.Laws.{HasBillShape, IsShallow, end_doc, DenotesShapes, RoadsJoin}
 use Rattle.cdx_schema.proofs.JsonBack.{and_true, err_ok}
 use Rattle.cdx_schema.proofs.ReadOf.{ok_same}
@@ -31,7 +31,7 @@ run [] x v c is of s f = ([], c, (refl, is, of, s, refl, λ rest more e. e))
 run (h ∷ hs) x v c is of s f =
     let w : SpecVersion = h.version in
     let p : (fits w c a_bill ≡ true) × (fits_all hs c ≡ true) = and_true (fits w c a_bill) (fits_all hs c) f in
-    let y : Doc = written h.form w (keep w c a_bill) in
+    let y : Doc = document_of h.form w (keep w c a_bill) in
     let n : (d : Tree) × IsNext h.form w c d = hop h.form w c of s p.0 in
     let r : (docs : List Doc) × (d : Tree) × Leads hs y w n.0 docs d = run hs y w n.0 n.1.0 n.1.1 n.1.2 (fits_all_alike hs c n.0 n.1.3 ∙ p.1) in
     (y ∷ r.0, r.1, (rw (is, r.2.0) refl, r.2.1, r.2.2, r.2.3, r.2.4 ∙ n.1.3, λ rest more e. rw (is, r.2.5 rest more e) refl))

@@ -12,7 +12,7 @@ use Rattle.cdx_schema.specs.Keeping.{kept, keep, fits}
 use Rattle.cdx_schema.specs.JsonSpelling.{jspell}
 use Rattle.cdx_schema.specs.XmlSpelling.{root}
 use Rattle.cdx_schema.specs.Trips.{bare, settled, Form, in_json, in_xml, Hop, lowest_of, last_of, trips}
-use Rattle.cdx_schema.specs.Roads.{Doc, json, xml, denotes, written, fits_all, hops_from, road}
+use Rattle.cdx_schema.specs.Roads.{Doc, json, xml, denotes, document_of, fits_all, hops_from, road}
 use Rattle.cdx_schema.specs.Membership.{AnyText}
 use Rattle.cdx_schema.specs.Laws.{HasBillShape, IsShallow, after_all, lowest_with, xml_count, doc_after, IsAlike, DenotesShapes, RoadsSettle}
 use Rattle.cdx_schema.proofs.JsonBack.{and_true}
@@ -161,10 +161,10 @@ same_at in_xml b g h a c of p q versions lows counts =
 -- ---- the documents of a road
 
 low_alike : (w : SpecVersion) (x y s t : Tree) → is_low w ≡ true → settled x a_bill ≡ settled s a_bill → settled y a_bill ≡ settled t a_bill → keep w s a_bill ≡ keep w t a_bill
-    → IsAlike w (written in_json w (keep w x a_bill)) (written in_json w (keep w y a_bill))
+    → IsAlike w (document_of in_json w (keep w x a_bill)) (document_of in_json w (keep w y a_bill))
 low_alike w x y s t l p q e = inl (ap (λ z. json (jspell z w a_bill)) (kept_low w w x s a_bill l p ∙ (e ∙ sym (kept_low w w y t a_bill l q))))
 
-written_alike : (f : Form) (w : SpecVersion) (x y s t : Tree) → settled x a_bill ≡ settled s a_bill → settled y a_bill ≡ settled t a_bill → SameAt f w s t → IsAlike w (written f w (keep w x a_bill)) (written f w (keep w y a_bill))
+written_alike : (f : Form) (w : SpecVersion) (x y s t : Tree) → settled x a_bill ≡ settled s a_bill → settled y a_bill ≡ settled t a_bill → SameAt f w s t → IsAlike w (document_of f w (keep w x a_bill)) (document_of f w (keep w y a_bill))
 written_alike in_json V1_3 x y s t p q e = low_alike V1_3 x y s t refl p q e
 written_alike in_json V1_4 x y s t p q e = low_alike V1_4 x y s t refl p q e
 written_alike in_json V1_5 x y s t p q e = inr (refl, (keep V1_5 x a_bill, keep V1_5 y a_bill, refl, refl, kept_alike V1_5 V1_5 x s a_bill p ∙ (ap (λ z. settled z a_bill) e ∙ sym (kept_alike V1_5 V1_5 y t a_bill q))))
@@ -179,25 +179,25 @@ one_by_one [] h gs = refl
 one_by_one (x ∷ hs) h gs = ap (x ∷◌) (one_by_one hs h gs)
 
 abbrev IsSpot : Tree → List Hop → Hop → Doc → Type 0
-IsSpot b before a y = (c : Tree) × (y ≡ written a.form a.version (keep a.version c a_bill)) × (settled c a_bill ≡ settled (after_all b before) a_bill)
+IsSpot b before a y = (c : Tree) × (y ≡ document_of a.form a.version (keep a.version c a_bill)) × (settled c a_bill ≡ settled (after_all b before) a_bill)
 
 first_hop : (h : Hop) (hs : List Hop) (x : Doc) (v : SpecVersion) (c : Tree) (docs : List Doc) → denotes x v ≡ Ok c → hops_from x v (h ∷ hs) ≡ Ok docs
-    → (rest : List Doc) × (hops_from (written h.form h.version (keep h.version c a_bill)) h.version hs ≡ Ok rest) × (written h.form h.version (keep h.version c a_bill) ∷ rest ≡ docs)
+    → (rest : List Doc) × (hops_from (document_of h.form h.version (keep h.version c a_bill)) h.version hs ≡ Ok rest) × (document_of h.form h.version (keep h.version c a_bill) ∷ rest ≡ docs)
 first_hop h hs x v c docs is o =
-    let y : Doc = written h.form h.version (keep h.version c a_bill) in
+    let y : Doc = document_of h.form h.version (keep h.version c a_bill) in
     let i : (hops_from y h.version hs >>= (λ rest. Ok (y ∷ rest))) ≡ Ok docs =
-    sym (ap (λ r. r >>= (λ t. hops_from (written h.form h.version (keep h.version t a_bill)) h.version hs >>= (λ rest. Ok (written h.form h.version (keep h.version t a_bill) ∷ rest)))) is) ∙ o in
+    sym (ap (λ r. r >>= (λ t. hops_from (document_of h.form h.version (keep h.version t a_bill)) h.version hs >>= (λ rest. Ok (document_of h.form h.version (keep h.version t a_bill) ∷ rest)))) is) ∙ o in
     let z : (rest : List Doc) × (hops_from y h.version hs ≡ Ok rest) × (Ok (y ∷ rest) ≡ Ok docs) = bind_ok (hops_from y h.version hs) (λ rest. Ok (y ∷ rest)) docs i in
     (z.0, z.1, ok_same z.2)
 
 spot : (b : Tree) → HasBillShape b → (g before : List Hop) (a : Hop) (g' : List Hop) (x : Doc) (v : SpecVersion) (c : Tree) (z : Doc) (docs : List Doc) → denotes x v ≡ Ok c → HasBillShape c → IsShallow c → fits_all (g ++ (a ∷ g')) c ≡ true
     → settled c a_bill ≡ settled (after_all b before) a_bill → hops_from x v (g ++ (a ∷ g')) ≡ Ok docs → IsSpot b (before ++ g) a (doc_after g docs z)
 spot b ob [] before a g' x v c z docs is of s f e o =
-    let p : (rest : List Doc) × (hops_from (written a.form a.version (keep a.version c a_bill)) a.version g' ≡ Ok rest) × (written a.form a.version (keep a.version c a_bill) ∷ rest ≡ docs) = first_hop a g' x v c docs is o in
+    let p : (rest : List Doc) × (hops_from (document_of a.form a.version (keep a.version c a_bill)) a.version g' ≡ Ok rest) × (document_of a.form a.version (keep a.version c a_bill) ∷ rest ≡ docs) = first_hop a g' x v c docs is o in
     (c, sym (ap (λ ds. doc_after [] ds z) p.2), e ∙ ap (λ hs. settled (after_all b hs) a_bill) (sym (nothing_more before)))
 spot b ob (h ∷ g) before a g' x v c z docs is of s f e o =
     let w : SpecVersion = h.version in
-    let y : Doc = written h.form w (keep w c a_bill) in
+    let y : Doc = document_of h.form w (keep w c a_bill) in
     let p : (rest : List Doc) × (hops_from y w (g ++ (a ∷ g')) ≡ Ok rest) × (y ∷ rest ≡ docs) = first_hop h (g ++ (a ∷ g')) x v c docs is o in
     let q : (fits w c a_bill ≡ true) × (fits_all (g ++ (a ∷ g')) c ≡ true) = and_true (fits w c a_bill) (fits_all (g ++ (a ∷ g')) c) f in
     let n : (d : Tree) × IsNext h.form w c d = hop h.form w c of s q.0 in
@@ -217,10 +217,10 @@ roads_settle bills x v g g' h h' a c docs docs' o o' forms versions lows counts 
     let m : (b : Tree) × (denotes x v ≡ Ok b) × HasBillShape b × IsSpot b g a (doc_after g docs x) = road_spot x v g a g' docs (known bills x v) o in
     let n : (b : Tree) × (denotes x v ≡ Ok b) × HasBillShape b × IsSpot b h c (doc_after h docs' x) = road_spot x v h c h' docs' (known bills x v) o' in
     let b : Tree = m.0 in
-    let p : (d : Tree) × (doc_after g docs x ≡ written a.form a.version (keep a.version d a_bill)) × (settled d a_bill ≡ settled (after_all b g) a_bill) = m.3 in
-    let q : (d : Tree) × (doc_after h docs' x ≡ written c.form c.version (keep c.version d a_bill)) × (settled d a_bill ≡ settled (after_all n.0 h) a_bill) = n.3 in
+    let p : (d : Tree) × (doc_after g docs x ≡ document_of a.form a.version (keep a.version d a_bill)) × (settled d a_bill ≡ settled (after_all b g) a_bill) = m.3 in
+    let q : (d : Tree) × (doc_after h docs' x ≡ document_of c.form c.version (keep c.version d a_bill)) × (settled d a_bill ≡ settled (after_all n.0 h) a_bill) = n.3 in
     let one : n.0 ≡ b = ok_same (sym n.1 ∙ m.1) in
-    let left : doc_after g docs x ≡ written c.form c.version (keep c.version p.0 a_bill) = p.1 ∙ (ap (λ f. written f a.version (keep a.version p.0 a_bill)) forms ∙ ap (λ w. written c.form w (keep w p.0 a_bill)) versions) in
-    let both : IsAlike c.version (written c.form c.version (keep c.version p.0 a_bill)) (written c.form c.version (keep c.version q.0 a_bill)) =
+    let left : doc_after g docs x ≡ document_of c.form c.version (keep c.version p.0 a_bill) = p.1 ∙ (ap (λ f. document_of f a.version (keep a.version p.0 a_bill)) forms ∙ ap (λ w. document_of c.form w (keep w p.0 a_bill)) versions) in
+    let both : IsAlike c.version (document_of c.form c.version (keep c.version p.0 a_bill)) (document_of c.form c.version (keep c.version q.0 a_bill)) =
     written_alike c.form c.version p.0 q.0 (after_all b g) (after_all b h) p.2 (q.2 ∙ ap (λ t. settled (after_all t h) a_bill) one) (same_at c.form b g h a c m.2 forms refl versions lows counts) in
-    subst (λ (y : Doc). IsAlike c.version y (doc_after h docs' x)) (sym left) (subst (λ (y : Doc). IsAlike c.version (written c.form c.version (keep c.version p.0 a_bill)) y) (sym q.1) both)
+    subst (λ (y : Doc). IsAlike c.version y (doc_after h docs' x)) (sym left) (subst (λ (y : Doc). IsAlike c.version (document_of c.form c.version (keep c.version p.0 a_bill)) y) (sym q.1) both)

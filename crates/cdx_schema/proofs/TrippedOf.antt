@@ -11,7 +11,7 @@ use Rattle.cdx_schema.specs.Held.{held_kind}
 use Rattle.cdx_models.specs.Entries.{is_flow}
 use Rattle.cdx_schema.specs.Depth.{Depth, inside, name_too_deep}
 use Rattle.cdx_schema.specs.Keeping.{has_versions, items_have_versions, rows_have_versions, is_there, is_shallow, are_shallow}
-use Rattle.cdx_schema.specs.Membership.{IsOfAll, AreOfAll, AreFieldsAll, HasShape, HaveShape, FieldsHaveShape, IsListOf, IsRecordOf, may_lack}
+use Rattle.cdx_schema.specs.Membership.{IsOfAll, AreOfAll, AreFieldsAll, HasShape, HaveShape, FieldsHaveShape, IsListKind, IsRecordOf, may_lack}
 use Rattle.cdx_schema.specs.Trips.{bare, items_bare, rows_bare, is_hollow, is_passed_over, field_after, none_is_absent}
 use Rattle.cdx_schema.proofs.JsonBack.{and_true}
 use Rattle.cdx_schema.proofs.XmlLaw.{tripped, items_tripped, rows_tripped, list_after}
@@ -50,7 +50,7 @@ mutual
 
 -- ---- kinds
 
-list_of_trip : (Q : List ℕ → Type 0) (k : Kind) (w : SpecVersion) (us : Trees) → IsListOf k → AreOfAll Q us (held_kind k) → IsOfAll Q (list_after k w us) k
+list_of_trip : (Q : List ℕ → Type 0) (k : Kind) (w : SpecVersion) (us : Trees) → IsListKind k → AreOfAll Q us (held_kind k) → IsOfAll Q (list_after k w us) k
 unfolding rows
 list_of_trip Q a_tools V1_5 none l h = (refl, (inl (refl, refl), (inl (refl, refl), tt)))
 list_of_trip Q a_tools V1_5 (more u us) l h = (l, h)

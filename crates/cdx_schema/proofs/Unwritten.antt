@@ -15,7 +15,7 @@ use Rattle.cdx_schema.proofs.Sound.{all_sound, sound, sound_parts, whole_kind, w
 use Rattle.std.specs.Prelude.{codes}
 use Rattle.cdx_schema.specs.Kinds.{classifications}
 use Rattle.cdx_schema.specs.XmlTexts.{text_of}
-use Rattle.cdx_schema.specs.XmlSpelling.{nodes_of, items_nodes, fields_nodes, row_nodes, wrapped, flow_of, item_node, Items, items_of, any_flow, attributes_of, attributes_in, row_attributes, tag_of, ordered, signed_in, lone, root, plain_element, named, as_flows}
+use Rattle.cdx_schema.specs.XmlSpelling.{nodes_of, items_nodes, fields_nodes, row_nodes, wrapped, flow_of, item_node, Items, items_of, any_flow, attributes_of, attributes_in, row_attributes, tag_of, ordered, signed_in, lone, root, plain_element, each_under, as_flows}
 use Rattle.cdx_schema.specs.Suppliers.{is_supplier, unsupplied, items_unsupplied, rows_unsupplied}
 use Rattle.cdx_schema.proofs.KeptOf.{IsField}
 use Rattle.cdx_schema.proofs.BareTwice.{unsupplied_there, no_child_unsupplied, no_supplier}
@@ -67,7 +67,7 @@ flow_unsupplied (fields service_data ts) w k xs ys e = wrapped_unsupplied (field
 flow_unsupplied t w k xs ys e = in_flow_unsupplied t w k xs ys e
 
 item_unsupplied : (how : Items) (t : Tree) (w : SpecVersion) (k : Kind) (xs ys : Nodes) → xs ≡ ys → item_node how (unsupplied t) w k xs ≡ item_node how t w k ys
-item_unsupplied (named tag) t w k xs ys e = wrapped_unsupplied t w tag k xs ys e
+item_unsupplied (each_under tag) t w k xs ys e = wrapped_unsupplied t w tag k xs ys e
 item_unsupplied as_flows t w k xs ys e = flow_unsupplied t w k xs ys e
 
 is_flow_unsupplied : (n : Name) (ts : Trees) → is_flow n (rows_unsupplied ts (rows n)) ≡ is_flow n ts
@@ -90,7 +90,7 @@ any_unsupplied (more (fields n us) ts) = rw (is_flow_unsupplied n us, any_unsupp
 items_of_unsupplied : (k : Kind) (ts : Trees) → items_of k (items_unsupplied ts) ≡ items_of k ts
 items_of_unsupplied (a_list l) ts = refl
 items_of_unsupplied a_tools ts = refl
-items_of_unsupplied a_data ts = ap (λ b. if b then as_flows else named (list classifications).name) (any_unsupplied ts)
+items_of_unsupplied a_data ts = ap (λ b. if b then as_flows else each_under (list classifications).name) (any_unsupplied ts)
 items_of_unsupplied _ ts = refl
 
 whole_no_supplier : (n : Name) → whole_name n ≡ true → no_supplier (rows n) ≡ true

@@ -16,7 +16,7 @@ use Rattle.cdx_schema.proofs.Sound.{sound_xml, all_sound, sound, sound_parts, wh
 use Rattle.std.specs.Prelude.{codes}
 use Rattle.cdx_schema.specs.Kinds.{classifications}
 use Rattle.cdx_schema.specs.XmlTexts.{text_of}
-use Rattle.cdx_schema.specs.XmlSpelling.{nodes_of, items_nodes, fields_nodes, row_nodes, wrapped, flow_of, item_node, Items, items_of, any_flow, attributes_of, attributes_in, row_attributes, attribute_of, tag_of, ordered, signed_in, lone, root, plain_element, named, as_flows}
+use Rattle.cdx_schema.specs.XmlSpelling.{nodes_of, items_nodes, fields_nodes, row_nodes, wrapped, flow_of, item_node, Items, items_of, any_flow, attributes_of, attributes_in, row_attributes, attribute_of, tag_of, ordered, signed_in, lone, root, plain_element, each_under, as_flows}
 use Rattle.cdx_schema.proofs.TrippedOf.{more_is}
 use Rattle.cdx_schema.proofs.Commute.{filled_whole}
 use Rattle.cdx_schema.proofs.Alike.{settled_more, settled_there, passed_settled, hollow_settled}
@@ -129,7 +129,7 @@ flow_settled (fields service_data ts) w k xs ys e = wrapped_settled (fields serv
 flow_settled t w k xs ys e = in_flow_settled t w k xs ys e
 
 item_settled : (how : Items) (t : Tree) (w : SpecVersion) (k : Kind) (xs ys : Nodes) → xs ≡ ys → item_node how (settled t k) w k xs ≡ item_node how t w k ys
-item_settled (named tag) t w k xs ys e = wrapped_settled t w tag k xs ys e
+item_settled (each_under tag) t w k xs ys e = wrapped_settled t w tag k xs ys e
 item_settled as_flows t w k xs ys e = flow_settled t w k xs ys e
 
 is_flow_settled : (n : Name) (ts : Trees) → is_flow n (rows_settled ts (rows n)) ≡ is_flow n ts
@@ -157,7 +157,7 @@ any_settled (more (fields n us) ts) k = rw (is_flow_settled n us, any_settled ts
 items_of_settled : (k : Kind) (ts : Trees) (j : Kind) → items_of k (items_settled ts j) ≡ items_of k ts
 items_of_settled (a_list l) ts j = refl
 items_of_settled a_tools ts j = refl
-items_of_settled a_data ts j = ap (λ b. if b then as_flows else named (list classifications).name) (any_settled ts j)
+items_of_settled a_data ts j = ap (λ b. if b then as_flows else each_under (list classifications).name) (any_settled ts j)
 items_of_settled _ ts j = refl
 
 none_nodes : (w : SpecVersion) (k : Kind) → nodes_of (settled_items k none) w k ≡ no_nodes

@@ -12,7 +12,7 @@ use Rattle.cdx_schema.specs.Table.{rows, rule}
 use Rattle.cdx_schema.specs.Results.{◌>>=◌}
 use Rattle.cdx_schema.specs.Depth.{Depth, inside, name_too_deep}
 use Rattle.cdx_schema.specs.Held.{held_kind}
-use Rattle.cdx_schema.specs.XmlReading.{xread, nodes_read, node_read, Plan, Child, Place, last, once, all, find_child, row_children, children_from, stored, appended, is_second, plan_of_list, list_of, lacks, owed, filled, ended, attributes_read, in_force, content_from, no_content, content_read, Element, end_of}
+use Rattle.cdx_schema.specs.XmlReading.{xread, nodes_read, node_read, Plan, Child, Place, last, once, all, find_child, row_children, children_from, stored, appended, is_second, plan_of_list, list_of, lacks, name_owed, filled, ended, attributes_read, in_force, content_from, no_content, content_read, Element, end_of}
 use Rattle.cdx_schema.specs.XmlSpelling.{nodes_of, fields_nodes, row_nodes, wrapped, lone, attributes_of}
 use Rattle.cdx_schema.proofs.JsonBack.{is_in, distinct, same_itself, or_false, if_true, if_false, not_in_append, apart_first, is_in_first}
 use Rattle.cdx_schema.proofs.Groups.{nodes_in_groups, count}
@@ -249,14 +249,14 @@ list_xread w d l ts us h tag p =
 
 abbrev pub Ends : SpecVersion → Trees → List Row → Trees → Type 0
 Ends w none [] none = Unit {0}
-Ends w (more u us) (r ∷ rs) (more v vs) = (lacks (owed r.xml) r u w ≡ false) × (filled r u ≡ v) × Ends w us rs vs
+Ends w (more u us) (r ∷ rs) (more v vs) = (lacks (name_owed r.xml) r u w ≡ false) × (filled r u ≡ v) × Ends w us rs vs
 Ends w _ _ _ = true ≡ false
 
 pub ended_is : (w : SpecVersion) (us : Trees) (rs : List Row) (vs : Trees) (around : List ℕ) (p : ℕ) → Ends w us rs vs → ended rs us w around p ≡ Ok vs
 unfolding ended
 ended_is w none [] none around p h = refl
 ended_is w (more u us) (r ∷ rs) (more v vs) around p h =
-    if_false (lacks (owed r.xml) r u w) _ _ h.0
+    if_false (lacks (name_owed r.xml) r u w) _ _ h.0
     ∙ (ap (λ x. x >>= (λ ys. Ok (more (filled r u) ys))) (ended_is w us rs vs around p h.2)
     ∙ ap (λ x. Ok (more x vs)) h.1)
 ended_is w _ _ _ around p h = absurd (true≢false h)

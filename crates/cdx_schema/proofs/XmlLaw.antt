@@ -9,22 +9,22 @@ use Rattle.cdx_models.specs.declared.bom.SpecVersion.TheVariants.{V1_3, V1_4, V1
 use Rattle.cdx_models.specs.Versions.{knows, label}
 use Rattle.cdx_models.specs.Trees.{Name, hash, property, attached_text, license, expression, tool, copyright, classification, service_data, tools_object, signer, signers, chain, bill, Tree, absent, text, number, boolean, items, fields, Trees, none, more, one, two, ◌⧺◌, is_absent, field, with_field}
 use Rattle.cdx_schema.specs.Kinds.{Lists, hashes, licenses, components, services, tool_list, Kind, strict, a_reference, a_signature, a_version, an_entry, a_bill, a_text, a_boolean, a_number, a_list, a_record, a_tools, a_data, a_license_choice, a_license_identifier, Need, optional, required, required_first, else_empty, Spelled, attribute, attribute_or, content, one_text, as_cdata, child, filled_child, children, either_child, the_version, Row}
-use Rattle.cdx_schema.specs.Table.{rows, list, row, must, from, at, of, each, respelled_reference, class_row}
+use Rattle.cdx_schema.specs.Table.{rows, list, row, must, from, at, of, every, respelled_reference, class_row}
 use Rattle.cdx_schema.specs.Results.{◌>>=◌}
 use Rattle.cdx_schema.specs.Faults.{lacking}
 use Rattle.cdx_schema.specs.Depth.{Depth, inside, name_too_deep}
 use Rattle.cdx_schema.specs.Held.{held_kind}
 use Rattle.cdx_models.specs.Entries.{is_flow}
 use Rattle.cdx_schema.specs.XmlTexts.{of_text, text_of, number_of, number_tree}
-use Rattle.cdx_schema.specs.XmlReading.{xread, nodes_read, Plan, Child, Place, last, once, all, stored, is_second, row_children, find_child, find_attribute, attributes_read, attribute_read, attribute_or_read, parsed, row_attribute, filled, lacks, owed, ended, in_force, content_from, no_content, plan_of_list, tools_plan, tools_of, signature_plan, signature_of, data_plan, data_of, Element}
-use Rattle.cdx_schema.specs.XmlSpelling.{nodes_of, fields_nodes, row_nodes, wrapped, attributes_in, row_attributes, attribute_of, tag_of, plain_element, attributes_of, lone, items_nodes, named, as_flows, any_flow, flow_of, name_in, plain_name}
+use Rattle.cdx_schema.specs.XmlReading.{xread, nodes_read, Plan, Child, Place, last, once, all, stored, is_second, row_children, find_child, find_attribute, attributes_read, attribute_read, attribute_or_read, parsed, row_attribute, filled, lacks, name_owed, ended, in_force, content_from, no_content, plan_of_list, tools_plan, tools_of, signature_plan, signature_of, data_plan, data_of, Element}
+use Rattle.cdx_schema.specs.XmlSpelling.{nodes_of, fields_nodes, row_nodes, wrapped, attributes_in, row_attributes, attribute_of, tag_of, plain_element, attributes_of, lone, items_nodes, each_under, as_flows, any_flow, flow_of, name_in, plain_name}
 use Rattle.cdx_schema.specs.Trips.{is_hollow, is_passed_over, field_after, none_is_absent}
 use Rattle.cdx_schema.specs.JsonReading.{is_required, when_nothing}
 use Rattle.cdx_schema.specs.JsonSpelling.{is_written}
 use Rattle.cdx_schema.proofs.JsonBack.{is_in, distinct, same_itself, or_false, if_true, if_false, not_in_append, apart, apart_first, is_in_first, is_in_later, distinct_later, Held, IsRecordHeld, IsTextHeld, IsNumberHeld, AllHeld, FieldsHeld, RowHeld, same_name, err_ok, identifier_of, and_true, held_text, one_text_of, two_texts_of, class_of, required_held}
 use Rattle.cdx_schema.proofs.HeldKept.{held_there}
 use Rattle.cdx_models.specs.Trees.{spdx_id, license_name}
-use Rattle.cdx_schema.specs.Membership.{Never, IsListOf, IsBooleanOf}
+use Rattle.cdx_schema.specs.Membership.{Never, IsListKind, IsBooleanOf}
 use Rattle.cdx_schema.proofs.XmlBack.{finds_first, plan_of, node_step, find_row, field_at, with_field_at, child_names, RowRead, RowsRead, Ends, IsXRead, silent_row, items_row, gathered, row_written, SetItems, SetsItem, gather, list_is, rows_read, record_xread, child_names_distinct, list_xread, text_xread, reference_xread, boolean_xread}
 use Rattle.cdx_events.specs.declared.name.OwnedAttribute.{OwnedAttribute}
 use Rattle.cdx_events.specs.Nodes.{Node, Nodes, characters, no_nodes}
@@ -590,7 +590,7 @@ pub leaf_same : (w : SpecVersion) (d : Depth) (t : Tree) (k : Kind) → is_leaf 
 unfolding tripped
 leaf_same w d (items ts) k l h = absurd (true≢false (by k l h.0))
   where
-    by : (j : Kind) → is_leaf j ≡ true → IsListOf j → Never
+    by : (j : Kind) → is_leaf j ≡ true → IsListKind j → Never
     by (a_list x) e g = sym e
     by a_tools e g = sym e
     by a_data e g = sym e
@@ -652,7 +652,7 @@ all_well (r ∷ rs) = (reads_well r.need r.kind r.xml && ends_well r.xml r.need 
 
 -- How a row ends: nothing is missed, and the field is what the trip makes of it.
 abbrev pub IsEnd : SpecVersion → Tree → Row → Spelled → Type 0
-IsEnd w t r x = (lacks (owed x) r (second_at w x r.kind t) w ≡ false) × (filled (record r { xml = x }) (second_at w x r.kind t) ≡ field_after (record r { xml = x }) t (tripped w t r.kind))
+IsEnd w t r x = (lacks (name_owed x) r (second_at w x r.kind t) w ≡ false) × (filled (record r { xml = x }) (second_at w x r.kind t) ≡ field_after (record r { xml = x }) t (tripped w t r.kind))
 
 pub row_end : (w : SpecVersion) (d : Depth) (t : Tree) (r : Row) → reads_well r.need r.kind r.xml ≡ true → ends_well r.xml r.need r.since ≡ true → RowHeld w d t r → IsEnd w t r r.xml
 row_end w d t r well always h = by r.xml well always
@@ -673,7 +673,7 @@ row_end w d t r well always h = by r.xml well always
         list_kind : (k : Kind) → r.kind ≡ k → (is_listed r.need ≡ true) × (is_well_list k n ≡ true) → filled (record r { xml = children n }) (regathered (tripped w t r.kind)) ≡ none_is_absent r.need (tripped w t r.kind)
         list_kind (a_list l) e p = subst (λ (j : Kind). filled (record r { xml = children n }) (regathered (tripped w t j)) ≡ none_is_absent r.need (tripped w t j)) (sym e) (list_end w d t r n l e p.0 a h)
         list_kind _ e p = absurd (true≢false (sym p.1))
-    by (either_child m n) v a = (lacks_not w d t (tripped w t r.kind) r (owed (either_child m n)) (row_cases w d t r (and_true (not (is_else_empty r.need)) (is_identifier r.kind && (bytes_eq m (codes "id") && bytes_eq n (codes "name"))) v).0 h) (tripped_there w t r.kind), refl)
+    by (either_child m n) v a = (lacks_not w d t (tripped w t r.kind) r (name_owed (either_child m n)) (row_cases w d t r (and_true (not (is_else_empty r.need)) (is_identifier r.kind && (bytes_eq m (codes "id") && bytes_eq n (codes "name"))) v).0 h) (tripped_there w t r.kind), refl)
     by _ v a = absurd (true≢false (sym v))
 
 pub rows_end : (w : SpecVersion) (d : Depth) (ts : Trees) (rs : List Row) → all_well rs ≡ true → FieldsHeld w d ts rs → Ends w (second_fields w ts rs) rs (rows_tripped w ts rs)
@@ -895,7 +895,7 @@ finds_tool w d t h = finds_plain w d tools_plan 0 V1_3 (a_record tool) (codes "t
 
 -- the row of which the tools before an object are, and the rows of an object as its plan knows them
 abbrev pub tool_row : Row
-tool_row = each tool_list "tool"
+tool_row = every tool_list "tool"
 
 abbrev pub object_rows : List Row
 object_rows = from V1_5 (of (a_list services) "services") ∷ from V1_5 (of (a_list components) "components") ∷ []
@@ -1006,7 +1006,7 @@ flow_flow d (more a (more b (more c none))) f h = by a b c (optional_text V1_5 d
         → FlowItem d service_data (more x (more y (one z)))
     by x y z e e' q fl = subst (λ (v : Tree). is_flow service_data (more x (more y (one v))) ≡ true → FlowItem d service_data (more x (more y (one v)))) (sym q.2) (two' x y q.0 q.1 e e') fl
 
-pub classes_set : (w : SpecVersion) (d : Depth) (ts : Trees) → AllHeld w d ts an_entry → any_flow ts ≡ false → SetItems data_plan w d 0 (items_nodes ts w (named (codes "classification")) an_entry) (items_tripped w ts an_entry)
+pub classes_set : (w : SpecVersion) (d : Depth) (ts : Trees) → AllHeld w d ts an_entry → any_flow ts ≡ false → SetItems data_plan w d 0 (items_nodes ts w (each_under (codes "classification")) an_entry) (items_tripped w ts an_entry)
 unfolding nodes_of tripped
 classes_set w d none h f = tt
 classes_set w d (more absent ts) h f = absurd (true≢false h.0)
@@ -1015,7 +1015,7 @@ classes_set w d (more (number s) ts) h f = absurd (true≢false h.0)
 classes_set w d (more (boolean s) ts) h f = absurd (true≢false h.0)
 classes_set w d (more (items s) ts) h f = absurd (true≢false h.0.0)
 classes_set w d (more (fields n us) ts) h f =
-    one_more data_plan w d 0 (is_passed_over (fields n us)) (wrapped (fields n us) w (codes "classification") an_entry (nodes_of (fields n us) w an_entry)) (items_nodes ts w (named (codes "classification")) an_entry) (tripped w (fields n us) an_entry) (items_tripped w ts an_entry)
+    one_more data_plan w d 0 (is_passed_over (fields n us)) (wrapped (fields n us) w (codes "classification") an_entry (nodes_of (fields n us) w an_entry)) (items_nodes ts w (each_under (codes "classification")) an_entry) (tripped w (fields n us) an_entry) (items_tripped w ts an_entry)
     (λ g. by h.0.0) (classes_set w d ts h.1 (or_false (is_flow n us) (any_flow ts) f).1)
   where
     by : (n ≡ classification) ⊎ ((n ≡ service_data) × (is_flow n us ≡ true) × (w ≡ V1_5)) → SetsItem data_plan w d 0 (wrapped (fields n us) w (codes "classification") an_entry (nodes_of (fields n us) w an_entry)) (tripped w (fields n us) an_entry)
@@ -1052,10 +1052,10 @@ flow_version w d (more (fields n us) ts) h f = by h.0.0 (flow_version w d ts h.1
     by (inr e) later = e.2
 
 pub data_at : (w : SpecVersion) (d : Depth) (ts : Trees) (b : Bool) → any_flow ts ≡ b → AllHeld w d ts an_entry
-    → (tag : List ℕ) (p : ℕ) → xread (plain_element tag [] (items_nodes ts w (if b then as_flows else named (codes "classification")) an_entry)) w a_data p d ≡ Ok (items (items_tripped w ts an_entry))
+    → (tag : List ℕ) (p : ℕ) → xread (plain_element tag [] (items_nodes ts w (if b then as_flows else each_under (codes "classification")) an_entry)) w a_data p d ≡ Ok (items (items_tripped w ts an_entry))
 unfolding xread
 data_at w d ts false f h tag p =
-    ap (λ x. x >>= (λ vs. Ok (data_of vs))) (gather data_plan tag w d (suc p) (items_nodes ts w (named (codes "classification")) an_entry) (items_tripped w ts an_entry) none (one absent) none (classes_set w d ts h f))
+    ap (λ x. x >>= (λ vs. Ok (data_of vs))) (gather data_plan tag w d (suc p) (items_nodes ts w (each_under (codes "classification")) an_entry) (items_tripped w ts an_entry) none (one absent) none (classes_set w d ts h f))
     ∙ ap Ok (list_is (items_tripped w ts an_entry))
 data_at w d ts true f h tag p =
     subst (λ (v : SpecVersion). AllHeld v d ts an_entry → xread (plain_element tag [] (items_nodes ts v as_flows an_entry)) v a_data p d ≡ Ok (items (items_tripped v ts an_entry))) (sym (flow_version w d ts h f))
@@ -1086,8 +1086,8 @@ boolean_case w d b a_boolean h = boolean_xread w d b
 boolean_case w d b _ h = absurd (true≢false h)
 
 pub items_case : (w : SpecVersion) (d : Depth) (ts : Trees) (k : Kind) → Held w d (items ts) k
-    → ((l : Lists) → AllHeld w d ts (list l).kind → SetItems (plan_of_list l) w d 0 (items_nodes ts w (named (list l).name) (list l).kind) (items_tripped w ts (list l).kind))
-    → (AllHeld w d ts (a_record tool) → SetItems tools_plan w d 0 (items_nodes ts w (named (codes "tool")) (a_record tool)) (items_tripped w ts (a_record tool)))
+    → ((l : Lists) → AllHeld w d ts (list l).kind → SetItems (plan_of_list l) w d 0 (items_nodes ts w (each_under (list l).name) (list l).kind) (items_tripped w ts (list l).kind))
+    → (AllHeld w d ts (a_record tool) → SetItems tools_plan w d 0 (items_nodes ts w (each_under (codes "tool")) (a_record tool)) (items_tripped w ts (a_record tool)))
     → IsXRead w d (items ts) k (tripped w (items ts) k)
 unfolding tripped nodes_of list
 items_case w d ts (a_list l) h f g = list_xread w d l ts (items_tripped w ts (list l).kind) (f l h.1)
@@ -1143,10 +1143,10 @@ mutual
   xml_back dec w d (fields n ts) k e h = fields_case w d n ts k e h (λ b. record_back dec w d n ts b h.1 h.2 (λ well. rows_back dec w (inside n d) ts (rows n) well h.2)) (λ rs well held. rows_back dec w (inside n d) ts rs well held)
 
   pub items_back : Decimals → (w : SpecVersion) → (d : Depth) (ts : Trees) (k : Kind) (tag : List ℕ) (plan : Plan) (i : ℕ) → is_elem k ≡ true → AllHeld w d ts k → Finds w d plan i k tag
-      → SetItems plan w d i (items_nodes ts w (named tag) k) (items_tripped w ts k)
+      → SetItems plan w d i (items_nodes ts w (each_under tag) k) (items_tripped w ts k)
   items_back dec w d none k tag plan i e h f = tt
   items_back dec w d (more t ts) k tag plan i e h f =
-      one_more plan w d i (is_passed_over t) (wrapped t w tag k (nodes_of t w k)) (items_nodes ts w (named tag) k) (tripped w t k) (items_tripped w ts k)
+      one_more plan w d i (is_passed_over t) (wrapped t w tag k (nodes_of t w k)) (items_nodes ts w (each_under tag) k) (tripped w t k) (items_tripped w ts k)
       (λ g. item_set w d t k (tripped w t k) plan i tag h.0 f (xml_back dec w d t k e h.0)) (items_back dec w d ts k tag plan i e h.1 f)
 
   pub tree_items : Decimals → (w : SpecVersion) → (d : Depth) (t : Tree) → ItemsRead w d t

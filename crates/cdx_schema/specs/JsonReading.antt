@@ -18,14 +18,14 @@ use Rattle.cdx_schema.specs.Depth.{Depth, top, is_too_deep, inside}
 use Rattle.cdx_models.specs.Entries.{entry_of}
 
 -- How a part of a value is read: in a version, as a kind, at a depth.
-abbrev pub Reading : Type 0
-Reading = SpecVersion → Kind → Depth → Result Tree JsonFault
+abbrev pub ValueReading : Type 0
+ValueReading = SpecVersion → Kind → Depth → Result Tree JsonFault
 
 -- What an object has under a name.
 pub data Found : Type 0 where
   nothing : Found
   a_null : Found
-  found : Reading → Found
+  found : ValueReading → Found
 
 -- An object is seen as what it has under each name.
 abbrev pub Object : Type 0
@@ -250,7 +250,7 @@ array_read (Some i) read k = do
 abbrev pub at_depth : Kind → Depth → Result Tree JsonFault → Result Tree JsonFault
 at_depth k d r = if is_too_deep k d then here too_deep else r
 
-abbrev pub as_found : Data → Reading → Found
+abbrev pub as_found : Data → ValueReading → Found
 as_found json.null read = a_null
 as_found (json.boolean b) read = found read
 as_found (json.number n) read = found read
@@ -259,7 +259,7 @@ as_found (json.array xs) read = found read
 as_found (json.object ms) read = found read
 
 unfoldable mutual
-  pub jread : Data → Reading
+  pub jread : Data → ValueReading
   jread json.null v k d = at_depth k d (here wrong_kind)
   jread (json.boolean b) v k d = at_depth k d (boolean_read b k)
   jread (json.number n) v k d = at_depth k d (integer_read n k)

@@ -14,8 +14,8 @@ abbrev pub is_written : Need → Tree → Bool
 is_written else_empty (items none) = false
 is_written n t = not (is_absent t)
 
-abbrev pub stands : Row → Tree → SpecVersion → Bool
-stands r t w = knows r.since w && is_written r.need t
+abbrev pub is_spelled : Row → Tree → SpecVersion → Bool
+is_spelled r t w = knows r.since w && is_written r.need t
 
 abbrev pub set_member : Member → Data → (Members → Members) → Members → Members
 set_member (member name) x own ms = put name x ms
@@ -48,7 +48,7 @@ unfoldable mutual
   pub members_spelled : Trees → SpecVersion → List Row → Members → Members
   members_spelled none w rs ms = ms
   members_spelled (more t ts) w [] ms = ms
-  members_spelled (more t ts) w (r ∷ rs) ms = members_spelled ts w rs (if stands r t w then set_member r.json (jspell t w r.kind) (own_members t w) ms else ms)
+  members_spelled (more t ts) w (r ∷ rs) ms = members_spelled ts w rs (if is_spelled r t w then set_member r.json (jspell t w r.kind) (own_members t w) ms else ms)
 
   -- a record's members set in the object around it
   pub own_members : Tree → SpecVersion → Members → Members

@@ -10,7 +10,7 @@ use Rattle.cdx_schema.specs.Kinds.{Kind, a_bill}
 use Rattle.cdx_schema.specs.Depth.{top}
 use Rattle.cdx_schema.specs.Membership.{Never, IsOf, HasShape}
 use Rattle.cdx_schema.specs.Keeping.{kept, keep, fits, is_shallow}
-use Rattle.cdx_schema.specs.Trips.{bare, IsSame, Form, in_json, in_xml, Hop, after, last_of, lowest_of}
+use Rattle.cdx_schema.specs.Trips.{bare, IsSame, Form, in_json, in_xml, Hop, after_road, last_of, lowest_of}
 use Rattle.cdx_schema.specs.Suppliers.{unsupplied}
 use Rattle.cdx_schema.specs.JsonReading.{json_denotes}
 use Rattle.cdx_schema.specs.JsonSpelling.{jspell}
@@ -113,7 +113,7 @@ nth (suc k) (x ∷ xs) = nth k xs
 -- the bill after hops, of which there may be none
 abbrev pub after_all : Tree → List Hop → Tree
 after_all b [] = b
-after_all b (h ∷ hs) = after b h hs
+after_all b (h ∷ hs) = after_road b h hs
 
 -- A document denotes in a version a bill that is the same as b after the hops.
 abbrev pub DenotesAfter : Tree → List Hop → Doc → SpecVersion → Type 0

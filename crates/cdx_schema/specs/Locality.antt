@@ -31,20 +31,20 @@ fault_place (TooDeep p) = p
 fault_place (Memory e) = 0
 
 -- The root of a balanced list.
-abbrev pub root_of : {events : List XmlEvent} → IsBalanced events → Node
-root_of b = element b.name b.attributes b.namespace b.nodes
+abbrev pub balanced_root : {events : List XmlEvent} → IsBalanced events → Node
+balanced_root b = element b.name b.attributes b.namespace b.nodes
 
 -- Every balanced list that begins with these events has this first fault.
 abbrev pub IsBlocked : SpecVersion → List XmlEvent → XmlReadError → Type 0
-IsBlocked v front f = (rest : List XmlEvent) (b : IsBalanced (front ++ rest)) → xml_denotes (root_of b) v ≡ Err f
+IsBlocked v front f = (rest : List XmlEvent) (b : IsBalanced (front ++ rest)) → xml_denotes (balanced_root b) v ≡ Err f
 
 -- A first fault depends on no event after its place: every balanced list that begins with the events through that place has the same first fault.
 abbrev pub IsLocal : Type 0
-IsLocal = (events : List XmlEvent) (b : IsBalanced events) (v : SpecVersion) (f : XmlReadError) → xml_denotes (root_of b) v ≡ Err f → IsBlocked v (take (suc (fault_place f)) events) f
+IsLocal = (events : List XmlEvent) (b : IsBalanced events) (v : SpecVersion) (f : XmlReadError) → xml_denotes (balanced_root b) v ≡ Err f → IsBlocked v (take (suc (fault_place f)) events) f
 
 -- The place of a first fault is the place of one of the document's events.
 abbrev pub StandsInside : Type 0
-StandsInside = (events : List XmlEvent) (b : IsBalanced events) (v : SpecVersion) (f : XmlReadError) → xml_denotes (root_of b) v ≡ Err f → fault_place f < length events
+StandsInside = (events : List XmlEvent) (b : IsBalanced events) (v : SpecVersion) (f : XmlReadError) → xml_denotes (balanced_root b) v ≡ Err f → fault_place f < length events
 
 -- What a document is refused with is a fault of a document.
 abbrev pub RefusesByFaults : Type 0

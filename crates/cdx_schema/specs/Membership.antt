@@ -26,11 +26,11 @@ abbrev pub IsBooleanOf : Kind → Type 0
 IsBooleanOf a_boolean = Unit {0}
 IsBooleanOf _ = Never
 
-abbrev pub IsListOf : Kind → Type 0
-IsListOf (a_list l) = Unit {0}
-IsListOf a_tools = Unit {0}
-IsListOf a_data = Unit {0}
-IsListOf _ = Never
+abbrev pub IsListKind : Kind → Type 0
+IsListKind (a_list l) = Unit {0}
+IsListKind a_tools = Unit {0}
+IsListKind a_data = Unit {0}
+IsListKind _ = Never
 
 abbrev pub IsRecordOf : Kind → Name → Trees → Type 0
 IsRecordOf (a_record m) n ts = n ≡ m
@@ -56,7 +56,7 @@ abbrev mutual
   IsOfAll Q (text s) k = IsTextOf Q k s
   IsOfAll Q (number n) k = IsNumberOf k n
   IsOfAll Q (boolean b) k = IsBooleanOf k
-  IsOfAll Q (items ts) k = IsListOf k × AreOfAll Q ts (held_kind k)
+  IsOfAll Q (items ts) k = IsListKind k × AreOfAll Q ts (held_kind k)
   IsOfAll Q (fields n ts) k = IsRecordOf k n ts × AreFieldsAll Q ts (rows n)
 
   pub AreOfAll : (List ℕ → Type 0) → Trees → Kind → Type 0

@@ -39,9 +39,9 @@ denotes (json x) v = from_json (json_denotes x v)
 denotes (xml x) v = from_xml (xml_denotes x v)
 
 -- A bill as a document.
-abbrev pub written : Form → SpecVersion → Tree → Doc
-written in_json w b = json (jspell b w a_bill)
-written in_xml w b = xml (root b w)
+abbrev pub document_of : Form → SpecVersion → Tree → Doc
+document_of in_json w b = json (jspell b w a_bill)
+document_of in_xml w b = xml (root b w)
 
 abbrev pub fits_all : List Hop → Tree → Bool
 fits_all [] b = true
@@ -52,8 +52,8 @@ abbrev pub hops_from : Doc → SpecVersion → List Hop → Result (List Doc) Re
 hops_from x v [] = Ok []
 hops_from x v (h ∷ hs) = do
   b ← denotes x v
-  rest ← hops_from (written h.form h.version (keep h.version b a_bill)) h.version hs
-  Ok (written h.form h.version (keep h.version b a_bill) ∷ rest)
+  rest ← hops_from (document_of h.form h.version (keep h.version b a_bill)) h.version hs
+  Ok (document_of h.form h.version (keep h.version b a_bill) ∷ rest)
 
 abbrev pub road : Doc → SpecVersion → List Hop → Result (List Doc) Refusal
 road x v hs = do

@@ -148,8 +148,8 @@ abbrev pub list_so_far : Element → Lists → SpecVersion → Depth → Result 
 list_so_far e l v d = e.read (plan_of_list l) v d (one absent)
 
 -- The last step gives the items.
-abbrev pub ReadsList : Type 0
-ReadsList = (n : OwnedName) (as' : List OwnedAttribute) (space : Namespace) (xs : Nodes) (l : Lists) (v : SpecVersion) (p : ℕ) (d : Depth)
+abbrev pub LastStepGivesItems : Type 0
+LastStepGivesItems = (n : OwnedName) (as' : List OwnedAttribute) (space : Namespace) (xs : Nodes) (l : Lists) (v : SpecVersion) (p : ℕ) (d : Depth)
     → xread (element n as' space xs) v (a_list l) p d ≡ (list_so_far (element_at n as' space xs p) l v d >>= λ ts. Ok (list_of (field 0 ts)))
 
 -- With a node more as its last, a list is read up to it as before, and then the node is read by the list's plan.

@@ -24,8 +24,8 @@ at k name = row k (attribute (codes name)) name
 abbrev pub of : Kind → String → Row
 of k name = row k (child (codes name)) name
 
-abbrev pub each : Lists → String → Row
-each l name = row (a_list l) (children (codes name)) name
+abbrev pub every : Lists → String → Row
+every l name = row (a_list l) (children (codes name)) name
 
 -- a reference that old documents spell otherwise in JSON
 abbrev pub respelled_reference : Row
@@ -63,7 +63,7 @@ rows attached_text = row a_text (attribute (codes "content-type")) "contentType"
     ∷ must (row a_text one_text "content")
     ∷ []
 rows contact = respelled_reference ∷ of a_text "name" ∷ of a_text "email" ∷ of a_text "phone" ∷ []
-rows entity = respelled_reference ∷ of a_text "name" ∷ each urls "url" ∷ each contacts "contact" ∷ []
+rows entity = respelled_reference ∷ of a_text "name" ∷ every urls "url" ∷ every contacts "contact" ∷ []
 rows commit = of a_text "uid"
     ∷ of a_text "url"
     ∷ of (a_record action) "author"
@@ -234,33 +234,33 @@ rule bill = lax
 
 -- ---- the lists
 
-abbrev pub listed : String → Kind → Rule → Listed
-listed name k r = record { name = codes name; kind = k; rule = r }
+abbrev pub list_with : String → Kind → Rule → Listed
+list_with name k r = record { name = codes name; kind = k; rule = r }
 
 unfoldable pub list : Lists → Listed
-list hashes = listed "hash" (a_record hash) strict
-list properties = listed "property" (a_record property) lax
-list urls = listed "url" a_text lax
-list contacts = listed "contact" (a_record contact) lax
-list commits = listed "commit" (a_record commit) lax
-list patches = listed "patch" (a_record patch) lax
-list resolved = listed "issue" (a_record issue) strict
-list links = listed "url" a_text strict
-list external_references = listed "reference" (a_record reference) strict
-list dependencies = listed "dependency" (a_record dependency) strict
-list depended = listed "dependency" a_reference strict
-list compositions = listed "composition" (a_record composition) lax
-list assemblies = listed "assembly" a_reference lax
-list composed = listed "dependency" a_reference lax
-list vulnerabilities = listed "vulnerability" a_reference lax
-list licenses = listed "license" a_license_choice strict
-list components = listed "component" (a_record component) lax
-list services = listed "service" (a_record service) lax
-list copyright_texts = listed "text" (a_record copyright) strict
-list endpoints = listed "endpoint" a_text strict
-list authors = listed "author" (a_record contact) strict
-list tool_list = listed "tool" (a_record tool) strict
-list signer_list = listed "signer" (a_record signer) strict
-list chain_list = listed "chain" (a_record signer) strict
-list classifications = listed "classification" (a_record classification) passing
-list flows = listed "dataflow" (a_record service_data) passing
+list hashes = list_with "hash" (a_record hash) strict
+list properties = list_with "property" (a_record property) lax
+list urls = list_with "url" a_text lax
+list contacts = list_with "contact" (a_record contact) lax
+list commits = list_with "commit" (a_record commit) lax
+list patches = list_with "patch" (a_record patch) lax
+list resolved = list_with "issue" (a_record issue) strict
+list links = list_with "url" a_text strict
+list external_references = list_with "reference" (a_record reference) strict
+list dependencies = list_with "dependency" (a_record dependency) strict
+list depended = list_with "dependency" a_reference strict
+list compositions = list_with "composition" (a_record composition) lax
+list assemblies = list_with "assembly" a_reference lax
+list composed = list_with "dependency" a_reference lax
+list vulnerabilities = list_with "vulnerability" a_reference lax
+list licenses = list_with "license" a_license_choice strict
+list components = list_with "component" (a_record component) lax
+list services = list_with "service" (a_record service) lax
+list copyright_texts = list_with "text" (a_record copyright) strict
+list endpoints = list_with "endpoint" a_text strict
+list authors = list_with "author" (a_record contact) strict
+list tool_list = list_with "tool" (a_record tool) strict
+list signer_list = list_with "signer" (a_record signer) strict
+list chain_list = list_with "chain" (a_record signer) strict
+list classifications = list_with "classification" (a_record classification) passing
+list flows = list_with "dataflow" (a_record service_data) passing

@@ -120,5 +120,5 @@ trips [] (suc n) b = b
 trips (h ∷ hs) (suc n) b = elim h.form [ in_json ↦ trips hs (suc n) b | in_xml ↦ trips hs n (bare b) ]
 
 -- The bill after a road of at least one hop: what the lowest version keeps, less what the trips take, under the last label.
-abbrev pub after : Tree → Hop → List Hop → Tree
-after b h hs = trips (h ∷ hs) 2 (kept (lowest_of h.version hs) (last_of h.version hs) b a_bill)
+abbrev pub after_road : Tree → Hop → List Hop → Tree
+after_road b h hs = trips (h ∷ hs) 2 (kept (lowest_of h.version hs) (last_of h.version hs) b a_bill)

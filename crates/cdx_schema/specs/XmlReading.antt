@@ -22,8 +22,8 @@ use Rattle.cdx_schema.specs.Nodes.{places, places_of}
 use Rattle.cdx_schema.specs.XmlTexts.{boolean_of, number_of, boolean_tree, of_text, type_name}
 
 -- How an element is read: in a version, as a kind, at a place, at a depth.
-abbrev pub Reading : Type 0
-Reading = SpecVersion → Kind → ℕ → Depth → Result Tree XmlReadError
+abbrev pub ElementReading : Type 0
+ElementReading = SpecVersion → Kind → ℕ → Depth → Result Tree XmlReadError
 
 -- ---- what the nodes of an element are read by
 
@@ -121,14 +121,14 @@ is_second once t = not (is_absent t)
 is_second last t = false
 is_second all t = false
 
-abbrev pub child_read : Option Child → Rule → Reading → List ℕ → SpecVersion → Depth → ℕ → Trees → Result Trees XmlReadError
+abbrev pub child_read : Option Child → Rule → ElementReading → List ℕ → SpecVersion → Depth → ℕ → Trees → Result Trees XmlReadError
 child_read None r read around v d p ts = unknown r around p ts
 child_read (Some c) r read around v d p ts = if is_second c.place (field c.field ts) then Err (unexpected p around kinds.StartElement) else (do
   t ← read v c.kind p d
   Ok (stored c.place c.field t ts))
 
 -- What one node, at place p in the element around it, makes of the fields that were read before it.
-abbrev pub node_read : Node → Reading → Plan → List ℕ → SpecVersion → Depth → ℕ → Trees → Result Trees XmlReadError
+abbrev pub node_read : Node → ElementReading → Plan → List ℕ → SpecVersion → Depth → ℕ → Trees → Result Trees XmlReadError
 node_read (characters s) read plan around v d p ts = stray plan.rule kinds.Characters around p ts
 node_read (cdata s) read plan around v d p ts = stray plan.rule kinds.CData around p ts
 node_read (element n as' default xs) read plan around v d p ts = child_read (find_child v n.local_name plan.children) plan.rule read around v d p ts
@@ -215,11 +215,11 @@ content_from i (r ∷ rs) = or_later r.xml i (content_from (suc i) rs)
 -- ---- the element's end
 
 -- the name of a child that has to be there
-abbrev pub owed : Spelled → Option (List ℕ)
-owed (child name) = Some name
-owed (filled_child name) = Some name
-owed (either_child m n) = Some (m ++ codes " or " ++ n)
-owed _ = None
+abbrev pub name_owed : Spelled → Option (List ℕ)
+name_owed (child name) = Some name
+name_owed (filled_child name) = Some name
+name_owed (either_child m n) = Some (m ++ codes " or " ++ n)
+name_owed _ = None
 
 abbrev pub lacks : Option (List ℕ) → Row → Tree → SpecVersion → Bool
 lacks None r t v = false
@@ -242,7 +242,7 @@ filled r t = by r.xml r.need t
 unfoldable pub ended : List Row → Trees → SpecVersion → List ℕ → ℕ → Result Trees XmlReadError
 ended [] ts v around p = Ok none
 ended (r ∷ rs) none v around p = Ok none
-ended (r ∷ rs) (more t ts) v around p = if lacks (owed r.xml) r t v then lacking_row (owed r.xml) around p (Ok none) else (do
+ended (r ∷ rs) (more t ts) v around p = if lacks (name_owed r.xml) r t v then lacking_row (name_owed r.xml) around p (Ok none) else (do
   us ← ended rs ts v around p
   Ok (more (filled r t) us))
 
@@ -403,7 +403,7 @@ kind_read e v a_signature d = signature_read e v d
 kind_read e v a_bill d = bill_read e v d
 
 unfoldable mutual
-  pub xread : Node → Reading
+  pub xread : Node → ElementReading
   xread (characters s) v k p d = Err (unexpected p [] kinds.Characters)
   xread (cdata s) v k p d = Err (unexpected p [] kinds.CData)
   xread (element n as' default xs) v k p d = kind_read (record { name = n.local_name; attributes = as'; namespace = default.default; nodes = xs; start = p; read = λ plan w e ts. nodes_read xs plan n.local_name w e (suc p) ts }) v k d

@@ -81,11 +81,11 @@ flow_of t w k xs = plain_element (codes "dataflow") [] (lone (wrapped t w (codes
 
 -- How the items of a kind are written: under a name, or as flows.
 pub data Items : Type 0 where
-  named : List ℕ → Items
+  each_under : List ℕ → Items
   as_flows : Items
 
 abbrev pub item_node : Items → Tree → SpecVersion → Kind → Nodes → Node
-item_node (named tag) t w k xs = wrapped t w tag k xs
+item_node (each_under tag) t w k xs = wrapped t w tag k xs
 item_node as_flows t w k xs = flow_of t w k xs
 
 abbrev pub any_flow : Trees → Bool
@@ -94,10 +94,10 @@ any_flow (more (fields n us) ts) = is_flow n us || any_flow ts
 any_flow (more _ ts) = any_flow ts
 
 abbrev pub items_of : Kind → Trees → Items
-items_of (a_list l) ts = named (list l).name
-items_of a_tools ts = named (list tool_list).name
-items_of a_data ts = if any_flow ts then as_flows else named (list classifications).name
-items_of _ ts = named []
+items_of (a_list l) ts = each_under (list l).name
+items_of a_tools ts = each_under (list tool_list).name
+items_of a_data ts = if any_flow ts then as_flows else each_under (list classifications).name
+items_of _ ts = each_under []
 
 -- Signers and a chain stand in an element of their own; so does each.
 abbrev pub signed_in : Kind → Name → Nodes → Nodes

@@ -13,7 +13,7 @@ use Rattle.cdx_schema.specs.Results.{◌>>=◌}
 use Rattle.cdx_schema.specs.Keeping.{kept, keep}
 use Rattle.cdx_schema.specs.JsonReading.{Object}
 use Rattle.cdx_schema.specs.JsonSpelling.{jspell}
-use Rattle.cdx_json.specs.ByRows.{rows_made, own_made, by_rows, named}
+use Rattle.cdx_json.specs.ByRows.{rows_made, own_made, by_rows, as_record}
 use Rattle.cdx_json.specs.KeptRows.{rows_held, rows_put}
 use Rattle.cdx_json.proofs.ByRowsLaws.{rows_split, rows_then, then_same}
 use Rattle.cdx_json.proofs.KeptRowsLaws.{record_held}
@@ -35,10 +35,10 @@ pub service_in_groups : (o : Object) (v : SpecVersion) (d : Depth) → by_rows s
 unfolding service_by_groups
 service_in_groups o v d =
     let own = own_made o v d in
-    ap (λ rs. rows_made o own rs v d (named service)) service_rows
-    ∙ rows_split o own (group 0 service) (group 1 service ++ group 2 service) v d (named service)
-    ∙ then_same (group_read 0 service o v d) _ _ (λ a. rows_split o own (group 1 service) (group 2 service) v d (λ us. named service (a ⧺ us))
-    ∙ then_same (group_read 1 service o v d) _ _ (λ b. rows_then o own (group 2 service) v d (λ us. named service (a ⧺ (b ⧺ us)))))
+    ap (λ rs. rows_made o own rs v d (as_record service)) service_rows
+    ∙ rows_split o own (group 0 service) (group 1 service ++ group 2 service) v d (as_record service)
+    ∙ then_same (group_read 0 service o v d) _ _ (λ a. rows_split o own (group 1 service) (group 2 service) v d (λ us. as_record service (a ⧺ us))
+    ∙ then_same (group_read 1 service o v d) _ _ (λ b. rows_then o own (group 2 service) v d (λ us. as_record service (a ⧺ (b ⧺ us)))))
 
 service_naming_counts : (x : Service-F Service Services) → count (service_naming x) ≡ length (group 0 service)
 unfolding rows

@@ -12,7 +12,7 @@ use Rattle.cdx_schema.specs.Table.{rows}
 use Rattle.cdx_schema.specs.XmlReading.{find_attribute, attributes_read, ended}
 use Rattle.cdx_json.specs.Groups.{group}
 use Rattle.cdx_leaf.specs.Attribute.{text_row}
-use Rattle.cdx_leaf.specs.Fault.{Fails}
+use Rattle.cdx_leaf.specs.Fault.{FailsAt}
 use Rattle.cdx_leaf.proofs.Attributes.{row_ok, maybe_row}
 use Rattle.cdx_leaf.proofs.Groups.{ended_of_two}
 use Rattle.cdx_leaf.proofs.Records.{first_fails}
@@ -52,10 +52,10 @@ end_is : (x : ServicePart) (v : SpecVersion) (el : List ℕ) (p : ℕ)
 end_is x v el p = ap (λ r. r >>= λ us. Ok (fields service us)) (ended_is x v el p)
 
 -- the first group misses something
-pub service_lacks : (e : XmlReadError) (x : ServicePart) (v : SpecVersion) (el : List ℕ) (p : ℕ) → Fails e (p + 1) (ended (group 0 service) (naming_part x.naming) v el p) → Fails e (p + 1) (record_end service el v p (service_part x))
+pub service_lacks : (e : XmlReadError) (x : ServicePart) (v : SpecVersion) (el : List ℕ) (p : ℕ) → FailsAt e (p + 1) (ended (group 0 service) (naming_part x.naming) v el p) → FailsAt e (p + 1) (record_end service el v p (service_part x))
 service_lacks e x v el p h =
     let first = ended (group 0 service) (naming_part x.naming) v el p in
-    subst (λ r. Fails e (p + 1) r) (sym (end_is x v el p))
+    subst (λ r. FailsAt e (p + 1) r) (sym (end_is x v el p))
     (first_fails e (p + 1) (first >>= λ ts. Ok (with_later x ts)) (λ us. Ok (fields service us)) (first_fails e (p + 1) first (λ ts. Ok (with_later x ts)) h))
 
 -- nothing is missing

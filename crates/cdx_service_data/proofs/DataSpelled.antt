@@ -13,7 +13,7 @@ use Rattle.cdx_schema.specs.Kinds.{a_list, a_record, a_data, an_entry, classific
 use Rattle.cdx_schema.specs.Nodes.{◌⊕◌}
 use Rattle.cdx_schema.specs.Table.{rows, list}
 use Rattle.cdx_schema.specs.Trips.{is_passed_over}
-use Rattle.cdx_schema.specs.XmlSpelling.{lone, named, as_flows, item_node, any_flow, nodes_of, items_nodes}
+use Rattle.cdx_schema.specs.XmlSpelling.{lone, each_under, as_flows, item_node, any_flow, nodes_of, items_nodes}
 use Rattle.cdx_write.specs.Spelling.{inner, written}
 use Rattle.cdx_write.specs.Writing.{start_tag, end_tag}
 use Rattle.cdx_service_data.specs.Records.{classification_tree, service_data_tree, service_classification, service_entry, data_tree}
@@ -26,7 +26,7 @@ use Rattle.cdx_service_data.proofs.DataEntries.{late, kept_alike, classification
 
 -- ---- classifications
 
-node_alike : (tag : List ℕ) (t : Tree) (w : SpecVersion) → item_node (named tag) t w (a_record classification) (nodes_of t w (a_record classification)) ≡ item_node (named tag) t w an_entry (nodes_of t w an_entry)
+node_alike : (tag : List ℕ) (t : Tree) (w : SpecVersion) → item_node (each_under tag) t w (a_record classification) (nodes_of t w (a_record classification)) ≡ item_node (each_under tag) t w an_entry (nodes_of t w an_entry)
 unfolding nodes_of
 node_alike tag absent w = refl
 node_alike tag (text s) w = refl
@@ -35,12 +35,12 @@ node_alike tag (boolean b) w = refl
 node_alike tag (items ts) w = refl
 node_alike tag (fields n ts) w = refl
 
-nodes_alike : (tag : List ℕ) (ts : Trees) (w : SpecVersion) → items_nodes ts w (named tag) (a_record classification) ≡ items_nodes ts w (named tag) an_entry
+nodes_alike : (tag : List ℕ) (ts : Trees) (w : SpecVersion) → items_nodes ts w (each_under tag) (a_record classification) ≡ items_nodes ts w (each_under tag) an_entry
 unfolding nodes_of
 nodes_alike tag none w = refl
 nodes_alike tag (more t ts) w =
-    ap (λ x. (if is_passed_over t then no_nodes else lone x) ⊕ items_nodes ts w (named tag) (a_record classification)) (node_alike tag t w)
-    ∙ ap (λ xs. (if is_passed_over t then no_nodes else lone (item_node (named tag) t w an_entry (nodes_of t w an_entry))) ⊕ xs) (nodes_alike tag ts w)
+    ap (λ x. (if is_passed_over t then no_nodes else lone x) ⊕ items_nodes ts w (each_under tag) (a_record classification)) (node_alike tag t w)
+    ∙ ap (λ xs. (if is_passed_over t then no_nodes else lone (item_node (each_under tag) t w an_entry (nodes_of t w an_entry))) ⊕ xs) (nodes_alike tag ts w)
 
 no_flow : (w : SpecVersion) (xs : List DataClassification) → any_flow (items_kept w w (each classification_tree xs) (a_record classification)) ≡ false
 unfolding kept
@@ -56,8 +56,8 @@ unfolding inner kept nodes_of list
 entries_inner w xs ts e =
     let kept_xs = items_kept w w (each classification_tree xs) (a_record classification) in
     ap events_of_all (nodes_alike (list classifications).name kept_xs w)
-    ∙ ap (λ b. events_of_all (items_nodes kept_xs w (if b then as_flows else named (list classifications).name) an_entry)) (sym (no_flow w xs))
-    ∙ ap (λ us. events_of_all (items_nodes us w (if any_flow us then as_flows else named (list classifications).name) an_entry)) e
+    ∙ ap (λ b. events_of_all (items_nodes kept_xs w (if b then as_flows else each_under (list classifications).name) an_entry)) (sym (no_flow w xs))
+    ∙ ap (λ us. events_of_all (items_nodes us w (if any_flow us then as_flows else each_under (list classifications).name) an_entry)) e
 
 pub classified_inner : (w : SpecVersion) (xs : List DataClassification) → inner (list_tree classification_tree xs) w (a_list classifications) ≡ inner (list_tree classification_tree xs) w a_data
 classified_inner w xs = entries_inner w xs (each classification_tree xs) (kept_alike classification_tree classification_tree (a_record classification) an_entry w w xs (λ x. classification_kept w w _))
@@ -111,20 +111,20 @@ flows_any [] = refl
 flows_any (x ∷ xs) = flow_kept_any x (items_kept V1_5 V1_5 (each service_entry xs) an_entry) ∙ ap (λ b. is_named x || b) (flows_any xs)
 
 flow_node : (x : ServiceData) (rest : Nodes)
-    → ((if is_passed_over (keep V1_5 (service_data_tree x) (a_record service_data)) then no_nodes else lone (item_node (named (list flows).name) (keep V1_5 (service_data_tree x) (a_record service_data)) V1_5 (a_record service_data) (nodes_of (keep V1_5 (service_data_tree x) (a_record service_data)) V1_5 (a_record service_data)))) ⊕ rest)
+    → ((if is_passed_over (keep V1_5 (service_data_tree x) (a_record service_data)) then no_nodes else lone (item_node (each_under (list flows).name) (keep V1_5 (service_data_tree x) (a_record service_data)) V1_5 (a_record service_data) (nodes_of (keep V1_5 (service_data_tree x) (a_record service_data)) V1_5 (a_record service_data)))) ⊕ rest)
     ≡ ((if is_passed_over (keep V1_5 (service_entry x) an_entry) then no_nodes else lone (item_node as_flows (keep V1_5 (service_entry x) an_entry) V1_5 an_entry (nodes_of (keep V1_5 (service_entry x) an_entry) V1_5 an_entry))) ⊕ rest)
 unfolding kept nodes_of rows list
 flow_node x rest = by x.name x.description
   where
     by : (name description : Option (List ℕ))
-        → ((if is_passed_over (keep V1_5 (flow_tree name description x.classification) (a_record service_data)) then no_nodes else lone (item_node (named (list flows).name) (keep V1_5 (flow_tree name description x.classification) (a_record service_data)) V1_5 (a_record service_data) (nodes_of (keep V1_5 (flow_tree name description x.classification) (a_record service_data)) V1_5 (a_record service_data)))) ⊕ rest)
+        → ((if is_passed_over (keep V1_5 (flow_tree name description x.classification) (a_record service_data)) then no_nodes else lone (item_node (each_under (list flows).name) (keep V1_5 (flow_tree name description x.classification) (a_record service_data)) V1_5 (a_record service_data) (nodes_of (keep V1_5 (flow_tree name description x.classification) (a_record service_data)) V1_5 (a_record service_data)))) ⊕ rest)
         ≡ ((if is_passed_over (keep V1_5 (entry_of (flow_tree name description x.classification)) an_entry) then no_nodes else lone (item_node as_flows (keep V1_5 (entry_of (flow_tree name description x.classification)) an_entry) V1_5 an_entry (nodes_of (keep V1_5 (entry_of (flow_tree name description x.classification)) an_entry) V1_5 an_entry))) ⊕ rest)
     by None None = refl
     by (Some s) None = refl
     by None (Some d) = refl
     by (Some s) (Some d) = refl
 
-flow_nodes : (xs : List ServiceData) → items_nodes (items_kept V1_5 V1_5 (each service_data_tree xs) (a_record service_data)) V1_5 (named (list flows).name) (a_record service_data) ≡ items_nodes (items_kept V1_5 V1_5 (each service_entry xs) an_entry) V1_5 as_flows an_entry
+flow_nodes : (xs : List ServiceData) → items_nodes (items_kept V1_5 V1_5 (each service_data_tree xs) (a_record service_data)) V1_5 (each_under (list flows).name) (a_record service_data) ≡ items_nodes (items_kept V1_5 V1_5 (each service_entry xs) an_entry) V1_5 as_flows an_entry
 unfolding kept nodes_of
 flow_nodes [] = refl
 flow_nodes (x ∷ xs) =
@@ -136,7 +136,7 @@ unfolding inner kept nodes_of list
 flows_inner_1_5 xs e =
     let us = items_kept V1_5 V1_5 (each service_entry xs) an_entry in
     ap events_of_all (flow_nodes xs)
-    ∙ ap (λ b. events_of_all (items_nodes us V1_5 (if b then as_flows else named (list classifications).name) an_entry)) (sym (flows_any xs ∙ e))
+    ∙ ap (λ b. events_of_all (items_nodes us V1_5 (if b then as_flows else each_under (list classifications).name) an_entry)) (sym (flows_any xs ∙ e))
 
 known_flows : (w : SpecVersion) (b : Bool) → (knows V1_5 w && b) ≡ true → (knows V1_5 w ≡ true) × (b ≡ true)
 known_flows V1_3 b e = absurd cc

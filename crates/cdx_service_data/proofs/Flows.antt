@@ -17,7 +17,7 @@ use Rattle.cdx_leaf.specs.declared.taken.Taken.{Taken}
 use Rattle.cdx_leaf.specs.Children.{Took, TakesMore}
 use Rattle.cdx_leaf.specs.Each.{plan_step}
 use Rattle.cdx_leaf.specs.Each as steps
-use Rattle.cdx_leaf.specs.Fault.{Fails}
+use Rattle.cdx_leaf.specs.Fault.{FailsAt}
 use Rattle.cdx_leaf.specs.Trees.{collected}
 use Rattle.cdx_leaf.proofs.ChildSteps.{each_is}
 use Rattle.cdx_leaf.proofs.Records.{first_fails}
@@ -58,7 +58,7 @@ pushed_read xs (Err e) = refl
 
 took_entry : (old new end : Cursor) (ys : List ServiceData) (x y : Result Tree XmlReadError) (r : Result Taken XmlReadError) → y ≡ (x >>= λ t. Ok (as_entries t)) → Took (collected service_data_tree ys) old new end x r → Took (collected service_entry ys) old new end y r
 took_entry old new end ys x y (Ok b) is h = (h.0, is ∙ ap (λ q. q >>= λ t. Ok (as_entries t)) h.1 ∙ ap Ok (entries_are ys), h.2)
-took_entry old new end ys x y (Err e) is h = (h.0, subst (λ q. Fails e new.place q) (sym is) (first_fails e new.place x (λ t. Ok (as_entries t)) h.1))
+took_entry old new end ys x y (Err e) is h = (h.0, subst (λ q. FailsAt e new.place q) (sym is) (first_fails e new.place x (λ t. Ok (as_entries t)) h.1))
 
 pub flow_taken : (v : SpecVersion) (n : OwnedName) (a : List OwnedAttribute) (old new : Cursor) (xs ys : List ServiceData) (r : Result Taken XmlReadError)
     → TakesMore (collected service_data_tree xs) (collected service_data_tree ys) old new v (a_record service_data) (λ d. d) n a r → TakesMore (collected service_entry xs) (collected service_entry ys) old new v an_entry (λ d. d) n a r
@@ -69,14 +69,14 @@ flow_taken v n a old new xs ys r takes d ns p nodes rest st =
 
 module _ (v : SpecVersion) (n : OwnedName) (a : List OwnedAttribute) (ns : Namespace) (d : Depth) (p : ℕ) (nodes : Nodes) where
   abbrev entries_read : Result Trees XmlReadError
-  entries_read = steps.each (plan_step data_plan v d n.local_name) nodes (suc p) (two absent absent)
+  entries_read = steps.each_node (plan_step data_plan v d n.local_name) nodes (suc p) (two absent absent)
 
   data_is : xread (element n a ns nodes) v a_data p d ≡ (entries_read >>= λ ts. Ok (data_of ts))
   unfolding xread
   data_is = ap (λ r. r >>= λ ts. Ok (data_of ts)) (each_is nodes data_plan n.local_name v d (suc p) (two absent absent))
 
-  pub data_fails : (e : XmlReadError) (place : ℕ) → Fails e place entries_read → Fails e place (xread (element n a ns nodes) v a_data p d)
-  data_fails e place h = subst (λ x. Fails e place x) (sym data_is) (first_fails e place entries_read (λ ts. Ok (data_of ts)) h)
+  pub data_fails : (e : XmlReadError) (place : ℕ) → FailsAt e place entries_read → FailsAt e place (xread (element n a ns nodes) v a_data p d)
+  data_fails e place h = subst (λ x. FailsAt e place x) (sym data_is) (first_fails e place entries_read (λ ts. Ok (data_of ts)) h)
 
   data_read : (x : DataPart) → entries_read ≡ Ok (data_part x) → xread (element n a ns nodes) v a_data p d ≡ Ok (data_of (data_part x))
   data_read x h = data_is ∙ ap (λ r. r >>= λ ts. Ok (data_of ts)) h

@@ -15,7 +15,7 @@ use cdx_leaf::{
     Children, End, FromXml, Reading, Rule, Start, Taken, TextRecord, XmlRecord, attribute_or_none,
     child_or_error, read_record, read_text_record, required_attribute, take_into, take_one,
 };
-use cdx_models::{SpecVersion, XmlReadError};
+use cdx_models::SpecVersion;
 
 impl TextRecord for DataClassification {
     type Start = Text;
@@ -28,7 +28,7 @@ impl TextRecord for DataClassification {
 
     ghost whole = { classification_whole };
 
-    fn begin(opened: &Start<'_>) -> Result<Text, XmlReadError> {
+    fn begin(opened: &Start<'_>) -> Reading<Text> {
         required_attribute(opened, "flow")
     }
 
@@ -76,7 +76,7 @@ impl XmlRecord for ServiceData {
 
     ghost by_rows = { λ part. (refl, refl) };
 
-    fn begin(opened: &Start<'_>) -> Result<ServiceDataPart, XmlReadError> {
+    fn begin(opened: &Start<'_>) -> Reading<ServiceDataPart> {
         Ok(ServiceDataPart {
             name: attribute_or_none(opened.alloc, opened.attributes, "name")?,
             description: attribute_or_none(opened.alloc, opened.attributes, "description")?,
@@ -84,7 +84,7 @@ impl XmlRecord for ServiceData {
         })
     }
 
-    fn finish(closed: &End<'_>, part: ServiceDataPart) -> Result<ServiceData, XmlReadError> {
+    fn finish(closed: &End<'_>, part: ServiceDataPart) -> Reading<ServiceData> {
         let classification = child_or_error(closed, part.classification, "classification")?;
         Ok(ServiceData {
             name: part.name,

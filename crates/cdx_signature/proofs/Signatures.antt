@@ -22,12 +22,12 @@ use Rattle.cdx_schema.specs.Table.{rows, rule, list}
 use Rattle.cdx_schema.specs.XmlReading.{Element, Plan, no_content, content_from, record_plan, attributes_read, in_force, ended, signature_plan, signature_of, xread, nodes_read}
 use Rattle.cdx_signature.specs.declared.parts.SignerPart.{SignerPart}
 use Rattle.cdx_leaf.specs.declared.rule.Rule.TheVariants.{Strict}
-use Rattle.cdx_leaf.specs.Fault.{Fails}
-use Rattle.cdx_leaf.specs.Each.{each, plan_step}
+use Rattle.cdx_leaf.specs.Fault.{FailsAt}
+use Rattle.cdx_leaf.specs.Each.{each_node, plan_step}
 use Rattle.cdx_leaf.specs.Listing.{listing_plan, ReadsItems}
 use Rattle.cdx_signature.specs.Parts.{signer_part}
 use Rattle.cdx_leaf.specs.RowContents.{content_is}
-use Rattle.cdx_leaf.specs.Reading.{Reads, ReadsAs, after}
+use Rattle.cdx_leaf.specs.Reading.{Reads, ReadsAs, behind_end}
 use Rattle.cdx_leaf.specs.Trees.{collected}
 use Rattle.cdx_leaf.proofs.ChildSteps.{each_is}
 use Rattle.cdx_leaf.proofs.Parts.{filled_list}
@@ -50,12 +50,12 @@ unfolding rows rule list attributes_read ended
 chain_listed = record { begins = λ a v el p. refl; plan = refl; ends = λ xs v el q. ap (λ t. Ok (one t)) (filled_list signer_tree xs) }
 
 listed_is : (name : Name) (inner : List ℕ) → content_from 0 (rows name) ≡ no_content → is_plain name ≡ true → IsListed name inner → (v : SpecVersion) (n : OwnedName) (a : List OwnedAttribute) (ns : Namespace) (d : Depth) (p : ℕ) (nodes : Nodes)
-    → xread (element n a ns nodes) v (a_record name) p d ≡ (each (plan_step (listing_plan Strict inner (a_record signer)) v d n.local_name) nodes (suc p) (one absent) >>= λ ts. finished name v n.local_name (suc (p + places_of nodes)) ts)
+    → xread (element n a ns nodes) v (a_record name) p d ≡ (each_node (plan_step (listing_plan Strict inner (a_record signer)) v d n.local_name) nodes (suc p) (one absent) >>= λ ts. finished name v n.local_name (suc (p + places_of nodes)) ts)
 listed_is name inner alone plain listed v n a ns d p nodes =
     let last : Trees → Result Tree XmlReadError = λ ts. finished name v n.local_name (suc (p + places_of nodes)) ts in
     record_is name alone plain v n a ns d p nodes
-    ∙ ap (λ x. (x >>= λ ts. each (plan_step (record_plan name) v d n.local_name) nodes (suc p) ts) >>= last) (listed.begins a v n.local_name p)
-    ∙ ap (λ (x : Plan). each (plan_step x v d n.local_name) nodes (suc p) (one absent) >>= last) listed.plan
+    ∙ ap (λ x. (x >>= λ ts. each_node (plan_step (record_plan name) v d n.local_name) nodes (suc p) ts) >>= last) (listed.begins a v n.local_name p)
+    ∙ ap (λ (x : Plan). each_node (plan_step x v d n.local_name) nodes (suc p) (one absent) >>= last) listed.plan
 
 finishes : (name : Name) (inner : List ℕ) → IsListed name inner → (v : SpecVersion) (el : List ℕ) (q : ℕ) (old new end : Cursor) (denoted : Result Trees XmlReadError) (result : Result (List Signer) XmlReadError)
     → Reads (λ xs. one (collected signer_tree xs)) old new end denoted result → Reads (λ xs. fields name (one (list_tree signer_tree xs))) old new end (denoted >>= λ ts. finished name v el q ts) result
@@ -66,8 +66,8 @@ finishes name inner listed v el q old new end denoted (Err e) h = (h.0, first_fa
 reads_listed : (name : Name) (inner : List ℕ) → content_from 0 (rows name) ≡ no_content → is_plain name ≡ true → IsListed name inner → (old new : Cursor) (v : SpecVersion) (n : OwnedName) (a : List OwnedAttribute) (result : Result (List Signer) XmlReadError)
     → ReadsItems signer_tree (a_record signer) (λ d. d) old new v n inner Strict result → ReadsAs (λ xs. fields name (one (list_tree signer_tree xs))) old new n a v (a_record name) (λ d. d) result
 reads_listed name inner alone plain listed old new v n a result reads d ns p nodes rest st =
-    subst (λ x. Reads (λ xs. fields name (one (list_tree signer_tree xs))) old new (after old nodes rest) x result) (sym (listed_is name inner alone plain listed v n a ns d p nodes))
-    (finishes name inner listed v n.local_name (suc (p + places_of nodes)) old new (after old nodes rest) (each (plan_step (listing_plan Strict inner (a_record signer)) v d n.local_name) nodes (suc p) (one absent)) result (reads d p nodes rest st))
+    subst (λ x. Reads (λ xs. fields name (one (list_tree signer_tree xs))) old new (behind_end old nodes rest) x result) (sym (listed_is name inner alone plain listed v n a ns d p nodes))
+    (finishes name inner listed v n.local_name (suc (p + places_of nodes)) old new (behind_end old nodes rest) (each_node (plan_step (listing_plan Strict inner (a_record signer)) v d n.local_name) nodes (suc p) (one absent)) result (reads d p nodes rest st))
 
 pub reads_signers : (old new : Cursor) (v : SpecVersion) (n : OwnedName) (a : List OwnedAttribute) (result : Result (List Signer) XmlReadError)
     → ReadsItems signer_tree (a_record signer) (λ d. d) old new v n (codes "signer") Strict result → ReadsAs (λ xs. fields signers (one (list_tree signer_tree xs))) old new n a v (a_record signers) (λ d. d) result
@@ -87,14 +87,14 @@ module _ (v : SpecVersion) (n : OwnedName) (a : List OwnedAttribute) (ns : Names
   this = record { name = n.local_name; attributes = a; namespace = ns.default; nodes = nodes; start = p; read = λ plan w e ts. nodes_read nodes plan n.local_name w e (suc p) ts }
 
   abbrev pub parts_read : Result Trees XmlReadError
-  parts_read = each (plan_step signature_plan v d n.local_name) nodes (suc p) nothing_yet
+  parts_read = each_node (plan_step signature_plan v d n.local_name) nodes (suc p) nothing_yet
 
   signature_is : xread (element n a ns nodes) v a_signature p d ≡ (parts_read >>= λ ts. signature_of this v ts)
   unfolding xread
   signature_is = ap (λ r. r >>= λ ts. signature_of this v ts) (each_is nodes signature_plan n.local_name v d (suc p) nothing_yet)
 
-  pub signature_fails : (e : XmlReadError) (place : ℕ) → Fails e place parts_read → Fails e place (xread (element n a ns nodes) v a_signature p d)
-  signature_fails e place h = subst (λ x. Fails e place x) (sym signature_is) (first_fails e place parts_read (λ ts. signature_of this v ts) h)
+  pub signature_fails : (e : XmlReadError) (place : ℕ) → FailsAt e place parts_read → FailsAt e place (xread (element n a ns nodes) v a_signature p d)
+  signature_fails e place h = subst (λ x. FailsAt e place x) (sym signature_is) (first_fails e place parts_read (λ ts. signature_of this v ts) h)
 
   pub signature_listed : (x : Signature) (r : SignerPart) → parts_read ≡ Ok (more (signature_tree x) (signer_part r)) → xread (element n a ns nodes) v a_signature p d ≡ Ok (signature_tree x)
   signature_listed (signature.Signers xs) r h = signature_is ∙ ap (λ x. x >>= λ ts. signature_of this v ts) h

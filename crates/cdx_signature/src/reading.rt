@@ -13,7 +13,6 @@ use cdx_leaf::{
     Children, End, FromXml, Reading, Rule, Start, Taken, XmlRecord, child_or_error, read_items,
     read_record, take_one,
 };
-use cdx_models::XmlReadError;
 
 impl Children for SignerPart {
     ghost slots = { signer_part };
@@ -42,14 +41,14 @@ impl XmlRecord for Signer {
 
     ghost by_rows = { λ part. (refl, refl) };
 
-    fn begin(_opened: &Start<'_>) -> Result<SignerPart, XmlReadError> {
+    fn begin(_opened: &Start<'_>) -> Reading<SignerPart> {
         Ok(SignerPart {
             algorithm: None,
             value: None,
         })
     }
 
-    fn finish(closed: &End<'_>, part: SignerPart) -> Result<Signer, XmlReadError> {
+    fn finish(closed: &End<'_>, part: SignerPart) -> Reading<Signer> {
         let algorithm = child_or_error(closed, part.algorithm, "algorithm")?;
         let value = child_or_error(closed, part.value, "value")?;
         Ok(Signer {

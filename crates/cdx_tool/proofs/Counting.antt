@@ -6,11 +6,11 @@ use Rattle.std.specs.Str.Parse.{ParsesUnsigned}
 use Rattle.std.proofs.lemmas.Bool.{lt-leb, and_right}
 use Rattle.std.proofs.lemmas.Bool.Decides.{eqb_tells}
 use Rattle.std.proofs.lemmas.Str.Parse.{IsNumeralModel, numerals_by_fold, parse_plain}
-use Rattle.cdx_tool.specs.Words.{read_on, is_plain, is_led, counted_if, most, count_of}
+use Rattle.cdx_tool.specs.Words.{digits_read, is_plain_number, is_led, counted_if, most, count_of}
 
 -- the words for digits and their number
-numerals : IsNumeralModel (λ ds. all_ascii_digits ds ≡ true) (read_on 0)
-numerals = numerals_by_fold _ (search rules) read_on (search rules)
+numerals : IsNumeralModel (λ ds. all_ascii_digits ds ≡ true) (digits_read 0)
+numerals = numerals_by_fold _ (search rules) digits_read (search rules)
 
 abbrev pub found : {E : Type 0} → Result ℕ E → Option ℕ
 found (Ok n) = counted_if n
@@ -24,9 +24,9 @@ pub none_led : (s : List ℕ) → is_led s ≡ false → None ≡ count_of s
 none_led [] h = refl
 none_led (c ∷ cs) h =
     elim (eqb_tells c 48) [
-      | inl zero_is ↦ sym (no_count (is_plain (c ∷ cs)) _ (rw (zero_is.0) refl))
+      | inl zero_is ↦ sym (no_count (is_plain_number (c ∷ cs)) _ (rw (zero_is.0) refl))
       | inr other ↦ elim (eqb_tells c 43) [
-        | inl sign ↦ sym (no_count (is_plain (c ∷ cs)) _ (rw (other.0, sign.1) refl))
+        | inl sign ↦ sym (no_count (is_plain_number (c ∷ cs)) _ (rw (other.0, sign.1) refl))
         | inr neither ↦ let e : true ≡ false = rw (other.0, neither.0) at h in absurd cc
       ]
     ]
@@ -52,6 +52,6 @@ counts (c ∷ cs) r led h =
       ]
     ]
   where
-    by : {E : Type 0} (r : Result ℕ E) → is_plain (c ∷ cs) ≡ all_ascii_digits (c ∷ cs) → OkIff r ((all_ascii_digits (c ∷ cs) ≡ true) × (0 < length (c ∷ cs)) × (read_on 0 (c ∷ cs) < 2 ^ 32)) (read_on 0 (c ∷ cs)) → found r ≡ count_of (c ∷ cs)
+    by : {E : Type 0} (r : Result ℕ E) → is_plain_number (c ∷ cs) ≡ all_ascii_digits (c ∷ cs) → OkIff r ((all_ascii_digits (c ∷ cs) ≡ true) × (0 < length (c ∷ cs)) × (digits_read 0 (c ∷ cs) < 2 ^ 32)) (digits_read 0 (c ∷ cs)) → found r ≡ count_of (c ∷ cs)
     by (Ok n) is p = rw (is, p.0.0, p.1) refl
-    by (Err e) is p = rw is (sym (refused (all_ascii_digits (c ∷ cs)) (read_on 0 (c ∷ cs)) (λ d lt. p (d, omega arith, lt))))
+    by (Err e) is p = rw is (sym (refused (all_ascii_digits (c ∷ cs)) (digits_read 0 (c ∷ cs)) (λ d lt. p (d, omega arith, lt))))

@@ -19,11 +19,11 @@ use Rattle.cdx_tool.specs.declared.request.sent.Asked.{Asked}
 
 -- The answer is what is owed: a thing that is what is meant, or the reason why there is none. Want of memory alone is
 -- free.
-abbrev pub Reads : {A B : Type 0} → (A → B → Type 0) → Result B Misread → Result A RequestError → Type 0
-Reads Is owed (Ok x) = (y : _) × (owed ≡ Ok y) × Is x y
-Reads Is owed (Err Shape) = owed ≡ Err shape
-Reads Is owed (Err (Unbalanced place)) = owed ≡ Err (unbalanced place)
-Reads Is owed (Err (Memory e)) = Unit {0}
+abbrev pub ReadsOwed : {A B : Type 0} → (A → B → Type 0) → Result B Misread → Result A RequestError → Type 0
+ReadsOwed Is owed (Ok x) = (y : _) × (owed ≡ Ok y) × Is x y
+ReadsOwed Is owed (Err Shape) = owed ≡ Err shape
+ReadsOwed Is owed (Err (Unbalanced place)) = owed ≡ Err (unbalanced place)
+ReadsOwed Is owed (Err (Memory e)) = Unit {0}
 
 -- the same where nothing but the shape is asked
 abbrev pub ReadsIf : {A : Type 0} → Option A → Result A RequestError → Type 0
@@ -50,12 +50,12 @@ asked_in a = record { from = a.from; sent = sent_in a.sent; hops = hops_of a.hop
 abbrev pub form_read : List ℕ → Option Form
 form_read s = if bytes_eq s (codes "json") then Some form.Json else (if bytes_eq s (codes "xml") then Some form.Xml else None)
 
-abbrev pub hop_parts : Data → Option Hop
-hop_parts d = do
+abbrev pub hop_parts_read : Data → Option Hop
+hop_parts_read d = do
   form ← text_at (codes "form") d >>= form_read
   version ← version_at (codes "version") d
   Some (record { form = form; version = version })
 
 -- the hop of a value, whose like in the schema is the one that is asked (`Hops.hop_is`)
 abbrev pub hop_read : Data → Option Hop
-hop_read d = if member_count d == 2 then hop_parts d else None
+hop_read d = if member_count d == 2 then hop_parts_read d else None

@@ -11,14 +11,14 @@ pub data Command : Type 0 where
 -- ---- numbers
 
 -- the number of decimal digits that follow on a number
-abbrev pub read_on : ℕ → List ℕ → ℕ
-read_on n [] = n
-read_on n (c ∷ cs) = read_on (10 * n + (c - 48)) cs
+abbrev pub digits_read : ℕ → List ℕ → ℕ
+digits_read n [] = n
+digits_read n (c ∷ cs) = digits_read (10 * n + (c - 48)) cs
 
 -- decimal digits, the first of which isn't 0
-abbrev pub is_plain : List ℕ → Bool
-is_plain [] = false
-is_plain (c ∷ cs) = not (c == 48) && all_ascii_digits (c ∷ cs)
+abbrev pub is_plain_number : List ℕ → Bool
+is_plain_number [] = false
+is_plain_number (c ∷ cs) = not (c == 48) && all_ascii_digits (c ∷ cs)
 
 -- neither 0 nor a sign stands first
 abbrev pub is_led : List ℕ → Bool
@@ -34,7 +34,7 @@ counted_if n = if nat_lt 0 n && nat_le n most then Some n else None
 
 -- a number from 1 to the most, in decimal, without sign or leading zero
 abbrev pub count_of : List ℕ → Option ℕ
-count_of s = if is_plain s then counted_if (read_on 0 s) else None
+count_of s = if is_plain_number s then counted_if (digits_read 0 s) else None
 
 -- ---- commands
 

@@ -7,20 +7,20 @@ use Rattle.cdx_models.specs.Versions.{label}
 use Rattle.cdx_schema.specs.Faults.{JsonFault}
 use Rattle.cdx_json.specs.Gives.{Fails}
 use Rattle.cdx_component.specs.declared.component.Components.{Components}
-use Rattle.cdx_component.specs.Trees.{listed}
+use Rattle.cdx_component.specs.Trees.{listed_components}
 use Rattle.cdx_bom.specs.declared.bom.Bom.{Bom}
 use Rattle.cdx_bom.specs.Trees.{bom_tree}
 
 -- ---- the number of components
 
-abbrev pub how_many : Option Components → ℕ
-how_many None = 0
-how_many (Some components) = length (listed components)
+abbrev pub components_counted : Option Components → ℕ
+components_counted None = 0
+components_counted (Some components) = length (listed_components components)
 
 -- The answer is the number of components in the list of the bill that is owed, or the fault that is owed.
-abbrev pub Counts : Result Tree JsonFault → Result ℕ JsonReadError → Type 0
-Counts owed (Ok n) = (b : Bom) × (owed ≡ Ok (bom_tree b)) × (n ≡ how_many b.components)
-Counts owed (Err e) = Fails e owed
+abbrev pub CountsComponents : Result Tree JsonFault → Result ℕ JsonReadError → Type 0
+CountsComponents owed (Ok n) = (b : Bom) × (owed ≡ Ok (bom_tree b)) × (n ≡ components_counted b.components)
+CountsComponents owed (Err e) = Fails e owed
 
 -- ---- a bill with one component
 
@@ -30,11 +30,11 @@ library_tree component_type name version = fields component (trees (
     text component_type ∷ absent ∷ absent ∷ absent ∷ absent ∷ absent ∷ absent ∷ text name ∷ text version ∷ absent ∷ absent ∷ absent
     ∷ absent ∷ absent ∷ absent ∷ absent ∷ absent ∷ absent ∷ absent ∷ absent ∷ absent ∷ absent ∷ absent ∷ absent ∷ []))
 
-abbrev pub list_of : Tree → Tree
-list_of t = items (trees (t ∷ []))
+abbrev pub component_list : Tree → Tree
+component_list t = items (trees (t ∷ []))
 
 -- the bill of 1.5 with the library of this name and version, and nothing else
-abbrev pub bill_of : List ℕ → List ℕ → Tree
-bill_of name version = fields bill (trees (
-    text (label V1_5) ∷ number 1 ∷ absent ∷ absent ∷ list_of (library_tree (codes "library") name version)
+abbrev pub bill_of_library : List ℕ → List ℕ → Tree
+bill_of_library name version = fields bill (trees (
+    text (label V1_5) ∷ number 1 ∷ absent ∷ absent ∷ component_list (library_tree (codes "library") name version)
     ∷ absent ∷ absent ∷ absent ∷ absent ∷ absent ∷ absent ∷ []))

@@ -2,7 +2,7 @@
 
 ghost use Rattle.std.specs.Prelude.{◌≡◌, []};
 ghost use Rattle.cdx_bom.specs.Trees.{bom_tree};
-ghost use Rattle.cdx_bom.specs.Outputs.{Outputs, text_of};
+ghost use Rattle.cdx_bom.specs.Outputs.{Outputs, compact_kept};
 
 use cdx_bom::Bom;
 use cdx_events::{Failed, Sink};
@@ -87,7 +87,7 @@ pub fn json_bytes(
     version: SpecVersion,
 ) -> Result<Vec<u8>, JsonWriteError>
     ensures { Outputs result version (bom_tree bill.now)
-        (λ bytes. bytes.items ≡ text_of version (bom_tree bill.now)) }
+        (λ bytes. bytes.items ≡ compact_kept version (bom_tree bill.now)) }
 {
     let mut buffer = Buffer::new(alloc);
     match bill.write_json(alloc, version, &mut buffer) {

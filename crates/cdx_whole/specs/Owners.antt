@@ -20,8 +20,8 @@ component_with component_type name licenses properties = fields component (trees
     ∷ absent ∷ absent ∷ properties ∷ absent ∷ absent ∷ absent ∷ []))
 
 -- the bill of 1.5 with one library of this name, under this license and with this owner
-abbrev pub bill_of : List ℕ → List ℕ → List ℕ → Tree
-bill_of name id owner = fields bill (trees (
+abbrev pub bill_of_owner : List ℕ → List ℕ → List ℕ → Tree
+bill_of_owner name id owner = fields bill (trees (
     text (label V1_5) ∷ number 1 ∷ absent ∷ absent
     ∷ items (one (component_with (codes "library") name (items (one (license_of id))) (items (one (owner_of owner))))) ∷ absent
     ∷ absent ∷ absent ∷ absent ∷ absent ∷ absent ∷ []))

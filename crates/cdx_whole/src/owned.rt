@@ -6,7 +6,7 @@ ghost use Rattle.cdx_models.specs.Records.{properties_tree};
 ghost use Rattle.cdx_license.specs.Records.{licenses_tree};
 ghost use Rattle.cdx_component.specs.Trees.{component_tree, components_tree};
 ghost use Rattle.cdx_bom.specs.Trees.{bom_tree};
-ghost use Rattle.cdx_whole.specs.Owners.{license_of, owner_of, component_with, bill_of};
+ghost use Rattle.cdx_whole.specs.Owners.{license_of, owner_of, component_with, bill_of_owner};
 
 use crate::again::read_again;
 use cdx_bom::Bom;
@@ -101,7 +101,7 @@ fn listed(alloc: Global, component: Component) -> Result<Components, AllocError>
 /// The bill of 1.5 with one library of this name, which stands under the license with this SPDX identifier and tells
 /// this owner. Only want of memory refuses.
 pub fn owned_bill(alloc: Global, name: &str, id: &str, owner: &str) -> Result<Bom, AllocError>
-    ensures { IfOk result (λ bill. bom_tree bill ≡ bill_of name.now id.now owner.now) }
+    ensures { IfOk result (λ bill. bom_tree bill ≡ bill_of_owner name.now id.now owner.now) }
 {
     let component_type = Text::new(alloc, "library")?;
     let name = Text::new(alloc, name)?;
@@ -115,7 +115,7 @@ pub fn owned_bill(alloc: Global, name: &str, id: &str, owner: &str) -> Result<Bo
 
 /// That bill, as it is read again from the JSON document that is written of it. Only want of memory refuses.
 pub fn owned_bill_again(alloc: Global, name: &str, id: &str, owner: &str) -> Result<Bom, AllocError>
-    ensures { IfOk result (λ again. bom_tree again ≡ bill_of name.now id.now owner.now) }
+    ensures { IfOk result (λ again. bom_tree again ≡ bill_of_owner name.now id.now owner.now) }
 {
     let bill = owned_bill(alloc, name, id, owner)?;
     read_again(alloc, &bill)

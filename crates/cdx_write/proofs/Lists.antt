@@ -10,7 +10,7 @@ use Rattle.cdx_schema.specs.Kinds.{Lists, Kind, a_list}
 use Rattle.cdx_schema.specs.Table.{list}
 use Rattle.cdx_schema.specs.Keeping.{kept, keep, items_kept}
 use Rattle.cdx_schema.specs.Trips.{is_passed_over}
-use Rattle.cdx_schema.specs.XmlSpelling.{named, nodes_of, items_nodes, lone, spelled}
+use Rattle.cdx_schema.specs.XmlSpelling.{each_under, nodes_of, items_nodes, lone, spelled}
 use Rattle.cdx_write.specs.Listed.{IsListOf, item_put}
 use Rattle.cdx_write.specs.Spelling.{written, inner}
 use Rattle.cdx_write.specs.Stays.{keeps_presence, passed_kept}
@@ -38,7 +38,7 @@ item_events : (b : Bool) (u : Tree) (w : SpecVersion) (tag : List ℕ) (k : Kind
 item_events true u w tag k = refl
 item_events false u w tag k = append-nil (events_of (spelled u w tag k))
 
-items_are : {A : Type 0} (see : A → Tree) (tag : List ℕ) (k : Kind) (w : SpecVersion) (xs : List A) → flat_map (items_put see tag k w) xs ≡ events_of_all (items_nodes (items_kept w w (each see xs) k) w (named tag) k)
+items_are : {A : Type 0} (see : A → Tree) (tag : List ℕ) (k : Kind) (w : SpecVersion) (xs : List A) → flat_map (items_put see tag k w) xs ≡ events_of_all (items_nodes (items_kept w w (each see xs) k) w (each_under tag) k)
 unfolding nodes_of kept item_put written
 items_are see tag k w [] = refl
 items_are see tag k w (x ∷ xs) =
@@ -50,8 +50,8 @@ pub list_inner : {A : Type 0} (see : A → Tree) (tag : List ℕ) (k : Kind) (l 
 unfolding inner nodes_of kept
 list_inner see tag k l w xs is =
     items_are see tag k w xs
-    ∙ ap (λ q. events_of_all (items_nodes (items_kept w w (each see xs) q) w (named tag) q)) (sym is.0)
-    ∙ ap (λ s. events_of_all (items_nodes (items_kept w w (each see xs) (list l).kind) w (named s) (list l).kind)) (sym is.1)
+    ∙ ap (λ q. events_of_all (items_nodes (items_kept w w (each see xs) q) w (each_under tag) q)) (sym is.0)
+    ∙ ap (λ s. events_of_all (items_nodes (items_kept w w (each see xs) (list l).kind) w (each_under s) (list l).kind)) (sym is.1)
 
 -- a list under its tag
 pub list_is : {A : Type 0} (see : A → Tree) (tag : List ℕ) (l : Lists) (w : SpecVersion) (xs : List A) → start_tag tag ∷ inner (list_tree see xs) w (a_list l) ++ end_tag tag ∷ [] ≡ written (list_tree see xs) w tag (a_list l)

@@ -2,7 +2,7 @@
 
 ghost use Rattle.std.specs.Prelude.{◌≡◌};
 ghost use Rattle.cdx_models.specs.Same.{same, same_each};
-ghost use Rattle.cdx_bom.specs.Trees.{bom_tree, identity, contents, inventory, relations, label_tree};
+ghost use Rattle.cdx_bom.specs.Trees.{bom_tree, identity, contents, inventory_groups, relations, label_tree};
 
 use crate::bom::Bom;
 use cdx_models::{SpecVersion, same_row};
@@ -29,7 +29,7 @@ pub(crate) fn same_contents(one: &Bom, other: &Bom) -> bool
 
 #[tactic(auto, using(crate::proofs::Compared::inventory_compared))]
 fn same_inventory(one: &Bom, other: &Bom) -> bool
-    ensures { result ≡ same_each (inventory one.now) (inventory other.now) }
+    ensures { result ≡ same_each (inventory_groups one.now) (inventory_groups other.now) }
 {
     same_identity(one, other)
         && same_row(&one.metadata, &other.metadata)

@@ -1,7 +1,7 @@
 //! Copies of bills.
 
 ghost use Rattle.std.specs.Prelude.{◌≡◌, IfOk};
-ghost use Rattle.cdx_bom.specs.Trees.{bom_tree, inventory, relations};
+ghost use Rattle.cdx_bom.specs.Trees.{bom_tree, inventory_groups, relations};
 ghost use Rattle.cdx_bom.specs.PartTrees.{inventory_trees, relations_trees};
 
 use crate::bom::Bom;
@@ -10,7 +10,7 @@ use cdx_models::copy_row;
 use std::alloc::{AllocError, Global};
 
 fn copy_inventory(bom: &Bom, alloc: Global) -> Result<Inventory, AllocError>
-    ensures { IfOk result (λ r. inventory_trees r ≡ inventory bom.now) }
+    ensures { IfOk result (λ r. inventory_trees r ≡ inventory_groups bom.now) }
 {
     let serial_number = copy_row(alloc, &bom.serial_number)?;
     let components = copy_row(alloc, &bom.components)?;

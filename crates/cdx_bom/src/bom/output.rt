@@ -5,7 +5,7 @@ ghost use Rattle.serde_json.specs.View.{view};
 ghost use Rattle.cdx_models.specs.declared.bom.SpecVersion.{SpecVersion};
 ghost use Rattle.cdx_json.specs.Gives.{Makes};
 ghost use Rattle.cdx_bom.specs.Trees.{bom_tree};
-ghost use Rattle.cdx_bom.specs.Outputs.{Outputs, spelled};
+ghost use Rattle.cdx_bom.specs.Outputs.{Outputs, kept_json};
 
 use crate::bom::Bom;
 use crate::refused::lacks_version;
@@ -20,7 +20,7 @@ impl Bom {
     /// version, which 1.3 requires. `Memory` only where memory runs out.
     pub fn output_json(&self, alloc: Global, version: SpecVersion) -> Result<Value, JsonWriteError>
         ensures { Outputs result version (bom_tree self.now)
-            (λ v. view v ≡ spelled version (bom_tree self.now)) }
+            (λ v. view v ≡ kept_json version (bom_tree self.now)) }
     {
         if !self.fits(version) {
             return Err(JsonWriteError::BomError(lacks_version()));
@@ -31,21 +31,21 @@ impl Bom {
     /// What 1.3 keeps of the bill, as a JSON value, with the refusals of `output_json`.
     pub fn output_as_json_v1_3(&self, alloc: Global) -> Result<Value, JsonWriteError>
         ensures { Outputs result SpecVersion.V1_3 (bom_tree self.now)
-            (λ v. view v ≡ spelled SpecVersion.V1_3 (bom_tree self.now)) }
+            (λ v. view v ≡ kept_json SpecVersion.V1_3 (bom_tree self.now)) }
     {
         self.output_json(alloc, SpecVersion::V1_3)
     }
 
     /// What 1.4 keeps of the bill, as a JSON value. Only want of memory is refused.
     pub fn output_as_json_v1_4(&self, alloc: Global) -> Result<Value, JsonWriteError>
-        ensures { Makes result (λ v. view v ≡ spelled SpecVersion.V1_4 (bom_tree self.now)) }
+        ensures { Makes result (λ v. view v ≡ kept_json SpecVersion.V1_4 (bom_tree self.now)) }
     {
         self.output_json(alloc, SpecVersion::V1_4)
     }
 
     /// What 1.5 keeps of the bill, as a JSON value. Only want of memory is refused.
     pub fn output_as_json_v1_5(&self, alloc: Global) -> Result<Value, JsonWriteError>
-        ensures { Makes result (λ v. view v ≡ spelled SpecVersion.V1_5 (bom_tree self.now)) }
+        ensures { Makes result (λ v. view v ≡ kept_json SpecVersion.V1_5 (bom_tree self.now)) }
     {
         self.output_json(alloc, SpecVersion::V1_5)
     }

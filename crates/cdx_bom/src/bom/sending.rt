@@ -4,7 +4,7 @@ ghost use Rattle.std.specs.Prelude.{◌≡◌, length, IfErr, IfSome, OnOk};
 ghost use Rattle.std.specs.Io.KnownBytes.{Appends};
 ghost use Rattle.cdx_schema.specs.Laws.{Fits};
 ghost use Rattle.cdx_bom.specs.Trees.{bom_tree};
-ghost use Rattle.cdx_bom.specs.Outputs.{text_of, Outputs, IsRefused};
+ghost use Rattle.cdx_bom.specs.Outputs.{compact_kept, Outputs, IsRefused};
 
 use crate::bom::Bom;
 use crate::putting::put_text;
@@ -26,7 +26,7 @@ impl Bom {
     ) -> Result<(), JsonWriteError>
         ensures fits { OnOk result (Fits version (bom_tree self.now)) }
         ensures ok { OnOk result (Appends (K.written sink.old) (K.written sink.new)
-            (text_of version (bom_tree self.now))) }
+            (compact_kept version (bom_tree self.now))) }
         ensures flushed { OnOk result (IfSome (K.flushed sink.new)
             (λ n. IfSome (K.written sink.new) (λ bytes. n ≡ length bytes))) }
         ensures steady { OnOk result (K.faults sink.new ≡ K.faults sink.old) }
@@ -45,7 +45,7 @@ impl Bom {
     // The compact text of the value that `output_json` answers.
     fn json_text(&self, alloc: Global, version: SpecVersion) -> Result<Text, JsonWriteError>
         ensures { Outputs result version (bom_tree self.now)
-            (λ t. t ≡ text_of version (bom_tree self.now)) }
+            (λ t. t ≡ compact_kept version (bom_tree self.now)) }
     {
         let value = self.output_json(alloc, version)?;
         match value.to_string(alloc) {

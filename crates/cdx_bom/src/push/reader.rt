@@ -4,7 +4,7 @@ ghost use Rattle.std.specs.Prelude.{◌≡◌, ◌+◌, ◌≤◌, List, [], ◌
 ghost use Rattle.cdx_events.specs.declared.event.XmlEvent.{XmlEvent};
 ghost use Rattle.cdx_schema.specs.Early.{IsEarly};
 ghost use Rattle.cdx_push_reader.specs.Pushed.{heard};
-ghost use Rattle.cdx_push_reader.specs.PushAnswers.{version_of, fault_of, is_spent, is_memory, is_want, Feeds, Told, Finishes};
+ghost use Rattle.cdx_push_reader.specs.PushAnswers.{reader_version, fault_of, is_spent, is_memory, is_want, Feeds, TellsFault, Finishes};
 ghost use Rattle.cdx_bom.specs.Trees.{bom_tree};
 
 use crate::bom::Bom;
@@ -35,7 +35,7 @@ impl PushReader {
     /// A reader of bills of version `v` that was fed nothing yet. It takes no memory.
     pub fn new(alloc: Global, version: SpecVersion) -> PushReader
         ensures heard { heard ⟦<BillMachine as RootMachine>⟧.holds bom_tree result.fed [] }
-        ensures version { version_of result.fed ≡ version }
+        ensures version { reader_version result.fed ≡ version }
         ensures sound { is_spent result.fed ≡ false }
         ensures fault { fault_of result.fed ≡ None }
     {
@@ -55,15 +55,15 @@ impl PushReader {
             × (length events + length piece.now ≤ usize.MAX) }
         ensures answer { (events : List XmlEvent)
             → heard ⟦<BillMachine as RootMachine>⟧.holds bom_tree self.old.fed events
-            → Feeds (version_of self.old.fed) (events ++ piece.now) result }
+            → Feeds (reader_version self.old.fed) (events ++ piece.now) result }
         ensures heard { (events : List XmlEvent)
             → heard ⟦<BillMachine as RootMachine>⟧.holds bom_tree self.old.fed events
             → heard ⟦<BillMachine as RootMachine>⟧.holds bom_tree self.new.fed
             (events ++ piece.now) }
-        ensures version { version_of self.new.fed ≡ version_of self.old.fed }
+        ensures version { reader_version self.new.fed ≡ reader_version self.old.fed }
         ensures spent { is_spent self.new.fed ≡ is_memory result }
         ensures again { is_spent self.old.fed ≡ true → is_memory result ≡ true }
-        ensures told { Told result (fault_of self.old.fed) (fault_of self.new.fed) }
+        ensures told { TellsFault result (fault_of self.old.fed) (fault_of self.new.fed) }
     {
         self.fed.feed(piece)
     }
@@ -75,7 +75,7 @@ impl PushReader {
         ensures early { (events : List XmlEvent)
             → heard ⟦<BillMachine as RootMachine>⟧.holds bom_tree self.now.fed events
             → is_spent self.now.fed ≡ false
-            → IsEarly (version_of self.now.fed) events (option_copied result) }
+            → IsEarly (reader_version self.now.fed) events (option_copied result) }
     {
         self.fed.fault()
     }
@@ -87,7 +87,7 @@ impl PushReader {
         ensures answer { (events : List XmlEvent)
             → heard ⟦<BillMachine as RootMachine>⟧.holds bom_tree self.fed events
             → is_spent self.fed ≡ false
-            → Finishes bom_tree (version_of self.fed) events result }
+            → Finishes bom_tree (reader_version self.fed) events result }
         ensures again { is_spent self.fed ≡ true → is_want result ≡ true }
         ensures sound { (events : List XmlEvent)
             → heard ⟦<BillMachine as RootMachine>⟧.holds bom_tree self.fed events

@@ -4,7 +4,8 @@ ghost use Rattle.std.specs.Prelude.{◌≡◌, IfOk, IfErr, OnOk};
 ghost use Rattle.cdx_models.specs.declared.bom.SpecVersion.TheVariants.{V1_3, V1_4, V1_5};
 ghost use Rattle.cdx_schema.specs.Laws.{IsShallow};
 ghost use Rattle.cdx_bom.specs.Trees.{bom_tree};
-ghost use Rattle.cdx_bom.specs.BillReading.{ReadsBill, ReadsSource, IsRefusal};
+ghost use Rattle.cdx_bom.specs.BillReading.{ReadsBill, ReadsBillFrom};
+ghost use Rattle.cdx_push_reader.specs.Documents.{IsRefusal};
 
 use crate::bom::Bom;
 use crate::push::BillMachine;
@@ -59,7 +60,7 @@ impl Bom {
         version: SpecVersion,
         budget: usize,
     ) -> Result<Bom, XmlReadError>
-        ensures source { ReadsSource budget (E.left source.old) (E.left source.new)
+        ensures source { ReadsBillFrom budget (E.left source.old) (E.left source.new)
             (E.faults source.old) (E.faults source.new) version result }
         ensures shallow { IfOk result (λ b. IsShallow (bom_tree b)) }
         ensures sound { OnOk result (E.faults source.new ≡ E.faults source.old) }

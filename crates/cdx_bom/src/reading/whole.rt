@@ -3,7 +3,8 @@
 ghost use Rattle.std.specs.Prelude.{IfOk, IfErr};
 ghost use Rattle.cdx_schema.specs.Laws.{IsShallow};
 ghost use Rattle.cdx_bom.specs.Trees.{bom_tree};
-ghost use Rattle.cdx_bom.specs.BillReading.{ReadsBill, IsRefusal};
+ghost use Rattle.cdx_bom.specs.BillReading.{ReadsBill};
+ghost use Rattle.cdx_push_reader.specs.Documents.{IsRefusal};
 
 use crate::bom::Bom;
 use crate::push::BillMachine;

@@ -8,7 +8,7 @@ ghost use Rattle.cdx_schema.specs.XmlSpelling.{attributes_of};
 ghost use Rattle.cdx_json.specs.Groups.{group};
 ghost use Rattle.cdx_write.specs.WrittenRows.{rows_written};
 ghost use Rattle.cdx_write.specs.Writing.{Appends};
-ghost use Rattle.cdx_bom.specs.Trees.{bom_tree, inventory, relations};
+ghost use Rattle.cdx_bom.specs.Trees.{bom_tree, inventory_groups, relations};
 
 use crate::bom::Bom;
 use cdx_events::{EventWriter, List, OwnedAttribute};
@@ -38,7 +38,7 @@ pub(crate) fn write_inventory_rows(
     target: Target,
 ) -> WriteResult
     ensures { Appends writer.old writer.new
-        (rows_written (inventory held.now) target.version (group 0 bill))
+        (rows_written (inventory_groups held.now) target.version (group 0 bill))
         result }
 {
     put_child(writer, "metadata", &held.metadata, target)?;

@@ -6,7 +6,7 @@ ghost use Rattle.cdx_models.specs.Trees.{component, pedigree, text, present};
 ghost use Rattle.cdx_models.specs.declared.bom.SpecVersion.{SpecVersion};
 ghost use Rattle.cdx_schema.specs.XmlReading.{attributes_read};
 ghost use Rattle.cdx_json.specs.Groups.{group};
-ghost use Rattle.cdx_leaf.specs.Attribute.{Gives};
+ghost use Rattle.cdx_leaf.specs.Attribute.{GivesAt};
 ghost use Rattle.cdx_machine.specs.Plain.{attributes_first};
 ghost use Rattle.cdx_component_parts.specs.Records.{mime_type_tree};
 ghost use Rattle.cdx_component.specs.PartTrees.{origin_trees};
@@ -30,7 +30,7 @@ fn mime_type_of(held: Option<Text>) -> Option<MimeType>
 
 /// What the attributes give of the first rows, or the fault that the type is lacking, at the element's start.
 fn begin_origin(opened: &Start<'_>) -> Result<Origin, XmlReadError>
-    ensures { (v : SpecVersion) → Gives origin_trees (opened.now.place + 1)
+    ensures { (v : SpecVersion) → GivesAt origin_trees (opened.now.place + 1)
         (attributes_read (group 0 component) opened.now.attributes.now v
         opened.now.element.now.local_name opened.now.place) result }
 {
@@ -49,7 +49,7 @@ fn begin_origin(opened: &Start<'_>) -> Result<Origin, XmlReadError>
 
 /// The component that the attributes begin, or the fault that the type is lacking, at the element's start.
 pub(crate) fn begin_component(opened: &Start<'_>) -> Result<ComponentPart, XmlReadError>
-    ensures { (v : SpecVersion) → Gives component_part (opened.now.place + 1)
+    ensures { (v : SpecVersion) → GivesAt component_part (opened.now.place + 1)
         (attributes_first component opened.now.element.now.local_name opened.now.attributes.now v
         opened.now.place) result }
 {

@@ -6,7 +6,7 @@ ghost use Rattle.cdx_models.specs.Trees.{component, pedigree};
 ghost use Rattle.cdx_schema.specs.Faults.{lacking};
 ghost use Rattle.cdx_schema.specs.XmlReading.{ended};
 ghost use Rattle.cdx_json.specs.Groups.{group};
-ghost use Rattle.cdx_leaf.specs.Attribute.{Gives};
+ghost use Rattle.cdx_leaf.specs.Attribute.{GivesAt};
 ghost use Rattle.cdx_machine.specs.Records.{record_end};
 ghost use Rattle.cdx_component.specs.Trees.{component_tree, pedigree_tree};
 ghost use Rattle.cdx_component.specs.PartTrees.{naming_trees};
@@ -25,7 +25,7 @@ fn first_child_or_error(
     child: Option<Text>,
     expected: &str,
 ) -> Result<Option<Text>, XmlReadError>
-    ensures { Gives (λ o. o) (closed.now.place + 1)
+    ensures { GivesAt (λ o. o) (closed.now.place + 1)
         (in_first closed.now.version child (lacking closed.now.place
         closed.now.element.now.local_name expected.now)) result }
 {
@@ -39,7 +39,7 @@ fn first_child_or_error(
 /// The rows with the name. `RequiredDataMissing` at the element's end, where the name isn't there, or in 1.3 the
 /// version.
 fn finish_naming(closed: &End<'_>, part: NamingPart) -> Result<Naming, XmlReadError>
-    ensures { Gives naming_trees (closed.now.place + 1)
+    ensures { GivesAt naming_trees (closed.now.place + 1)
         (ended (group 1 component) (naming_part part) closed.now.version
         closed.now.element.now.local_name closed.now.place) result }
 {
@@ -60,7 +60,7 @@ pub(crate) fn finish_component(
     closed: &End<'_>,
     part: ComponentPart,
 ) -> Result<Component, XmlReadError>
-    ensures { Gives component_tree (closed.now.place + 1)
+    ensures { GivesAt component_tree (closed.now.place + 1)
         (record_end component closed.now.element.now.local_name closed.now.version closed.now.place
         (component_part part)) result }
 {

@@ -3,7 +3,7 @@
 ghost use Rattle.std.specs.Prelude.{◌≡◌, not, is_ok, Some, MatchResult};
 ghost use Rattle.cdx_events.specs.Causes.{HasCause};
 ghost use Rattle.cdx_events.specs.Counts.{is_told, AfterCall};
-ghost use Rattle.cdx_events.specs.Told.{Keeps, Gives};
+ghost use Rattle.cdx_events.specs.Told.{Keeps, GivesNext};
 
 use super::{Calls, MemoryEventSource};
 use crate::event::XmlEvent;
@@ -40,7 +40,7 @@ impl EventSource for MemoryEventSource {
 
     fn next(&mut self) -> Result<Option<XmlEvent>, Failed>
         ensures events { MatchResult result
-            (λ given. Gives (Some self.old.left) (Some self.new.left) given)
+            (λ given. GivesNext (Some self.old.left) (Some self.new.left) given)
             (λ _. Keeps (Some self.old.left) (Some self.new.left)) }
         ensures cause { HasCause self.old.counts.faults self.new.counts.faults result }
         // Exactly the calls that are told fail.

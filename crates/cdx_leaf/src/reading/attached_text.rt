@@ -2,7 +2,7 @@
 
 ghost use Rattle.std.specs.Prelude.{◌+◌};
 ghost use Rattle.cdx_models.specs.Trees.{attached_text};
-ghost use Rattle.cdx_leaf.specs.Attribute.{Gives, start_read};
+ghost use Rattle.cdx_leaf.specs.Attribute.{GivesAt, start_read};
 ghost use Rattle.cdx_leaf.specs.Parts.{attached_start};
 
 use crate::attribute::last_attribute;
@@ -11,12 +11,12 @@ use crate::error::Reading;
 use crate::from_xml::FromXml;
 use crate::start::Start;
 use cdx_events::{EventReader, Text};
-use cdx_models::{AttachedText, XmlReadError};
+use cdx_models::AttachedText;
 
 /// What the attributes of an attached text give, its content type and its encoding. Here the last attribute of a local name
 /// counts.
-pub fn begin_attached_text(opened: &Start<'_>) -> Result<(Option<Text>, Option<Text>), XmlReadError>
-    ensures { Gives attached_start (opened.now.place + 1)
+pub fn begin_attached_text(opened: &Start<'_>) -> Reading<(Option<Text>, Option<Text>)>
+    ensures { GivesAt attached_start (opened.now.place + 1)
         (start_read attached_text opened.now.version opened.now.element.now.local_name
         opened.now.attributes.now opened.now.place) result }
 {

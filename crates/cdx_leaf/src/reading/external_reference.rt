@@ -12,7 +12,7 @@ use crate::start::{End, Start};
 use crate::take::take_one;
 use crate::taken::Taken;
 use cdx_events::EventReader;
-use cdx_models::{ExternalReference, ExternalReferences, Uri, XmlReadError};
+use cdx_models::{ExternalReference, ExternalReferences, Uri};
 
 impl Children for ReferencePart {
     ghost use Rattle.cdx_models.specs.Trees.{reference};
@@ -50,7 +50,7 @@ impl XmlRecord for ExternalReference {
 
     ghost by_rows = { λ part. (refl, refl) };
 
-    fn begin(opened: &Start<'_>) -> Result<ReferencePart, XmlReadError> {
+    fn begin(opened: &Start<'_>) -> Reading<ReferencePart> {
         Ok(ReferencePart {
             external_reference_type: required_attribute(opened, "type")?,
             url: None,
@@ -59,7 +59,7 @@ impl XmlRecord for ExternalReference {
         })
     }
 
-    fn finish(closed: &End<'_>, part: ReferencePart) -> Result<ExternalReference, XmlReadError> {
+    fn finish(closed: &End<'_>, part: ReferencePart) -> Reading<ExternalReference> {
         let url = child_or_error(closed, part.url, "url")?;
         Ok(ExternalReference {
             external_reference_type: part.external_reference_type,

@@ -8,7 +8,7 @@ use crate::record::{TextRecord, read_text_record};
 use crate::rule::Rule;
 use crate::start::Start;
 use cdx_events::{EventReader, Text};
-use cdx_models::{Hash, HashValue, Hashes, XmlReadError};
+use cdx_models::{Hash, HashValue, Hashes};
 
 impl TextRecord for Hash {
     ghost use Rattle.cdx_models.specs.Trees.{hash};
@@ -26,7 +26,7 @@ impl TextRecord for Hash {
 
     ghost whole = { hash_whole };
 
-    fn begin(opened: &Start<'_>) -> Result<Text, XmlReadError> {
+    fn begin(opened: &Start<'_>) -> Reading<Text> {
         required_attribute(opened, "alg")
     }
 

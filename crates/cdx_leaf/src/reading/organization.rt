@@ -9,7 +9,7 @@ use crate::start::{End, Start};
 use crate::take::{take_more, take_one};
 use crate::taken::Taken;
 use cdx_events::EventReader;
-use cdx_models::{OrganizationalContact, OrganizationalEntity, XmlReadError};
+use cdx_models::{OrganizationalContact, OrganizationalEntity};
 
 impl Children for OrganizationalContact {
     ghost use Rattle.cdx_models.specs.Trees.{contact};
@@ -47,7 +47,7 @@ impl XmlRecord for OrganizationalContact {
 
     ghost by_rows = { λ part. (refl, refl) };
 
-    fn begin(opened: &Start<'_>) -> Result<OrganizationalContact, XmlReadError> {
+    fn begin(opened: &Start<'_>) -> Reading<OrganizationalContact> {
         Ok(OrganizationalContact {
             bom_ref: attribute_or_none(opened.alloc, opened.attributes, "bom-ref")?,
             name: None,
@@ -56,10 +56,7 @@ impl XmlRecord for OrganizationalContact {
         })
     }
 
-    fn finish(
-        _closed: &End<'_>,
-        part: OrganizationalContact,
-    ) -> Result<OrganizationalContact, XmlReadError> {
+    fn finish(_closed: &End<'_>, part: OrganizationalContact) -> Reading<OrganizationalContact> {
         Ok(part)
     }
 }
@@ -100,7 +97,7 @@ impl XmlRecord for OrganizationalEntity {
 
     ghost by_rows = { λ part. (refl, refl) };
 
-    fn begin(opened: &Start<'_>) -> Result<OrganizationalEntity, XmlReadError> {
+    fn begin(opened: &Start<'_>) -> Reading<OrganizationalEntity> {
         Ok(OrganizationalEntity {
             bom_ref: attribute_or_none(opened.alloc, opened.attributes, "bom-ref")?,
             name: None,
@@ -109,10 +106,7 @@ impl XmlRecord for OrganizationalEntity {
         })
     }
 
-    fn finish(
-        _closed: &End<'_>,
-        part: OrganizationalEntity,
-    ) -> Result<OrganizationalEntity, XmlReadError> {
+    fn finish(_closed: &End<'_>, part: OrganizationalEntity) -> Reading<OrganizationalEntity> {
         Ok(part)
     }
 }

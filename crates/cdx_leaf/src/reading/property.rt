@@ -8,7 +8,7 @@ use crate::record::{TextRecord, read_text_record};
 use crate::rule::Rule;
 use crate::start::Start;
 use cdx_events::{EventReader, Text};
-use cdx_models::{Properties, Property, XmlReadError};
+use cdx_models::{Properties, Property};
 
 impl TextRecord for Property {
     ghost use Rattle.cdx_models.specs.Trees.{property};
@@ -26,7 +26,7 @@ impl TextRecord for Property {
 
     ghost whole = { property_whole };
 
-    fn begin(opened: &Start<'_>) -> Result<Text, XmlReadError> {
+    fn begin(opened: &Start<'_>) -> Reading<Text> {
         required_attribute(opened, "name")
     }
 

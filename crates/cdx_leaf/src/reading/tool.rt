@@ -8,7 +8,7 @@ use crate::start::{End, Start};
 use crate::take::take_one;
 use crate::taken::Taken;
 use cdx_events::EventReader;
-use cdx_models::{SpecVersion, Tool, XmlReadError};
+use cdx_models::{SpecVersion, Tool};
 
 impl Children for Tool {
     ghost use Rattle.cdx_models.specs.Trees.{tool};
@@ -53,7 +53,7 @@ impl XmlRecord for Tool {
 
     ghost by_rows = { λ part. (refl, refl) };
 
-    fn begin(_opened: &Start<'_>) -> Result<Tool, XmlReadError> {
+    fn begin(_opened: &Start<'_>) -> Reading<Tool> {
         Ok(Tool {
             vendor: None,
             name: None,
@@ -63,7 +63,7 @@ impl XmlRecord for Tool {
         })
     }
 
-    fn finish(_closed: &End<'_>, part: Tool) -> Result<Tool, XmlReadError> {
+    fn finish(_closed: &End<'_>, part: Tool) -> Reading<Tool> {
         Ok(part)
     }
 }

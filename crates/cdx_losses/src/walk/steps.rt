@@ -4,7 +4,7 @@ ghost use Rattle.std.specs.Prelude.{◌≡◌, ◌∷◌, ◌++◌, [], length, 
 ghost use Rattle.cdx_schema.specs.Faults.{to_member, to_item};
 ghost use Rattle.cdx_ways.specs.Ways.{behind_step};
 ghost use Rattle.cdx_losses.specs.Losses.{entry_or};
-ghost use Rattle.cdx_losses.specs.Walks.{Adds};
+ghost use Rattle.cdx_losses.specs.Walks.{AddsLosses};
 
 use super::Walk;
 use crate::loss::{Loss, Reason};
@@ -72,7 +72,7 @@ impl Walk {
 
     /// Adds what stands where the walk stands.
     pub(crate) fn record(&mut self, reason: Reason) -> Result<(), AllocError>
-        ensures { OnOk result (Adds (([], reason) ∷ []) self.old self.new) }
+        ensures { OnOk result (AddsLosses (([], reason) ∷ []) self.old self.new) }
     {
         let path = copy_path(self.alloc, self.path.as_slice())?;
         self.losses.push(Loss { path, reason })?;
@@ -86,7 +86,7 @@ impl Walk {
         reason: Option<Reason>,
     ) -> Result<(), AllocError>
         ensures { OnOk result
-            (Adds (behind_step (to_member name.now) (entry_or reason [])) self.old self.new) }
+            (AddsLosses (behind_step (to_member name.now) (entry_or reason [])) self.old self.new) }
     {
         match reason {
             None => Ok(()),

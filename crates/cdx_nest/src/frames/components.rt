@@ -1,11 +1,11 @@
 //! Components, lists of components and pedigrees, by their own frames.
 
 ghost use Rattle.std.specs.Prelude.{◌≡◌, ◌+◌, Some, IfOk, OnOk};
-ghost use Rattle.cdx_leaf.specs.Attribute.{Gives};
+ghost use Rattle.cdx_leaf.specs.Attribute.{GivesAt};
 ghost use Rattle.cdx_machine.specs.Several.{Puts};
 ghost use Rattle.cdx_nest_machine.specs.declared.nested.Reads.TheVariants.{Nested};
 ghost use Rattle.cdx_nest_machine.specs.Children.{HasReader};
-ghost use Rattle.cdx_nest_machine.specs.Forms.{plan_of, first_of, last_of};
+ghost use Rattle.cdx_nest_machine.specs.Forms.{plan_of, first_of, last_step};
 ghost use Rattle.cdx_component.specs.declared.frames.ComponentKind.{ComponentKind as Kinds};
 ghost use Rattle.cdx_component.specs.Frames.{kind_of, frame_kind as component_frame_kind, frame_fields as component_fields, value_kind as component_value_kind, value_tree as component_value_tree};
 ghost use Rattle.cdx_nest.specs.Frames.{of_component, nest_kind, frame_kind, frame_fields, value_kind, value_tree, reader_of};
@@ -24,7 +24,7 @@ pub(crate) fn begin_in_components(
     opened: &Start<'_>,
 ) -> Result<NestFrame, XmlReadError>
     ensures sort { IfOk result (λ x. frame_kind x ≡ of_component kind) }
-    ensures gives { Gives frame_fields (opened.now.place + 1)
+    ensures gives { GivesAt frame_fields (opened.now.place + 1)
         (first_of (kind_of kind) opened.now.element.now.local_name opened.now.attributes.now
         opened.now.version opened.now.place) result }
 {
@@ -93,8 +93,8 @@ pub(crate) fn finish_in_components(
     closed: &End<'_>,
 ) -> Result<NestValue, XmlReadError>
     ensures sort { IfOk result (λ x. value_kind x ≡ of_component (component_frame_kind frame)) }
-    ensures gives { Gives value_tree (closed.now.place + 1)
-        (last_of (nest_kind (of_component (component_frame_kind frame)))
+    ensures gives { GivesAt value_tree (closed.now.place + 1)
+        (last_step (nest_kind (of_component (component_frame_kind frame)))
         closed.now.element.now.local_name closed.now.version closed.now.place
         (component_fields frame)) result }
 {

@@ -3,7 +3,7 @@
 ghost use Rattle.std.specs.Prelude.{◌≡◌, ◌+◌, ◌||◌, not, Some, OnOk};
 ghost use Rattle.cdx_models.specs.Trees.{Trees, absent, more, two, present, is_absent};
 ghost use Rattle.cdx_schema.specs.XmlReading.{tools_object_of, tools_plan};
-ghost use Rattle.cdx_leaf.specs.Attribute.{Gives};
+ghost use Rattle.cdx_leaf.specs.Attribute.{GivesAt};
 ghost use Rattle.cdx_machine.specs.Several.{at_position, found_from, Puts};
 ghost use Rattle.cdx_nest_machine.specs.declared.nested.Reads.TheVariants.{Leaf, Nested};
 ghost use Rattle.cdx_nest_machine.specs.Children.{HasReader};
@@ -144,7 +144,7 @@ fn has_object(part: &ToolsPart) -> bool
 /// of `tool array or services & components` at the element's end, exactly where services or components stand beside a
 /// tool.
 pub(crate) fn finish_tools(closed: &End<'_>, part: ToolsPart) -> Result<Tools, XmlReadError>
-    ensures { Gives tools_tree (closed.now.place + 1)
+    ensures { GivesAt tools_tree (closed.now.place + 1)
         (tools_last closed.now.element.now.local_name closed.now.version closed.now.place
         (tools_part part)) result }
 {

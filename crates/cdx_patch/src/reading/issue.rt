@@ -11,7 +11,6 @@ use cdx_events::EventReader;
 use cdx_leaf::{
     Children, End, Reading, Rule, Start, Taken, XmlRecord, required_attribute, take_list, take_one,
 };
-use cdx_models::XmlReadError;
 
 impl Children for Source {
     ghost slots = { source_slots };
@@ -40,14 +39,14 @@ impl XmlRecord for Source {
 
     ghost by_rows = { λ part. (refl, refl) };
 
-    fn begin(_opened: &Start<'_>) -> Result<Source, XmlReadError> {
+    fn begin(_opened: &Start<'_>) -> Reading<Source> {
         Ok(Source {
             name: None,
             url: None,
         })
     }
 
-    fn finish(_closed: &End<'_>, part: Source) -> Result<Source, XmlReadError> {
+    fn finish(_closed: &End<'_>, part: Source) -> Reading<Source> {
         Ok(part)
     }
 }
@@ -82,7 +81,7 @@ impl XmlRecord for Issue {
 
     ghost by_rows = { λ part. (refl, refl) };
 
-    fn begin(opened: &Start<'_>) -> Result<Issue, XmlReadError> {
+    fn begin(opened: &Start<'_>) -> Reading<Issue> {
         Ok(Issue {
             issue_type: required_attribute(opened, "type")?,
             id: None,
@@ -93,7 +92,7 @@ impl XmlRecord for Issue {
         })
     }
 
-    fn finish(_closed: &End<'_>, part: Issue) -> Result<Issue, XmlReadError> {
+    fn finish(_closed: &End<'_>, part: Issue) -> Reading<Issue> {
         Ok(part)
     }
 }

@@ -12,7 +12,6 @@ use cdx_leaf::{
     Children, End, FromXml, Reading, Rule, Start, Taken, XmlRecord, read_items, required_attribute,
     take_list, take_one,
 };
-use cdx_models::XmlReadError;
 
 impl Children for Diff {
     ghost slots = { diff_slots };
@@ -41,14 +40,14 @@ impl XmlRecord for Diff {
 
     ghost by_rows = { λ part. (refl, refl) };
 
-    fn begin(_opened: &Start<'_>) -> Result<Diff, XmlReadError> {
+    fn begin(_opened: &Start<'_>) -> Reading<Diff> {
         Ok(Diff {
             text: None,
             url: None,
         })
     }
 
-    fn finish(_closed: &End<'_>, part: Diff) -> Result<Diff, XmlReadError> {
+    fn finish(_closed: &End<'_>, part: Diff) -> Reading<Diff> {
         Ok(part)
     }
 }
@@ -80,7 +79,7 @@ impl XmlRecord for Patch {
 
     ghost by_rows = { λ part. (refl, refl) };
 
-    fn begin(opened: &Start<'_>) -> Result<Patch, XmlReadError> {
+    fn begin(opened: &Start<'_>) -> Reading<Patch> {
         Ok(Patch {
             patch_type: required_attribute(opened, "type")?,
             diff: None,
@@ -88,7 +87,7 @@ impl XmlRecord for Patch {
         })
     }
 
-    fn finish(_closed: &End<'_>, part: Patch) -> Result<Patch, XmlReadError> {
+    fn finish(_closed: &End<'_>, part: Patch) -> Reading<Patch> {
         Ok(part)
     }
 }

@@ -13,7 +13,7 @@ use cdx_leaf::{
     Children, End, FromXml, Reading, Rule, Start, Taken, XmlRecord, attribute_or_error,
     attribute_since, child_or_error, closing_tag_or_error, read_items, take_list, take_one,
 };
-use cdx_models::{SpecVersion, XmlReadError};
+use cdx_models::SpecVersion;
 
 impl FromXml for BomReference {
     ghost depth = { λ d. d };
@@ -85,7 +85,7 @@ impl XmlRecord for Composition {
 
     ghost by_rows = { λ part. (refl, refl) };
 
-    fn begin(opened: &Start<'_>) -> Result<CompositionPart, XmlReadError> {
+    fn begin(opened: &Start<'_>) -> Reading<CompositionPart> {
         Ok(CompositionPart {
             bom_ref: attribute_since(opened, SpecVersion::V1_5, "bom-ref")?,
             aggregate: None,
@@ -96,7 +96,7 @@ impl XmlRecord for Composition {
         })
     }
 
-    fn finish(closed: &End<'_>, part: CompositionPart) -> Result<Composition, XmlReadError> {
+    fn finish(closed: &End<'_>, part: CompositionPart) -> Reading<Composition> {
         let aggregate = child_or_error(closed, part.aggregate, "aggregate")?;
         Ok(Composition {
             bom_ref: part.bom_ref,

@@ -16,7 +16,6 @@ use cdx_events::{EventReader, List, Text};
 use cdx_leaf::{
     Children, End, FromXml, Reading, Rule, Start, Taken, XmlRecord, read_items, required_attribute,
 };
-use cdx_models::XmlReadError;
 
 // Reads a reference to the end of the list of its texts.
 fn take_reference(
@@ -60,14 +59,14 @@ impl XmlRecord for Dependency {
 
     ghost by_rows = { λ part. (refl, refl) };
 
-    fn begin(opened: &Start<'_>) -> Result<Dependency, XmlReadError> {
+    fn begin(opened: &Start<'_>) -> Reading<Dependency> {
         Ok(Dependency {
             dependency_ref: required_attribute(opened, "ref")?,
             depends_on: List::new(opened.alloc),
         })
     }
 
-    fn finish(_closed: &End<'_>, part: Dependency) -> Result<Dependency, XmlReadError> {
+    fn finish(_closed: &End<'_>, part: Dependency) -> Reading<Dependency> {
         Ok(part)
     }
 }

@@ -6,7 +6,7 @@ ghost use Rattle.cdx_models.specs.declared.bom.SpecVersion.{SpecVersion};
 ghost use Rattle.cdx_schema.specs.Table.{rows};
 ghost use Rattle.cdx_schema.specs.XmlReading.{attributes_read, ended};
 ghost use Rattle.cdx_json.specs.Groups.{group};
-ghost use Rattle.cdx_leaf.specs.Attribute.{Gives};
+ghost use Rattle.cdx_leaf.specs.Attribute.{GivesAt};
 ghost use Rattle.cdx_machine.specs.Records.{record_end};
 ghost use Rattle.cdx_service.specs.Trees.{service_tree};
 ghost use Rattle.cdx_service.specs.PartTrees.{service_naming_trees};
@@ -76,7 +76,7 @@ pub(crate) fn begin_service(
 
 // The rows that were read. `RequiredDataMissing` at the element's end, where there is no name.
 fn finish_naming(closed: &End<'_>, part: NamingPart) -> Result<ServiceNaming, XmlReadError>
-    ensures { (v : SpecVersion) → Gives service_naming_trees (closed.now.place + 1)
+    ensures { (v : SpecVersion) → GivesAt service_naming_trees (closed.now.place + 1)
         (ended (group 0 service) (naming_part part) v closed.now.element.now.local_name
         closed.now.place) result }
 {
@@ -93,7 +93,7 @@ fn finish_naming(closed: &End<'_>, part: NamingPart) -> Result<ServiceNaming, Xm
 
 /// The service that was read. `RequiredDataMissing` at the element's end, where it has no name.
 pub(crate) fn finish_service(closed: &End<'_>, part: ServicePart) -> Result<Service, XmlReadError>
-    ensures { (v : SpecVersion) → Gives service_tree (closed.now.place + 1)
+    ensures { (v : SpecVersion) → GivesAt service_tree (closed.now.place + 1)
         (record_end service closed.now.element.now.local_name v closed.now.place
         (service_part part)) result }
 {

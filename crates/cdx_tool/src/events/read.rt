@@ -4,7 +4,7 @@ ghost use Rattle.std.specs.Prelude.{◌≡◌, ◌+◌, option_map, IfOk, IsNone
 ghost use Rattle.serde_json.specs.Data.{object, member, no_members, string};
 ghost use Rattle.serde_json.specs.View.{view};
 ghost use Rattle.cdx_tool.specs.LoneMember.{lone_member};
-ghost use Rattle.cdx_request.specs.EventReading.{name_at, name_count, attribute_of, if_attributes, mark_of, start_count, start_parts, start_event, end_event, event_of, events_of};
+ghost use Rattle.cdx_request.specs.EventReading.{name_at, name_count, attribute_meant, if_attributes, mark_of, start_count, start_parts, start_event, end_event, event_of, events_of};
 
 use crate::part::{
     Part, count_members, count_named, has_member, lone_member, read_items, read_text_if, text_at,
@@ -40,7 +40,7 @@ fn count_name(value: &Value) -> usize
 }
 
 impl Part for OwnedAttribute {
-    ghost part_of = { attribute_of };
+    ghost part_of = { attribute_meant };
 
     fn from_value(alloc: Global, value: &Value) -> Result<Option<OwnedAttribute>, AllocError> {
         if count_members(value) != count_name(value) + 1 {

@@ -7,7 +7,7 @@ ghost use Rattle.std.specs.Prelude.{codes};
 ghost use Rattle.cdx_bom.specs.Docs.{IsDoc, hops_of};
 ghost use Rattle.cdx_request.specs.Requests.{sent_of, sent_under, doc_of, doc_in, hops_at, asked_of, request_if, request_of};
 ghost use Rattle.cdx_request.specs.EventReading.{events_of};
-ghost use Rattle.cdx_tool.specs.Reads.{Reads, ReadsIf, IsRequest, sent_in, asked_in, form_read, hop_read};
+ghost use Rattle.cdx_tool.specs.Reads.{ReadsOwed, ReadsIf, IsRequest, sent_in, asked_in, form_read, hop_read};
 
 use super::sent::{Asked, Sent};
 use super::{Request, RequestError};
@@ -88,7 +88,7 @@ fn take_sent(alloc: Global, value: Value) -> Result<Option<Sent>, AllocError>
 }
 
 fn balanced(alloc: Global, events: List<XmlEvent>) -> Result<Doc, RequestError>
-    ensures { Reads IsDoc (doc_of (sent_in (Sent.Xml events))) result }
+    ensures { ReadsOwed IsDoc (doc_of (sent_in (Sent.Xml events))) result }
 {
     cdx_request::breaks();
     match Events::from_list(alloc, events) {
@@ -99,7 +99,7 @@ fn balanced(alloc: Global, events: List<XmlEvent>) -> Result<Doc, RequestError>
 }
 
 fn settle(alloc: Global, sent: Sent) -> Result<Doc, RequestError>
-    ensures { Reads IsDoc (doc_of (sent_in sent)) result }
+    ensures { ReadsOwed IsDoc (doc_of (sent_in sent)) result }
 {
     match sent {
         Sent::Json(value) => Ok(Doc::Json(value)),
@@ -113,7 +113,7 @@ fn settle(alloc: Global, sent: Sent) -> Result<Doc, RequestError>
 /// `Shape` comes exactly where the value is no such object, and else `Unbalanced` exactly where the events aren't
 /// balanced.
 pub fn read_doc(alloc: Global, value: &Value) -> Result<Doc, RequestError>
-    ensures { Reads IsDoc (doc_in (view value.now)) result }
+    ensures { ReadsOwed IsDoc (doc_in (view value.now)) result }
 {
     match read_sent(alloc, value)? {
         None => Err(RequestError::Shape),
@@ -123,7 +123,7 @@ pub fn read_doc(alloc: Global, value: &Value) -> Result<Doc, RequestError>
 
 /// `read_doc` of a value that nothing else needs, so that no JSON is copied.
 pub fn take_doc(alloc: Global, value: Value) -> Result<Doc, RequestError>
-    ensures { Reads IsDoc (doc_in (view value)) result }
+    ensures { ReadsOwed IsDoc (doc_in (view value)) result }
 {
     match take_sent(alloc, value)? {
         None => Err(RequestError::Shape),
@@ -175,7 +175,7 @@ fn read_asked(alloc: Global, value: &Value) -> Result<Option<Asked>, AllocError>
 
 // The request of its parts, once the document's events are balanced.
 fn settle_all(alloc: Global, asked: Asked) -> Result<Request, RequestError>
-    ensures { Reads IsRequest (request_if (Some (asked_in asked))) result }
+    ensures { ReadsOwed IsRequest (request_if (Some (asked_in asked))) result }
 {
     let doc = settle(alloc, asked.sent)?;
     Ok(Request {
@@ -209,7 +209,7 @@ fn take_asked(alloc: Global, value: Value) -> Result<Option<Asked>, AllocError>
 
 /// `read_request` of a value that nothing else needs, so that its document isn't copied.
 pub fn take_request(alloc: Global, value: Value) -> Result<Request, RequestError>
-    ensures { Reads IsRequest (request_of (view value)) result }
+    ensures { ReadsOwed IsRequest (request_of (view value)) result }
 {
     match take_asked(alloc, value)? {
         None => Err(RequestError::Shape),
@@ -223,7 +223,7 @@ pub fn take_request(alloc: Global, value: Value) -> Result<Request, RequestError
 /// `Shape` comes exactly where the value is no such object, and else `Unbalanced` exactly where the document's events
 /// aren't balanced.
 pub fn read_request(alloc: Global, value: &Value) -> Result<Request, RequestError>
-    ensures { Reads IsRequest (request_of (view value.now)) result }
+    ensures { ReadsOwed IsRequest (request_of (view value.now)) result }
 {
     match read_asked(alloc, value)? {
         None => Err(RequestError::Shape),

@@ -4,7 +4,7 @@ ghost use Rattle.std.specs.Prelude.{◌≡◌, IfOk};
 ghost use Rattle.cdx_models.specs.Trees.{bill};
 ghost use Rattle.cdx_json.specs.Groups.{group};
 ghost use Rattle.cdx_json.specs.KeptRows.{rows_held};
-ghost use Rattle.cdx_bom.specs.Trees.{inventory, relations};
+ghost use Rattle.cdx_bom.specs.Trees.{inventory_groups, relations};
 ghost use Rattle.cdx_bom.specs.PartTrees.{inventory_trees, relations_trees};
 
 use crate::bom::Bom;
@@ -17,7 +17,7 @@ use std::alloc::AllocError;
 #[tactic(auto, unfolding(cdx_json::proofs::OnRows::on_rows))]
 pub(crate) fn keep_inventory(held: &Bom, keeping: Keeping) -> Result<Inventory, AllocError>
     ensures { IfOk result
-        (λ r. inventory_trees r ≡ rows_held keeping.version keeping.label (inventory held.now)
+        (λ r. inventory_trees r ≡ rows_held keeping.version keeping.label (inventory_groups held.now)
         (group 0 bill)) }
 {
     let old_label = Label {

@@ -5,7 +5,7 @@ ghost use Rattle.serde_json.specs.View.{members_view};
 ghost use Rattle.cdx_models.specs.Trees.{bill};
 ghost use Rattle.cdx_json.specs.Groups.{group};
 ghost use Rattle.cdx_json.specs.KeptRows.{rows_put};
-ghost use Rattle.cdx_bom.specs.Trees.{inventory, relations};
+ghost use Rattle.cdx_bom.specs.Trees.{inventory_groups, relations};
 
 use crate::bom::Bom;
 use crate::bom::json::label::Label;
@@ -16,7 +16,7 @@ use std::alloc::AllocError;
 
 pub(crate) fn put_inventory(held: &Bom, map: &mut Members, target: Target) -> Result<(), AllocError>
     ensures { OnOk result (members_view map.new.entries
-        ≡ rows_put (inventory held.now) target.version (group 0 bill)
+        ≡ rows_put (inventory_groups held.now) target.version (group 0 bill)
         (members_view map.old.entries)) }
 {
     let label = Label {

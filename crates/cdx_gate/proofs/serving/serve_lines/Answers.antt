@@ -1,6 +1,6 @@
 use Rattle.std.proofs.Common.{◌+◌, drop, arith, rules, sym, subst, ◌∙◌}
 use Rattle.std.proofs.lemmas.List.{length-take}
-use Rattle.cdx_gate.specs.Gate.{Stands}
+use Rattle.cdx_gate.specs.Gate.{HasServed}
 use Rattle.cdx_gate.proofs.Served.{flushed_on}
 use Rattle.cdx_gate.proofs.Owed.{fault_ends, end_ends, turn_ends, turn_takes, beyond_ends, goes_on}
 use Rattle.cdx_gate.proofs.serving.serve_lines.Goals as goal
@@ -11,7 +11,7 @@ returns-in-Err-clause-table g c = fault_ends _ _ _ _ _ _ _ c.loop-count.invarian
 pub returns-then-count-eq0-clause-table : goal.returns-then-count-eq0-clause-table
 returns-then-count-eq0-clause-table g c =
     let written = g.K.Sink.written in
-    end_ends c.args.limit c.loop-count.left _ _ _ _ (written c.loop-count.sink) (written c.answer_last.new.sink) c.loop-count.line.items c.take.new.buf c.in-Ok.count c.answer_last.result c.if-count-eq0.true c.loop-count.invariant.so_far c.in-Ok.ensures.bytes.0 (search rules) (λ taken first s. c.answer_last.ensures.table taken first (subst (λ h. Stands taken first (written c.loop-count.sink) h) (sym c.as_slice.ensures.value) s))
+    end_ends c.args.limit c.loop-count.left _ _ _ _ (written c.loop-count.sink) (written c.answer_last.new.sink) c.loop-count.line.items c.take.new.buf c.in-Ok.count c.answer_last.result c.if-count-eq0.true c.loop-count.invariant.so_far c.in-Ok.ensures.bytes.0 (search rules) (λ taken first s. c.answer_last.ensures.table taken first (subst (λ h. HasServed taken first (written c.loop-count.sink) h) (sym c.as_slice.ensures.value) s))
 
 pub returns-in-Err-answer_ended-clause-table : goal.returns-in-Err-answer_ended-clause-table
 returns-in-Err-answer_ended-clause-table g c =

@@ -3,7 +3,7 @@ use Rattle.serde_json.specs.View.{view}
 use Rattle.cdx_request.specs.Replies.{Reply}
 use Rattle.cdx_request.specs.Requests.{request_of}
 use Rattle.cdx_tool.specs.Shows.{reply_of}
-use Rattle.cdx_losses.specs.Report.{reply_to_request}
+use Rattle.cdx_losses.specs.Report.{losses_reply}
 use Rattle.cdx_losses.proofs.Reported.{asked_for, answer_in, reply_in, misreads}
 use Rattle.cdx_losses.proofs.answering.answer_asked.Goals as goal
 
@@ -16,7 +16,7 @@ answer_lack-requires c = let o = request_of (view c.args.value) in (asked_for o,
 pub returns-in-Ok : goal.returns-in-Ok
 returns-in-Ok c =
     let q = c.in-Ok.ensures in
-    subst (λ (r : Reply). IfOk c.answer_request.result (λ a. reply_of a ≡ r)) (ap reply_to_request (sym q.1)) (c.answer_request.ensures q.0 q.2)
+    subst (λ (r : Reply). IfOk c.answer_request.result (λ a. reply_of a ≡ r)) (ap losses_reply (sym q.1)) (c.answer_request.ensures q.0 q.2)
 
 pub returns-in-Err : goal.returns-in-Err
 returns-in-Err c =

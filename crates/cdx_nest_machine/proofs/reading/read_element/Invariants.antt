@@ -14,7 +14,7 @@ invariant-events g l =
     let e = g.F.Leaf.Leaves in
     record {
       fed : (s : Namespace) (p : ℕ) (nodes : Nodes) (rest : List XmlEvent) → Stands l.fn.reader l.fn.opened.element.now p nodes rest
-          → Feeding (λ m v p d o. stack_holds (shape_of f.as_kind f.sort_of f.fields f.child_of) (leaf_holds f.as_kind f.child_of e.sort_of e.holds) f.sort_of f.fields l.fn.sort m.below.items m.top m.v m.inside v p d o) l.fn.opened.version l.fn.opened.element.now l.fn.opened.attributes.now s p nodes rest (depth_of l.fn.depth) l.reader l.machine;
+          → Feeding (λ m v p d o. stack_holds (shape_of f.as_kind f.sort_of f.fields f.child_of) (leaf_holds f.as_kind f.child_of e.sort_of e.holds) f.sort_of f.fields l.fn.sort m.below.items m.top m.version m.inside v p d o) l.fn.opened.version l.fn.opened.element.now l.fn.opened.attributes.now s p nodes rest (depth_of l.fn.depth) l.reader l.machine;
     }
 
 abbrev pub decreases-events : goal.decreases-events

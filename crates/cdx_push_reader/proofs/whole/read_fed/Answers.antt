@@ -1,6 +1,6 @@
 use Rattle.std.proofs.Common.{[], subst, ◌∙◌, rules}
 use Rattle.cdx_events.specs.Nodes.{IsBalanced}
-use Rattle.cdx_push_reader.specs.PushAnswers.{version_of, is_spent}
+use Rattle.cdx_push_reader.specs.PushAnswers.{reader_version, is_spent}
 use Rattle.cdx_push_reader.specs.Documents.{ReadsDocument}
 use Rattle.cdx_push_reader.proofs.Documents.{reads_document, reads_shallow, reads_refused, answered}
 use Rattle.cdx_push_reader.proofs.whole.read_fed.Goals as goal
@@ -12,7 +12,7 @@ pub returns-clause-reads : goal.returns-clause-reads
 returns-clause-reads g c =
     let piece = c.as_slice.ensures in
     reads_document g.M.RootMachine.tree c.args.version c.args.events.now.list (subst IsBalanced piece.items piece.balanced) c.finish.result
-    (answered g.M.RootMachine.tree (version_of c.feed.new.self) c.args.version c.as_slice.result.now c.args.events.now.list c.finish.result (is_spent c.feed.new.self)
+    (answered g.M.RootMachine.tree (reader_version c.feed.new.self) c.args.version c.as_slice.result.now c.args.events.now.list c.finish.result (is_spent c.feed.new.self)
     (λ s. c.finish.ensures.answer c.as_slice.result.now (c.feed.ensures.heard [] c.new-reader.ensures.heard) s) (λ s. c.finish.ensures.again s) (c.feed.ensures.version ∙ c.new-reader.ensures.version) piece.items)
 
 pub returns-clause-shallow : goal.returns-clause-shallow

@@ -14,7 +14,7 @@ use Rattle.cdx_write.proofs.Appended.{first_fails, then_all, last_row, item_fail
 use Rattle.cdx_write.proofs.Lists.{items_put}
 use Rattle.cdx_write.proofs.RowWords.{appends_same, nothing_added, child_none}
 use Rattle.cdx_component.specs.declared.component.Component.TheViews.{out-Component, out-Pedigree}
-use Rattle.cdx_component.specs.Trees.{component_tree, components_tree, pedigree_tree, origin, naming, marks, contents, component_fields, pedigree_fields, listed}
+use Rattle.cdx_component.specs.Trees.{component_tree, components_tree, pedigree_tree, origin, naming, marks, contents, component_fields, pedigree_fields, listed_components}
 use Rattle.cdx_component.proofs.Written.{component_in_groups, component_made, pedigree_made, component_item, pedigree_child, components_inner, components_made, components_child}
 use Rattle.cdx_component.proofs.writing.elements.+component_elements.Goals as goal
 
@@ -136,14 +136,14 @@ write_items-returns-in_err-write_component t c =
     let x = c.item-item.result in
     let f = items_put component_tree (codes "component") (a_record component) c.args.target.version in
     let new = c.write_component.new.writer in
-    let all = flat_map f (listed c.args.held.now) in
+    let all = flat_map f (listed_components c.args.held.now) in
     rw (p.1, p.2) (appends_same c.args.writer.now new (all ++ []) (inner (components_tree c.args.held.now) c.args.target.version (a_list components)) (Err _) (append-nil all ∙ components_inner c.args.target.version c.args.held.now)
-    (item_fails f c.args.writer.now c.loop-item.writer new [] c.deref-item-items.result.now (listed c.args.held.now) c.loop-item.item-index x _ c.deref-item-items.ensures.value c.loop-item-test.true c.item-item.is c.loop-item.invariant
+    (item_fails f c.args.writer.now c.loop-item.writer new [] c.deref-item-items.result.now (listed_components c.args.held.now) c.loop-item.item-index x _ c.deref-item-items.ensures.value c.loop-item-test.true c.item-item.is c.loop-item.invariant
     (appends_same c.loop-item.writer new (written (component_tree x) c.args.target.version (codes "component") (a_record component)) (item_put (codes "component") (a_record component) (component_tree x) c.args.target.version) (Err _) (component_item (codes "component") c.args.target.version x) c.in_err-write_component.ensures)))
 
 pub write_items-returns : goal.write_items-returns
 write_items-returns t c =
-    items_end (items_put component_tree (codes "component") (a_record component) c.args.target.version) c.args.writer.now c.loop-item.writer c.deref-item-items.result.now (listed c.args.held.now) c.loop-item.item-index c.deref-item-items.ensures.value c.loop-item-test.false c.loop-item.invariant
+    items_end (items_put component_tree (codes "component") (a_record component) c.args.target.version) c.args.writer.now c.loop-item.writer c.deref-item-items.result.now (listed_components c.args.held.now) c.loop-item.item-index c.deref-item-items.ensures.value c.loop-item-test.false c.loop-item.invariant
     ∙ ap (λ s. c.args.writer.now ++ s) (components_inner c.args.target.version c.args.held.now)
 
 pub write_rows-returns-in_err-write_origin_rows : goal.write_rows-returns-in_err-write_origin_rows

@@ -1,7 +1,7 @@
 use Rattle.std.proofs.Common.{subst}
 use Rattle.cdx_schema.specs.XmlReading.{number_in}
 use Rattle.cdx_models.specs.Trees.{number}
-use Rattle.cdx_leaf.specs.Reading.{Reads, after}
+use Rattle.cdx_leaf.specs.Reading.{Reads, behind_end}
 use Rattle.cdx_leaf.proofs.Parts.{number_kind_is}
 use Rattle.cdx_leaf.proofs.texts.U32FromXml.read_from.Goals as goal
 
@@ -9,4 +9,4 @@ pub returns : goal.returns
 returns c = λ d ns p nodes rest st.
     let old = c.args.reader.now in
     let new = c.read_u32_tag.new.reader in
-    rw (number_kind_is c.args.opened.now.version c.args.opened.now.element.now c.args.opened.now.attributes.now ns d p nodes) (subst (λ q. Reads number old new (after old nodes rest) (number_in nodes c.args.opened.now.element.now.local_name q) c.read_u32_tag.result) st.place (c.read_u32_tag.ensures nodes rest st.at))
+    rw (number_kind_is c.args.opened.now.version c.args.opened.now.element.now c.args.opened.now.attributes.now ns d p nodes) (subst (λ q. Reads number old new (behind_end old nodes rest) (number_in nodes c.args.opened.now.element.now.local_name q) c.read_u32_tag.result) st.place (c.read_u32_tag.ensures nodes rest st.at))

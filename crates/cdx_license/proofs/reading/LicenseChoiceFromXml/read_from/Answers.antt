@@ -4,7 +4,7 @@ use Rattle.std.proofs.lemmas.Result.{err_from_is_err_and}
 use Rattle.cdx_license.specs.Records.{choice_tree}
 use Rattle.cdx_schema.specs.Faults.{lacking}
 use Rattle.cdx_leaf.specs.Fault.{Refused}
-use Rattle.cdx_leaf.specs.Reading.{after}
+use Rattle.cdx_leaf.specs.Reading.{behind_end}
 use Rattle.cdx_license.proofs.Identifiers.{choice_license, choice_expression, choice_none}
 use Rattle.cdx_leaf.proofs.Loop.{refused_near}
 use Rattle.cdx_leaf.proofs.Whole.{start_is, start_near}
@@ -32,5 +32,5 @@ pub returns : goal.returns
 returns c = λ d ns p nodes rest st.
     let near = start_near c.args.reader.now.place p st.place in
     let fault = lacking p c.args.opened.now.element.now.local_name (codes "license or expression") in
-    refused_near choice_tree c.args.reader.now c.args.reader.now (after c.args.reader.now nodes rest) _ c.refuse_missing.result fault
+    refused_near choice_tree c.args.reader.now c.args.reader.now (behind_end c.args.reader.now nodes rest) _ c.refuse_missing.result fault
     (subst (λ x. Refused c.refuse_missing.result (lacking x c.args.opened.now.element.now.local_name (codes "license or expression"))) (start_is c.args.reader.now.place c.place.result p (sym c.place.ensures) st.place) c.refuse_missing.ensures) near.0 near.1 (choice_none c.args.opened.now.version c.args.opened.now.element.now c.args.opened.now.attributes.now ns d p nodes c.if-is.ensures c.if-is-2.ensures)

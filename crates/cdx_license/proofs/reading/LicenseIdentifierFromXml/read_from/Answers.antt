@@ -6,7 +6,7 @@ use Rattle.cdx_schema.specs.Faults.{lacking}
 use Rattle.cdx_schema.specs.Table.{rows}
 use Rattle.cdx_schema.specs.XmlReading.{exact_text, ended}
 use Rattle.cdx_leaf.specs.Fault.{Refused}
-use Rattle.cdx_leaf.specs.Reading.{after}
+use Rattle.cdx_leaf.specs.Reading.{behind_end}
 use Rattle.cdx_license.specs.Records.{identifier_tree}
 use Rattle.cdx_leaf.specs.RowContents.{content_is}
 use Rattle.cdx_leaf.proofs.Attributes.{row_ok, rows_end}
@@ -45,5 +45,5 @@ pub returns : goal.returns
 returns c = λ d ns p nodes rest st.
     let near = start_near c.args.reader.now.place p st.place in
     let fault = lacking p c.args.opened.now.element.now.local_name (codes "id or name") in
-    refused_near identifier_tree c.args.reader.now c.args.reader.now (after c.args.reader.now nodes rest) _ c.refuse_missing.result fault
+    refused_near identifier_tree c.args.reader.now c.args.reader.now (behind_end c.args.reader.now nodes rest) _ c.refuse_missing.result fault
     (subst (λ x. Refused c.refuse_missing.result (lacking x c.args.opened.now.element.now.local_name (codes "id or name"))) (start_is c.args.reader.now.place c.place.result p (sym c.place.ensures) st.place) c.refuse_missing.ensures) near.0 near.1 (identifier_none c.args.opened.now.version c.args.opened.now.element.now c.args.opened.now.attributes.now ns d p nodes c.if-is.ensures c.if-is-2.ensures)

@@ -1,5 +1,5 @@
 use Rattle.std.proofs.Common.{◌+◌, true, false, Ok, sym, ap, ◌∙◌, subst, arith}
-use Rattle.cdx_leaf.specs.Fault.{Fails}
+use Rattle.cdx_leaf.specs.Fault.{FailsAt}
 use Rattle.cdx_nest_machine.specs.Forms.{tools_last}
 use Rattle.cdx_nest.specs.Reading.{tools_part}
 use Rattle.cdx_nest.proofs.ReadTools.{without_tool, with_tools}
@@ -12,7 +12,7 @@ returns-then-len-eq0 c =
 pub returns-then-has_object : goal.returns-then-has_object
 returns-then-has_object c =
     let is = with_tools c.args.closed.now.version c.args.closed.now.element.now.local_name c.args.closed.now.place c.args.part c.len.result c.has_object.result true c.len.ensures c.if-len-eq0.false c.has_object.ensures c.if-has_object.true in
-    subst (λ x. Fails x (c.args.closed.now.place + 1) (tools_last c.args.closed.now.element.now.local_name c.args.closed.now.version c.args.closed.now.place (tools_part c.args.part))) (sym c.in_ok-required_data_missing.ensures) (is, omega arith)
+    subst (λ x. FailsAt x (c.args.closed.now.place + 1) (tools_last c.args.closed.now.element.now.local_name c.args.closed.now.version c.args.closed.now.place (tools_part c.args.part))) (sym c.in_ok-required_data_missing.ensures) (is, omega arith)
 
 pub returns : goal.returns
 returns c =

@@ -15,4 +15,4 @@ returns-in_err-machine-clause-opens c = λ s.
 
 pub returns-clause-opens : goal.returns-clause-opens
 returns-clause-opens c = λ s.
-    opens_ok _ _ c.args.version (nest_kind c.args.kind) c.args.place (depth_of c.args.depth) (StartElement c.args.element.now c.args.attributes.now s ∷ []) c.in_ok-machine.machine _ (λ h. (refl, h)) (stack_opens (λ m v p d o. held c.args.kind m.below.items m.top m.v m.inside v p d o) (nest_kind c.args.kind) c.args.version c.args.place (depth_of c.args.depth) c.args.element.now c.args.attributes.now s (Ok c.in_ok-machine.machine) c.in_ok-machine.ensures)
+    opens_ok _ _ c.args.version (nest_kind c.args.kind) c.args.place (depth_of c.args.depth) (StartElement c.args.element.now c.args.attributes.now s ∷ []) c.in_ok-machine.machine _ (λ h. (refl, h)) (stack_opens (λ m v p d o. held c.args.kind m.below.items m.top m.version m.inside v p d o) (nest_kind c.args.kind) c.args.version c.args.place (depth_of c.args.depth) c.args.element.now c.args.attributes.now s (Ok c.in_ok-machine.machine) c.in_ok-machine.ensures)

@@ -18,7 +18,7 @@ returns-in_err-value g c = λ root v p d o h is t.
     let k = leaf_holds f.as_kind f.child_of l.sort_of l.holds in
     let m = c.args.self.now in
     let ended = c.replace-ended.result in
-    rw (q.1, q.2) (end_fails s g.met.F.Nested.nested k _ root (reverse m.below.items) (f.sort_of ended.part) ended.name (depth_of ended.depth) m.v v p d o c.args.place c.args.event.now (f.fields ended.part) (held_top s k f.sort_of f.fields root m.below.items m.top m.v m.inside v p d o ended Nothing h (sym c.replace-ended.ensures.value) c.requires.nothing) is t c.args.name.now c.requires.end f.tree _ (c.args.place + 1) c.in_err-value.field-0.0 c.in_err-value.ensures.gives)
+    rw (q.1, q.2) (end_fails s g.met.F.Nested.nested k _ root (reverse m.below.items) (f.sort_of ended.part) ended.name (depth_of ended.depth) m.version v p d o c.args.place c.args.event.now (f.fields ended.part) (held_top s k f.sort_of f.fields root m.below.items m.top m.version m.inside v p d o ended Nothing h (sym c.replace-ended.ensures.value) c.requires.nothing) is t c.args.name.now c.requires.end f.tree _ (c.args.place + 1) c.in_err-value.field-0.0 c.in_err-value.ensures.gives)
 
 pub returns : goal.returns
 returns g c = λ root v p d o h is t.
@@ -30,6 +30,6 @@ returns g c = λ root v p d o h is t.
     let ended = c.replace-ended.result in
     let n = c.replace-ended.new.dest in
     let w : Waiting g.row.F.Denot = record { «open» = n; position = c.in-Some.waiting.position } in
-    renamed s k _ root m.v v p d (next o c.args.event.now) (Ok false) (reverse c.pop.new.self.items) (reverse c.pop.new.self.items) (f.sort_of n.part) (f.sort_of c.put.new.self) n.name (depth_of n.depth) (f.fields c.put.new.self) Nothing m.inside refl c.in_ok-put.ensures.sort c.requires.nothing
-    (end_pops s g.met.F.Nested.nested k _ root (reverse m.below.items) (f.sort_of ended.part) ended.name (depth_of ended.depth) m.v v p d o c.args.place c.args.event.now (f.fields ended.part) (held_top s k f.sort_of f.fields root m.below.items m.top m.v m.inside v p d o ended Nothing h (sym c.replace-ended.ensures.value) c.requires.nothing) is t c.args.name.now c.requires.end f.tree w (reverse c.pop.new.self.items) (c.args.place + 1) c.in_ok-value.value (f.fields c.put.new.self)
+    renamed s k _ root m.version v p d (next o c.args.event.now) (Ok false) (reverse c.pop.new.self.items) (reverse c.pop.new.self.items) (f.sort_of n.part) (f.sort_of c.put.new.self) n.name (depth_of n.depth) (f.fields c.put.new.self) Nothing m.inside refl c.in_ok-put.ensures.sort c.requires.nothing
+    (end_pops s g.met.F.Nested.nested k _ root (reverse m.below.items) (f.sort_of ended.part) ended.name (depth_of ended.depth) m.version v p d o c.args.place c.args.event.now (f.fields ended.part) (held_top s k f.sort_of f.fields root m.below.items m.top m.version m.inside v p d o ended Nothing h (sym c.replace-ended.ensures.value) c.requires.nothing) is t c.args.name.now c.requires.end f.tree w (reverse c.pop.new.self.items) (c.args.place + 1) c.in_ok-value.value (f.fields c.put.new.self)
     (reversed c.pop.new.self.items c.in-Some.waiting m.below.items c.in-Some.ensures.items ∙ ap (λ (x : Open g.row.F.Denot). (record { «open» = x; position = c.in-Some.waiting.position }) ∷ reverse c.pop.new.self.items) (sym c.replace-ended.ensures.after)) c.in_ok-value.ensures.gives c.in_ok-put.ensures.puts)

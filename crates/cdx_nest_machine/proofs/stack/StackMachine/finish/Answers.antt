@@ -17,5 +17,5 @@ returns g c = λ root v p d o y h is t w.
     let s = shape_of f.as_kind f.sort_of f.fields f.child_of in
     let k = leaf_holds f.as_kind f.child_of l.sort_of l.holds in
     let m = c.args.self in
-    let e = yields s g.met.F.Nested.nested k (Unit {0}) root (reverse m.below.items) (f.sort_of m.top.part) m.top.name (depth_of m.top.depth) m.v v p d o c.args.place c.args.event.now (f.fields m.top.part) m.inside h f.tree c.in-EndElement.name (c.args.place + 1) c.finish.result y c.in-EndElement.is is t w c.finish.ensures.gives in
+    let e = yields s g.met.F.Nested.nested k (Unit {0}) root (reverse m.below.items) (f.sort_of m.top.part) m.top.name (depth_of m.top.depth) m.version v p d o c.args.place c.args.event.now (f.fields m.top.part) m.inside h f.tree c.in-EndElement.name (c.args.place + 1) c.finish.result y c.in-EndElement.is is t w c.finish.ensures.gives in
     (e.0, of_root f.value_sort root (f.sort_of m.top.part) c.finish.result e.1 c.finish.ensures.sort)

@@ -21,7 +21,7 @@ feed-requires g c =
     let s = shape_of f.as_kind f.sort_of f.fields f.child_of in
     let k = leaf_holds f.as_kind f.child_of l.sort_of l.holds in
     let m = c.args.self.now in
-    leaf_can s g.met.F.Nested.nested k (Unit {0}) root (reverse m.below.items) (f.sort_of m.top.part) m.top.name (depth_of m.top.depth) m.v v p d o c.args.place c.args.event.now (f.fields m.top.part) (f.fields m.top.part) c.in-Read.child (held_top s k f.sort_of f.fields root m.below.items m.top m.v m.inside v p d o m.top (Read c.in-Read.child) h refl (sym c.replace.ensures.value ∙ c.in-Read.is)) r.place_is r.takes
+    leaf_can s g.met.F.Nested.nested k (Unit {0}) root (reverse m.below.items) (f.sort_of m.top.part) m.top.name (depth_of m.top.depth) m.version v p d o c.args.place c.args.event.now (f.fields m.top.part) (f.fields m.top.part) c.in-Read.child (held_top s k f.sort_of f.fields root m.below.items m.top m.version m.inside v p d o m.top (Read c.in-Read.child) h refl (sym c.replace.ensures.value ∙ c.in-Read.is)) r.place_is r.takes
 
 pub returns-in_err-self-in-Read : goal.returns-in_err-self-in-Read
 returns-in_err-self-in-Read g c = λ root v p d o h is t.
@@ -31,7 +31,7 @@ returns-in_err-self-in-Read g c = λ root v p d o h is t.
     let s = shape_of f.as_kind f.sort_of f.fields f.child_of in
     let k = leaf_holds f.as_kind f.child_of l.sort_of l.holds in
     let m = c.args.self.now in
-    rw (q.1, q.2) (leaf_fails s g.met.F.Nested.nested k _ root (reverse m.below.items) (f.sort_of m.top.part) m.top.name (depth_of m.top.depth) m.v v p d o c.args.place c.args.event.now (f.fields m.top.part) (f.fields c.feed.new.part) c.in-Read.child (held_top s k f.sort_of f.fields root m.below.items m.top m.v m.inside v p d o m.top (Read c.in-Read.child) h refl (sym c.replace.ensures.value ∙ c.in-Read.is)) is t _ c.in_err-self-in-Read.field-0.0 c.in_err-self-in-Read.ensures.feeds)
+    rw (q.1, q.2) (leaf_fails s g.met.F.Nested.nested k _ root (reverse m.below.items) (f.sort_of m.top.part) m.top.name (depth_of m.top.depth) m.version v p d o c.args.place c.args.event.now (f.fields m.top.part) (f.fields c.feed.new.part) c.in-Read.child (held_top s k f.sort_of f.fields root m.below.items m.top m.version m.inside v p d o m.top (Read c.in-Read.child) h refl (sym c.replace.ensures.value ∙ c.in-Read.is)) is t _ c.in_err-self-in-Read.field-0.0 c.in_err-self-in-Read.ensures.feeds)
 
 pub returns-in_ok-self-in-Read : goal.returns-in_ok-self-in-Read
 returns-in_ok-self-in-Read g c = λ root v p d o h is t.
@@ -40,8 +40,8 @@ returns-in_ok-self-in-Read g c = λ root v p d o h is t.
     let s = shape_of f.as_kind f.sort_of f.fields f.child_of in
     let k = leaf_holds f.as_kind f.child_of l.sort_of l.holds in
     let m = c.args.self.now in
-    renamed s k _ root m.v v p d (next o c.args.event.now) (Ok false) (reverse m.below.items) (reverse m.below.items) (f.sort_of m.top.part) (f.sort_of c.feed.new.part) m.top.name (depth_of m.top.depth) (f.fields c.feed.new.part) c.in_ok-self-in-Read.field-0 c.in_ok-self-in-Read.field-0 refl c.in_ok-self-in-Read.ensures.sort refl
-    (leaf_fed s g.met.F.Nested.nested k _ root (reverse m.below.items) (f.sort_of m.top.part) m.top.name (depth_of m.top.depth) m.v v p d o c.args.place c.args.event.now (f.fields m.top.part) (f.fields c.feed.new.part) c.in-Read.child (held_top s k f.sort_of f.fields root m.below.items m.top m.v m.inside v p d o m.top (Read c.in-Read.child) h refl (sym c.replace.ensures.value ∙ c.in-Read.is)) is t c.in_ok-self-in-Read.field-0 c.in_ok-self-in-Read.ensures.feeds)
+    renamed s k _ root m.version v p d (next o c.args.event.now) (Ok false) (reverse m.below.items) (reverse m.below.items) (f.sort_of m.top.part) (f.sort_of c.feed.new.part) m.top.name (depth_of m.top.depth) (f.fields c.feed.new.part) c.in_ok-self-in-Read.field-0 c.in_ok-self-in-Read.field-0 refl c.in_ok-self-in-Read.ensures.sort refl
+    (leaf_fed s g.met.F.Nested.nested k _ root (reverse m.below.items) (f.sort_of m.top.part) m.top.name (depth_of m.top.depth) m.version v p d o c.args.place c.args.event.now (f.fields m.top.part) (f.fields c.feed.new.part) c.in-Read.child (held_top s k f.sort_of f.fields root m.below.items m.top m.version m.inside v p d o m.top (Read c.in-Read.child) h refl (sym c.replace.ensures.value ∙ c.in-Read.is)) is t c.in_ok-self-in-Read.field-0 c.in_ok-self-in-Read.ensures.feeds)
 
 pub skip-requires : goal.skip-requires
 skip-requires g c =
@@ -57,7 +57,7 @@ skip-requires g c =
     let s = shape_of f.as_kind f.sort_of f.fields f.child_of in
     let k = leaf_holds f.as_kind f.child_of l.sort_of l.holds in
     let m = c.args.self.now in
-    skip_fits_in s g.met.F.Nested.nested k (Unit {0}) root (reverse m.below.items) (f.sort_of m.top.part) m.top.name (depth_of m.top.depth) m.v v p d o c.args.place c.args.event.now (f.fields m.top.part) c.in-Skipped.depth (held_top s k f.sort_of f.fields root m.below.items m.top m.v m.inside v p d o m.top (Skipped c.in-Skipped.depth) h refl (sym c.replace.ensures.value ∙ c.in-Skipped.is)) r.place_is
+    skip_fits_in s g.met.F.Nested.nested k (Unit {0}) root (reverse m.below.items) (f.sort_of m.top.part) m.top.name (depth_of m.top.depth) m.version v p d o c.args.place c.args.event.now (f.fields m.top.part) c.in-Skipped.depth (held_top s k f.sort_of f.fields root m.below.items m.top m.version m.inside v p d o m.top (Skipped c.in-Skipped.depth) h refl (sym c.replace.ensures.value ∙ c.in-Skipped.is)) r.place_is
 
 pub returns-in-Skipped : goal.returns-in-Skipped
 returns-in-Skipped g c = λ root v p d o h is t.
@@ -66,7 +66,7 @@ returns-in-Skipped g c = λ root v p d o h is t.
     let s = shape_of f.as_kind f.sort_of f.fields f.child_of in
     let k = leaf_holds f.as_kind f.child_of l.sort_of l.holds in
     let m = c.args.self.now in
-    skip_more s g.met.F.Nested.nested k _ root (reverse m.below.items) (f.sort_of m.top.part) m.top.name (depth_of m.top.depth) m.v v p d o c.args.place c.args.event.now (f.fields m.top.part) c.in-Skipped.depth (held_top s k f.sort_of f.fields root m.below.items m.top m.v m.inside v p d o m.top (Skipped c.in-Skipped.depth) h refl (sym c.replace.ensures.value ∙ c.in-Skipped.is)) c.skip.result c.skip.ensures t
+    skip_more s g.met.F.Nested.nested k _ root (reverse m.below.items) (f.sort_of m.top.part) m.top.name (depth_of m.top.depth) m.version v p d o c.args.place c.args.event.now (f.fields m.top.part) c.in-Skipped.depth (held_top s k f.sort_of f.fields root m.below.items m.top m.version m.inside v p d o m.top (Skipped c.in-Skipped.depth) h refl (sym c.replace.ensures.value ∙ c.in-Skipped.is)) c.skip.result c.skip.ensures t
 
 pub returns-then-not-passes : goal.returns-then-not-passes
 returns-then-not-passes g c = λ root v p d o h is t.
@@ -75,7 +75,7 @@ returns-then-not-passes g c = λ root v p d o h is t.
     let s = shape_of f.as_kind f.sort_of f.fields f.child_of in
     let k = leaf_holds f.as_kind f.child_of l.sort_of l.holds in
     let m = c.args.self.now in
-    text_fails s g.met.F.Nested.nested k _ root (reverse m.below.items) (f.sort_of m.top.part) m.top.name (depth_of m.top.depth) m.v v p d o c.args.place c.args.event.now (f.fields m.top.part) (held_top s k f.sort_of f.fields root m.below.items m.top m.v m.inside v p d o m.top Nothing h refl (sym c.replace.ensures.value ∙ c.in-Nothing.is)) is t c.rule.result c.rule.ensures c.in_default.not-StartElement c.in_default.not-EndElement _ c.refuse_in.result (sym c.passes.ensures ∙ c.if-not-passes.true) c.refuse_in.ensures
+    text_fails s g.met.F.Nested.nested k _ root (reverse m.below.items) (f.sort_of m.top.part) m.top.name (depth_of m.top.depth) m.version v p d o c.args.place c.args.event.now (f.fields m.top.part) (held_top s k f.sort_of f.fields root m.below.items m.top m.version m.inside v p d o m.top Nothing h refl (sym c.replace.ensures.value ∙ c.in-Nothing.is)) is t c.rule.result c.rule.ensures c.in_default.not-StartElement c.in_default.not-EndElement _ c.refuse_in.result (sym c.passes.ensures ∙ c.if-not-passes.true) c.refuse_in.ensures
 
 pub returns-else-not-passes : goal.returns-else-not-passes
 returns-else-not-passes g c = λ root v p d o h is t.
@@ -84,5 +84,5 @@ returns-else-not-passes g c = λ root v p d o h is t.
     let s = shape_of f.as_kind f.sort_of f.fields f.child_of in
     let k = leaf_holds f.as_kind f.child_of l.sort_of l.holds in
     let m = c.args.self.now in
-    renamed s k _ root m.v v p d (next o c.args.event.now) (Ok false) (reverse m.below.items) (reverse m.below.items) (f.sort_of m.top.part) (f.sort_of m.top.part) m.top.name (depth_of m.top.depth) (f.fields m.top.part) Nothing c.replace.new.dest refl refl c.replace.ensures.after
-    (text_more s g.met.F.Nested.nested k _ root (reverse m.below.items) (f.sort_of m.top.part) m.top.name (depth_of m.top.depth) m.v v p d o c.args.place c.args.event.now (f.fields m.top.part) (held_top s k f.sort_of f.fields root m.below.items m.top m.v m.inside v p d o m.top Nothing h refl (sym c.replace.ensures.value ∙ c.in-Nothing.is)) is t c.rule.result c.rule.ensures c.in_default.not-StartElement c.in_default.not-EndElement (sym c.passes.ensures ∙ c.if-not-passes.false))
+    renamed s k _ root m.version v p d (next o c.args.event.now) (Ok false) (reverse m.below.items) (reverse m.below.items) (f.sort_of m.top.part) (f.sort_of m.top.part) m.top.name (depth_of m.top.depth) (f.fields m.top.part) Nothing c.replace.new.dest refl refl c.replace.ensures.after
+    (text_more s g.met.F.Nested.nested k _ root (reverse m.below.items) (f.sort_of m.top.part) m.top.name (depth_of m.top.depth) m.version v p d o c.args.place c.args.event.now (f.fields m.top.part) (held_top s k f.sort_of f.fields root m.below.items m.top m.version m.inside v p d o m.top Nothing h refl (sym c.replace.ensures.value ∙ c.in-Nothing.is)) is t c.rule.result c.rule.ensures c.in_default.not-StartElement c.in_default.not-EndElement (sym c.passes.ensures ∙ c.if-not-passes.false))

@@ -29,7 +29,7 @@ pub step-requires : goal.step-requires
 step-requires c =
     let m = c.args.self.now in
     let r = c.requires in
-    listener_can ghosts.holds leaf_kind kind_of value_tree m.kind m.v m.place top m.machine c.in-Some.leaf c.in-Some.is c.args.place c.args.event.now r.events r.were_heard r.place_is r.goes_on
+    listener_can ghosts.holds leaf_kind kind_of value_tree m.kind m.version m.place top m.machine c.in-Some.leaf c.in-Some.is c.args.place c.args.event.now r.events r.were_heard r.place_is r.goes_on
 
 pub finish-requires : goal.finish-requires
 finish-requires c =
@@ -37,7 +37,7 @@ finish-requires c =
     let r = c.requires in
     let t = c.in-Ok-true in
     can_end c.in-Some.leaf c.step.new.self c.in-Some-take.ended (sym c.in-Some-take.is ∙ c.take.ensures.value) c.args.place c.args.event.now t.field-0 t.field-0-test t.ensures.proceeds
-    (listener_can ghosts.holds leaf_kind kind_of value_tree m.kind m.v m.place top m.machine c.in-Some.leaf c.in-Some.is c.args.place c.args.event.now r.events r.were_heard r.place_is r.goes_on)
+    (listener_can ghosts.holds leaf_kind kind_of value_tree m.kind m.version m.place top m.machine c.in-Some.leaf c.in-Some.is c.args.place c.args.event.now r.events r.were_heard r.place_is r.goes_on)
 
 pub returns-in_err-finish-in-Ok-true-clause-answers : goal.returns-in_err-finish-in-Ok-true-clause-answers
 returns-in_err-finish-in-Ok-true-clause-answers c = λ events h at b.
@@ -45,7 +45,7 @@ returns-in_err-finish-in-Ok-true-clause-answers c = λ events h at b.
     let m = c.args.self.now in
     let t = c.in-Ok-true in
     let f = c.in_err-finish-in-Ok-true in
-    rw (q.1, q.2, c.take.ensures.after) (listener_answers ghosts.holds leaf_kind kind_of value_tree m.kind m.v m.place top m.machine c.in-Some.leaf c.in-Some.is c.args.place c.args.event.now c.step.new.self t.ensures.same (Err f.field-0.0) (Err f.field-0.0) refl
+    rw (q.1, q.2, c.take.ensures.after) (listener_answers ghosts.holds leaf_kind kind_of value_tree m.kind m.version m.place top m.machine c.in-Some.leaf c.in-Some.is c.args.place c.args.event.now c.step.new.self t.ensures.same (Err f.field-0.0) (Err f.field-0.0) refl
     (ended_steps c.in-Some.leaf c.step.new.self c.in-Some-take.ended (sym c.in-Some-take.is ∙ c.take.ensures.value) c.args.place c.args.event.now t.field-0 t.field-0-test t.ensures.proceeds t.ensures.same (Err f.field-0.0) f.ensures.yields)
     events h at b)
 
@@ -54,7 +54,7 @@ returns-in_ok-finish-in-Ok-true-clause-answers c = λ events h at b.
     let m = c.args.self.now in
     let t = c.in-Ok-true in
     let f = c.in_ok-finish-in-Ok-true in
-    rw c.take.ensures.after (listener_answers ghosts.holds leaf_kind kind_of value_tree m.kind m.v m.place top m.machine c.in-Some.leaf c.in-Some.is c.args.place c.args.event.now c.step.new.self t.ensures.same (Ok (Some f.field-0)) (Ok (Some f.field-0)) refl
+    rw c.take.ensures.after (listener_answers ghosts.holds leaf_kind kind_of value_tree m.kind m.version m.place top m.machine c.in-Some.leaf c.in-Some.is c.args.place c.args.event.now c.step.new.self t.ensures.same (Ok (Some f.field-0)) (Ok (Some f.field-0)) refl
     (ended_steps c.in-Some.leaf c.step.new.self c.in-Some-take.ended (sym c.in-Some-take.is ∙ c.take.ensures.value) c.args.place c.args.event.now t.field-0 t.field-0-test t.ensures.proceeds t.ensures.same (Ok f.field-0) f.ensures.yields)
     events h at b)
 
@@ -62,7 +62,7 @@ pub returns-in-Ok-false-clause-answers : goal.returns-in-Ok-false-clause-answers
 returns-in-Ok-false-clause-answers c = λ events h at b.
     let m = c.args.self.now in
     let t = c.in-Ok-false in
-    listener_answers ghosts.holds leaf_kind kind_of value_tree m.kind m.v m.place top m.machine c.in-Some.leaf c.in-Some.is c.args.place c.args.event.now c.step.new.self t.ensures.same (Ok None) (Ok None) refl
+    listener_answers ghosts.holds leaf_kind kind_of value_tree m.kind m.version m.place top m.machine c.in-Some.leaf c.in-Some.is c.args.place c.args.event.now c.step.new.self t.ensures.same (Ok None) (Ok None) refl
     (waits ghosts.holds value_tree (kind_of (leaf_kind c.in-Some.leaf)) c.in-Some.leaf c.step.new.self c.args.place c.args.event.now t.field-0 t.field-0-test t.ensures.proceeds)
     events h at b
 
@@ -70,7 +70,7 @@ pub returns-in-Ok-false-clause-heard : goal.returns-in-Ok-false-clause-heard
 returns-in-Ok-false-clause-heard c = λ events h at b found.
     let m = c.args.self.now in
     let t = c.in-Ok-false in
-    listener_heard ghosts.holds leaf_kind kind_of value_tree m.kind m.v m.place top m.machine c.in-Some.leaf c.in-Some.is c.args.place c.args.event.now c.step.new.self t.ensures.same (Ok None) (Ok None) refl
+    listener_heard ghosts.holds leaf_kind kind_of value_tree m.kind m.version m.place top m.machine c.in-Some.leaf c.in-Some.is c.args.place c.args.event.now c.step.new.self t.ensures.same (Ok None) (Ok None) refl
     (waits ghosts.holds value_tree (kind_of (leaf_kind c.in-Some.leaf)) c.in-Some.leaf c.step.new.self c.args.place c.args.event.now t.field-0 t.field-0-test t.ensures.proceeds)
     events h at b
 
@@ -78,6 +78,6 @@ pub returns-in-Err-clause-answers : goal.returns-in-Err-clause-answers
 returns-in-Err-clause-answers c = λ events h at b.
     let m = c.args.self.now in
     let e = c.in-Err.ensures in
-    listener_answers ghosts.holds leaf_kind kind_of value_tree m.kind m.v m.place top m.machine c.in-Some.leaf c.in-Some.is c.args.place c.args.event.now c.step.new.self e.same (Err c.in-Err.error) (Err c.in-Err.error) refl
+    listener_answers ghosts.holds leaf_kind kind_of value_tree m.kind m.version m.place top m.machine c.in-Some.leaf c.in-Some.is c.args.place c.args.event.now c.step.new.self e.same (Err c.in-Err.error) (Err c.in-Err.error) refl
     (fails ghosts.holds value_tree (kind_of (leaf_kind c.in-Some.leaf)) c.in-Some.leaf c.step.new.self c.args.place c.args.event.now c.in-Err.error e.proceeds)
     events h at b

@@ -1,6 +1,6 @@
 use Rattle.std.proofs.Common.{subst}
 use Rattle.cdx_events.proofs.Broken.{not_alive}
-use Rattle.cdx_push_reader.specs.Pushed.{Stands}
+use Rattle.cdx_push_reader.specs.Pushed.{StandsAtStage}
 use Rattle.cdx_push_reader.proofs.Stands.{not_after, after_value}
 use Rattle.cdx_push_reader.proofs.Readers.{ends_early}
 use Rattle.cdx_push_reader.proofs.hearing.Hearing.finish.Goals as goal
@@ -11,7 +11,7 @@ returns-then-not-whole-clause-answer g c = λ events h p.
 
 pub returns-in-After-clause-answer : goal.returns-in-After-clause-answer
 returns-in-After-clause-answer g c = λ events h p.
-    after_value g.M.RootMachine.holds g.M.RootMachine.tree c.args.self.version c.in-After.value events (subst (λ x. Stands g.M.RootMachine.holds g.M.RootMachine.tree c.args.self.version x events) c.in-After.is h.1) ((c.whole.ensures events h.0).0 c.if-not-whole.false)
+    after_value g.M.RootMachine.holds g.M.RootMachine.tree c.args.self.version c.in-After.value events (subst (λ x. StandsAtStage g.M.RootMachine.holds g.M.RootMachine.tree c.args.self.version x events) c.in-After.is h.1) ((c.whole.ensures events h.0).0 c.if-not-whole.false)
 
 pub returns-clause-answer : goal.returns-clause-answer
 returns-clause-answer g c = λ events h p.

@@ -6,7 +6,7 @@ use Rattle.cdx_schema.specs.Faults.{lacking}
 use Rattle.cdx_schema.specs.Results.{◌>>=◌}
 use Rattle.cdx_schema.specs.XmlReading.{find_attribute, after_text}
 use Rattle.cdx_leaf.specs.Attribute.{or_fault}
-use Rattle.cdx_leaf.specs.Fault.{Fails}
+use Rattle.cdx_leaf.specs.Fault.{FailsAt}
 use Rattle.cdx_relations.proofs.References.{reference_is, start_fails, start_gives}
 use Rattle.cdx_leaf.proofs.Loop.{fails_along}
 use Rattle.cdx_leaf.proofs.Records.{first_fails, then_fails}
@@ -33,7 +33,7 @@ returns-in_err-closing_tag_or_error c = λ d ns p nodes rest st.
     let o = find_attribute (codes "ref") c.args.opened.now.attributes.now in
     let s = c.in_ok-text.text in
     let read = c.in_err-closing_tag_or_error.ensures nodes rest st.at in
-    let closes : Fails e new.place (after_text s nodes el (suc p)) = subst (λ x. Fails e new.place (after_text s nodes el x)) st.place (fails_along e new.place (after_text (record {}) nodes el old.place) (after_text s nodes el old.place) (λ f is. closing_fault el (record {}) s old.place nodes f is) read.1) in
+    let closes : FailsAt e new.place (after_text s nodes el (suc p)) = subst (λ x. FailsAt e new.place (after_text s nodes el x)) st.place (fails_along e new.place (after_text (record {}) nodes el old.place) (after_text s nodes el old.place) (λ f is. closing_fault el (record {}) s old.place nodes f is) read.1) in
     rw (q.1, q.2, reference_is c.args.opened.now.version c.args.opened.now.element.now c.args.opened.now.attributes.now ns d p nodes o refl) (read.0, then_fails e new.place (or_fault o (lacking p el (codes "ref"))) s (λ s. after_text s nodes el (suc p) >>= λ t. Ok (text t)) (start_gives old.place c.place.result p o el (codes "ref") s (sym c.place.ensures) st.place c.in_ok-text.ensures) (first_fails e new.place (after_text s nodes el (suc p)) (λ t. Ok (text t)) closes))
 
 pub returns : goal.returns

@@ -1,6 +1,0 @@
-use Rattle.cdx_leaf.specs.declared.rule.Rule.TheVariants.{Strict}
-use Rattle.cdx_leaf.proofs.Parts.{reads_list}
-use Rattle.cdx_leaf.proofs.lists.read_list_tag.Goals as goal
-
-pub returns : goal.returns
-returns g c = reads_list g.X.HasTree.tree g.X.Kinded.kind g.X.FromXml.depth c.args.reader.now c.read_items.new.reader c.args.version c.args.element.now c.args.inner.now Strict c.read_items.result c.read_items.ensures
