@@ -13,7 +13,7 @@ use cdx_schema::{Kinded, Record};
 use std::alloc::{AllocError, Global};
 
 /// Who did something, and when.
-#[derive(Debug)]
+#[derive(Debug, Drop)]
 pub struct IdentifiableAction {
     /// A date with time and zone by CycloneDX, which isn't checked.
     pub timestamp: Option<Text>,
@@ -21,17 +21,6 @@ pub struct IdentifiableAction {
     pub name: Option<Text>,
     /// The address for mail.
     pub email: Option<Text>,
-}
-
-// By hand, so that one is freed by a call wherever it ends, and not field by field.
-impl Drop for IdentifiableAction {
-    fn drop(self) {
-        let IdentifiableAction {
-            timestamp: _,
-            name: _,
-            email: _,
-        } = self;
-    }
 }
 
 impl HasTree for IdentifiableAction {

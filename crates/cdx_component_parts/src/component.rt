@@ -167,22 +167,12 @@ impl PartialEq for MimeType {
 }
 
 /// What was found in a component's files.
-#[derive(Debug)]
+#[derive(Debug, Drop)]
 pub struct ComponentEvidence {
     /// The licenses that were found.
     pub licenses: Option<Licenses>,
     /// The copyright texts that were found.
     pub copyright: Option<CopyrightTexts>,
-}
-
-// By hand, so that one is freed by a call wherever it ends, and not field by field.
-impl Drop for ComponentEvidence {
-    fn drop(self) {
-        let ComponentEvidence {
-            licenses: _,
-            copyright: _,
-        } = self;
-    }
 }
 
 impl HasTree for ComponentEvidence {

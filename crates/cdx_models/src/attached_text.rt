@@ -10,7 +10,7 @@ use cdx_events::Text;
 use std::alloc::{AllocError, Global};
 
 /// A text of a license, a diff or a SWID tag, as it stands in its source.
-#[derive(Debug)]
+#[derive(Debug, Drop)]
 pub struct AttachedText {
     /// Its MIME type.
     pub content_type: Option<Text>,
@@ -18,17 +18,6 @@ pub struct AttachedText {
     pub encoding: Option<Text>,
     /// The text, in that encoding.
     pub content: Text,
-}
-
-// By hand, so that one is freed by a call wherever it ends, and not field by field.
-impl Drop for AttachedText {
-    fn drop(self) {
-        let AttachedText {
-            content_type: _,
-            encoding: _,
-            content: _,
-        } = self;
-    }
 }
 
 impl HasTree for AttachedText {

@@ -83,7 +83,7 @@ impl PartialEq for Uri {
 }
 
 /// A resource outside the bill, as a website or a repository.
-#[derive(Debug)]
+#[derive(Debug, Drop)]
 pub struct ExternalReference {
     /// What the resource is, as `website`.
     pub external_reference_type: Text,
@@ -93,18 +93,6 @@ pub struct ExternalReference {
     pub comment: Option<Text>,
     /// Hashes of the resource's content.
     pub hashes: Option<Hashes>,
-}
-
-// By hand, so that one is freed by a call wherever it ends, and not field by field.
-impl Drop for ExternalReference {
-    fn drop(self) {
-        let ExternalReference {
-            external_reference_type: _,
-            url: _,
-            comment: _,
-            hashes: _,
-        } = self;
-    }
 }
 
 impl HasTree for ExternalReference {

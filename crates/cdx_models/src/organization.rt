@@ -10,7 +10,7 @@ use cdx_events::{List, Text};
 use std::alloc::{AllocError, Global};
 
 /// A person to turn to, or an author.
-#[derive(Debug)]
+#[derive(Debug, Drop)]
 pub struct OrganizationalContact {
     /// The name by which the rest of the bill refers to it.
     pub bom_ref: Option<Text>,
@@ -20,18 +20,6 @@ pub struct OrganizationalContact {
     pub email: Option<Text>,
     /// The number to call.
     pub phone: Option<Text>,
-}
-
-// By hand, so that one is freed by a call wherever it ends, and not field by field.
-impl Drop for OrganizationalContact {
-    fn drop(self) {
-        let OrganizationalContact {
-            bom_ref: _,
-            name: _,
-            email: _,
-            phone: _,
-        } = self;
-    }
 }
 
 impl HasTree for OrganizationalContact {
@@ -70,7 +58,7 @@ impl PartialEq for OrganizationalContact {
 }
 
 /// An organization, as a supplier or a manufacturer.
-#[derive(Debug)]
+#[derive(Debug, Drop)]
 pub struct OrganizationalEntity {
     /// The name by which the rest of the bill refers to it.
     pub bom_ref: Option<Text>,
@@ -80,18 +68,6 @@ pub struct OrganizationalEntity {
     pub url: Option<List<Text>>,
     /// Whom to ask there.
     pub contact: Option<List<OrganizationalContact>>,
-}
-
-// By hand, so that one is freed by a call wherever it ends, and not field by field.
-impl Drop for OrganizationalEntity {
-    fn drop(self) {
-        let OrganizationalEntity {
-            bom_ref: _,
-            name: _,
-            url: _,
-            contact: _,
-        } = self;
-    }
 }
 
 impl OrganizationalEntity {

@@ -13,19 +13,12 @@ use cdx_schema::{Kinded, Record};
 use std::alloc::{AllocError, Global};
 
 /// What a patch changes.
-#[derive(Debug)]
+#[derive(Debug, Drop)]
 pub struct Diff {
     /// The change itself.
     pub text: Option<AttachedText>,
     /// Where the change can be found.
     pub url: Option<Text>,
-}
-
-// By hand, so that one is freed by a call wherever it ends, and not field by field.
-impl Drop for Diff {
-    fn drop(self) {
-        let Diff { text: _, url: _ } = self;
-    }
 }
 
 impl HasTree for Diff {
@@ -67,19 +60,12 @@ impl PartialEq for Diff {
 }
 
 /// Where an issue is told of.
-#[derive(Debug)]
+#[derive(Debug, Drop)]
 pub struct Source {
     /// Its name.
     pub name: Option<Text>,
     /// Where it can be found.
     pub url: Option<Text>,
-}
-
-// By hand, so that one is freed by a call wherever it ends, and not field by field.
-impl Drop for Source {
-    fn drop(self) {
-        let Source { name: _, url: _ } = self;
-    }
 }
 
 impl HasTree for Source {
@@ -199,7 +185,7 @@ impl PartialEq for Issue {
 }
 
 /// A change of a component that is not in its own source.
-#[derive(Debug)]
+#[derive(Debug, Drop)]
 pub struct Patch {
     /// What it is, as `backport`.
     pub patch_type: Text,
@@ -207,17 +193,6 @@ pub struct Patch {
     pub diff: Option<Diff>,
     /// The issues that it resolves.
     pub resolves: Option<List<Issue>>,
-}
-
-// By hand, so that one is freed by a call wherever it ends, and not field by field.
-impl Drop for Patch {
-    fn drop(self) {
-        let Patch {
-            patch_type: _,
-            diff: _,
-            resolves: _,
-        } = self;
-    }
 }
 
 impl HasTree for Patch {

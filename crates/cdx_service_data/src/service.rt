@@ -14,22 +14,12 @@ use cdx_schema::{Kinded, Record};
 use std::alloc::{AllocError, Global};
 
 /// How sensitive data is.
-#[derive(Debug)]
+#[derive(Debug, Drop)]
 pub struct DataClassification {
     /// Whether the data goes in or out, as `inbound`.
     pub flow: Text,
     /// The data's class, as `PII`.
     pub classification: Text,
-}
-
-// By hand, so that one is freed by a call wherever it ends, and not field by field.
-impl Drop for DataClassification {
-    fn drop(self) {
-        let DataClassification {
-            flow: _,
-            classification: _,
-        } = self;
-    }
 }
 
 impl DataClassification {
@@ -90,7 +80,7 @@ impl PartialEq for DataClassification {
 }
 
 /// Data with a name and a description. Known from 1.5 on.
-#[derive(Debug)]
+#[derive(Debug, Drop)]
 pub struct ServiceData {
     /// The name of the data.
     pub name: Option<Text>,
@@ -98,17 +88,6 @@ pub struct ServiceData {
     pub description: Option<Text>,
     /// How they flow, and how they are classified.
     pub classification: DataClassification,
-}
-
-// By hand, so that one is freed by a call wherever it ends, and not field by field.
-impl Drop for ServiceData {
-    fn drop(self) {
-        let ServiceData {
-            name: _,
-            description: _,
-            classification: _,
-        } = self;
-    }
 }
 
 impl HasTree for ServiceData {

@@ -147,22 +147,12 @@ impl PartialEq for Algorithm {
 }
 
 /// One signature: its algorithm and its value.
-#[derive(Debug)]
+#[derive(Debug, Drop)]
 pub struct Signer {
     /// How it was signed.
     pub algorithm: Algorithm,
     /// The signature itself, in base64url by the JSON Signature Format, which isn't checked.
     pub value: Text,
-}
-
-// By hand, so that one is freed by a call wherever it ends, and not field by field.
-impl Drop for Signer {
-    fn drop(self) {
-        let Signer {
-            algorithm: _,
-            value: _,
-        } = self;
-    }
 }
 
 impl Signer {
