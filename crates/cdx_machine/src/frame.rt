@@ -246,7 +246,14 @@ impl<F: Frame> Machine for FrameMachine<F> {
                     ..
                 } => {
                     self.inside = enter(
-                        self.alloc, self.version, &self.name, &self.part, place, event, name, attributes,
+                        self.alloc,
+                        self.version,
+                        &self.name,
+                        &self.part,
+                        place,
+                        event,
+                        name,
+                        attributes,
                     )?;
                     Ok(false)
                 }

@@ -46,13 +46,25 @@ pub struct LeafChild<M> {
 }
 
 /// The machine of an element of a nested kind. The frames of the elements around the innermost one wait below it.
-#[derive(Drop)]
 pub struct StackMachine<F: Nested> {
     alloc: Global,
     version: SpecVersion,
     below: Vec<Waiting<F>>,
     top: Open<F>,
     inside: Inside<LeafChild<F::Leaf>>,
+}
+
+// By hand, so that one is freed by a call in the crates above, and not frame by frame.
+impl<F: Nested> Drop for StackMachine<F> {
+    fn drop(self) {
+        let StackMachine {
+            alloc: _,
+            version: _,
+            below: _,
+            top: _,
+            inside: _,
+        } = self;
+    }
 }
 
 impl<F: Nested> Keeps for StackMachine<F> {
@@ -277,11 +289,17 @@ impl<F: Nested> StackMachine<F> {
         let XmlEvent::EndElement { name } = event else {
             unreachable!()
         };
-        let top = self.top;
+        let StackMachine {
+            alloc,
+            version,
+            below: _,
+            top,
+            inside: _,
+        } = self;
         top.part.finish(&End {
-            alloc: self.alloc,
+            alloc,
             place,
-            version: self.version,
+            version,
             element: name,
         })
     }

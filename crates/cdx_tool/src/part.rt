@@ -97,7 +97,7 @@ pub(crate) fn read_text_if(
 }
 
 /// What stands in an array.
-pub(crate) trait Part: Sized {
+pub(crate) trait RequestPart: Sized {
     ghost part_of: { Data → Option Self };
 
     /// The part that a value is, if it is one.
@@ -106,7 +106,7 @@ pub(crate) trait Part: Sized {
 }
 
 /// The parts that the values are, if each is one.
-pub(crate) fn read_items<P: Part + Drop>(
+pub(crate) fn read_items<P: RequestPart + Drop>(
     alloc: Global,
     values: &[Value],
 ) -> Result<Option<Items<P>>, AllocError>

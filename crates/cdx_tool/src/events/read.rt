@@ -7,7 +7,8 @@ ghost use Rattle.cdx_tool.specs.LoneMember.{lone_member};
 ghost use Rattle.cdx_request.specs.EventReading.{name_at, name_count, attribute_meant, if_attributes, mark_of, start_count, start_parts, start_event, end_event, event_of, events_of};
 
 use crate::part::{
-    Part, count_members, count_named, has_member, lone_member, read_items, read_text_if, text_at,
+    RequestPart, count_members, count_named, has_member, lone_member, read_items, read_text_if,
+    text_at,
 };
 use cdx_events::{List as Items, Namespace, OwnedAttribute, OwnedName, Text, XmlEvent as Event};
 use serde_json::Value;
@@ -39,7 +40,7 @@ fn count_name(value: &Value) -> usize
     1 + count_named(value, "uri") + count_named(value, "prefix")
 }
 
-impl Part for OwnedAttribute {
+impl RequestPart for OwnedAttribute {
     ghost part_of = { attribute_meant };
 
     fn from_value(alloc: Global, value: &Value) -> Result<Option<OwnedAttribute>, AllocError> {
@@ -177,7 +178,7 @@ fn read_several(alloc: Global, value: &Value) -> Result<Option<Event>, AllocErro
     }
 }
 
-impl Part for Event {
+impl RequestPart for Event {
     ghost part_of = { event_of };
 
     fn from_value(alloc: Global, value: &Value) -> Result<Option<Event>, AllocError> {

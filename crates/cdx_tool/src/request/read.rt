@@ -13,7 +13,7 @@ use super::sent::{Asked, Sent};
 use super::{Request, RequestError};
 use crate::events::events_if;
 use crate::part::{
-    Part, array_at, count_members, has_member, read_items, take_member, text_at, version_at,
+    RequestPart, array_at, count_members, has_member, read_items, take_member, text_at, version_at,
 };
 use cdx_bom::{Doc, Form, Hop};
 use cdx_events::{Events, EventsError, List, XmlEvent};
@@ -43,7 +43,7 @@ fn read_hop(value: &Value) -> Option<Hop>
     Some(Hop { form, version })
 }
 
-impl Part for Hop {
+impl RequestPart for Hop {
     ghost part_of = { hop_read };
 
     fn from_value(alloc: Global, value: &Value) -> Result<Option<Hop>, AllocError> {

@@ -5,4 +5,4 @@ use Rattle.cdx_tool.proofs.part.read_items.Given as goal
 
 -- the items so far, and then those of the rest
 abbrev pub invariant-loop-value : goal.invariant-loop-value
-invariant-loop-value g l = option_map (λ xs. l.items ++ xs) (all_in g.P.Part.part_of (items_view (drop l.value-index l.values))) ≡ all_in g.P.Part.part_of (items_view l.values)
+invariant-loop-value g l = option_map (λ xs. l.items ++ xs) (all_in g.P.RequestPart.part_of (items_view (drop l.value-index l.values))) ≡ all_in g.P.RequestPart.part_of (items_view l.values)

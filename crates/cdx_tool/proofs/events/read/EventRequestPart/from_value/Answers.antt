@@ -3,7 +3,7 @@ use Rattle.std.specs.Prelude.{string_bytes}
 use Rattle.serde_json.specs.View.{view}
 use Rattle.cdx_request.specs.EventReading.{event_of}
 use Rattle.cdx_tool.proofs.LoneMember.{is_lone, is_text, no_text}
-use Rattle.cdx_tool.proofs.events.read.EventPart.from_value.Goals as goal
+use Rattle.cdx_tool.proofs.events.read.EventRequestPart.from_value.Goals as goal
 
 pub returns-in-None-as_str : goal.returns-in-None-as_str
 returns-in-None-as_str c =
