@@ -6,8 +6,8 @@ use Rattle.cdx_models.specs.declared.bom.SpecVersion.{SpecVersion}
 use Rattle.cdx_models.specs.Trees.{Tree}
 use Rattle.cdx_schema.specs.Roads.{Doc, Refusal, denotes}
 use Rattle.cdx_request.specs.Parts.{member_count, version_at}
-use Rattle.cdx_request.specs.Refusals.{refused_answer}
-use Rattle.cdx_request.specs.Requests.{Misread, not_json, shape, unbalanced, json_of, doc_in}
+use Rattle.cdx_request.specs.Refusals.{refusal_value}
+use Rattle.cdx_request.specs.Requests.{Misread, not_json, shape, unbalanced, document_in_json, doc_in}
 use Rattle.cdx_request.specs.Replies.{Reply, reply, reply_to_misread}
 use Rattle.cdx_bom.specs.declared.bom.Bom.{Bom}
 use Rattle.cdx_bom.specs.declared.doc.RoadError.TheVariants as error
@@ -58,13 +58,13 @@ bill_in d = bill_of (asked_of d)
 
 -- The bytes are a question about the bill.
 abbrev pub AsksFor : List ℕ → Tree → Type 0
-AsksFor bytes b = (d : Data) × (json_of bytes ≡ Some d) × (bill_in d ≡ Ok b)
+AsksFor bytes b = (d : Data) × (document_in_json bytes ≡ Some d) × (bill_in d ≡ Ok b)
 
 -- ---- what is answered where there is none
 
 abbrev pub reply_to_lack : Lack → Reply
 reply_to_lack (misread e) = reply_to_misread e
-reply_to_lack (bill_refused r) = reply 1 (refused_answer r)
+reply_to_lack (bill_refused r) = reply 1 (refusal_value r)
 
 -- f is what is answered to a bill
 abbrev pub reply_to_bill : (Tree → Data) → Result Tree Lack → Reply
@@ -77,7 +77,7 @@ reply_if_read f (Some d) = reply_to_bill f (bill_in d)
 
 -- The reply to the bytes of a question about a bill.
 abbrev pub reply_asking : (Tree → Data) → List ℕ → Reply
-reply_asking f bytes = reply_if_read f (json_of bytes)
+reply_asking f bytes = reply_if_read f (document_in_json bytes)
 
 -- ---- what the calls give
 

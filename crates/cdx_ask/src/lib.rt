@@ -9,7 +9,7 @@ ghost use Rattle.cdx_tool.specs.Shows.{reply_of};
 ghost use Rattle.serde_json.specs.View.{view};
 ghost use Rattle.cdx_schema.specs.Roads.{Refusal};
 ghost use Rattle.cdx_bom.specs.Docs.{refusal_of};
-ghost use Rattle.cdx_request.specs.Refusals.{refused_answer as refused_for, unbalanced_answer as unbalanced_at};
+ghost use Rattle.cdx_request.specs.Refusals.{refusal_value as refused_for, imbalance_value as unbalanced_at};
 ghost use Rattle.cdx_request.specs.Replies.{reply};
 ghost use Rattle.cdx_ask.specs.Asks.{IsQuestion, asked_of, bill_in, GivesBill, Lack, Lacks, reply_to_bill};
 
@@ -17,8 +17,8 @@ use cdx_bom::{Bom, Doc, RoadError, into_bill};
 use cdx_models::SpecVersion;
 use cdx_tool::status::{REFUSED, UNUSABLE};
 use cdx_tool::{
-    Answer, RequestError, answer_value, count_members, refuse, refused_answer, take_doc,
-    take_member, unbalanced_answer, version_at,
+    Answer, RequestError, answer_value, count_members, imbalance_value, refusal_value, refuse,
+    take_doc, take_member, version_at,
 };
 use serde_json::Value;
 use std::alloc::{AllocError, Global};
@@ -88,7 +88,7 @@ pub fn read_question(alloc: Global, value: Value) -> Result<Question, RequestErr
 ///
 /// `Misread` comes exactly where `read_question` refuses the value, with that refusal, and else `Refused` exactly where
 /// the document has a fault, with its first fault. Want of memory comes in either.
-pub fn read_bill(alloc: Global, value: Value) -> Result<Bom, NoBill>
+pub fn take_bill(alloc: Global, value: Value) -> Result<Bom, NoBill>
     ensures { GivesBill (bill_in (view value)) result }
 {
     let question = read_question(alloc, value)?;
@@ -98,7 +98,7 @@ pub fn read_bill(alloc: Global, value: Value) -> Result<Bom, NoBill>
 fn answer_unbalanced(alloc: Global, place: usize) -> Result<Answer, AllocError>
     ensures { IfOk result (λ a. reply_of a ≡ reply 1 (unbalanced_at place)) }
 {
-    let value = unbalanced_answer(alloc, place)?;
+    let value = imbalance_value(alloc, place)?;
     answer_value(alloc, REFUSED, &value)
 }
 
@@ -108,13 +108,13 @@ fn answer_refused(alloc: Global, error: &RoadError) -> Result<Answer, AllocError
         → IfOk result (λ a. reply_of a ≡ reply 1 (refused_for r)) }
 {
     cdx_request::no_floats();
-    let value = refused_answer(alloc, error)?;
+    let value = refusal_value(alloc, error)?;
     answer_value(alloc, REFUSED, &value)
 }
 
 /// The answer where there is no bill: status 2 and `{"request":"shape"}` for a value that is no question, and status 1
-/// and `{"refused":{..}}` for a document whose events aren't balanced or that has a fault, by `unbalanced_answer` and
-/// `refused_answer`. Only want of memory refuses.
+/// and `{"refused":{..}}` for a document whose events aren't balanced or that has a fault, by `imbalance_value` and
+/// `refusal_value`. Only want of memory refuses.
 pub fn answer_lack(alloc: Global, error: NoBill) -> Result<Answer, AllocError>
     requires { (owed : Owed Tree Lack) × Lacks owed error }
     ensures { (owed : Owed Tree Lack) (f : Tree → Data) → Lacks owed error

@@ -17,7 +17,7 @@ use cdx_json::{FromJson, Kept};
 use cdx_leaf::FromXmlDocument;
 use cdx_models::SpecVersion;
 use cdx_test_cases::documents::{document, line_of, list_of};
-use cdx_test_cases::faults::{of_json, of_xml};
+use cdx_test_cases::faults::{json_fault_line, xml_fault_line};
 use cdx_test_cases::forms::V5;
 use cdx_test_cases::rows::{Case, cases, parted};
 use serde_json::Value;
@@ -43,7 +43,7 @@ fn passed(alloc: Global, text: &str, version: SpecVersion) -> Result<String, Fai
     let value = Value::from_str(alloc, text)?;
     match Bom::from_json(alloc, &value, version) {
         Ok(bill) => Ok(shown(alloc, &bill)?),
-        Err(error) => Ok(of_json(alloc, &error)?),
+        Err(error) => Ok(json_fault_line(alloc, &error)?),
     }
 }
 
@@ -70,7 +70,7 @@ fn told_source(
 ) -> Result<String, AllocError> {
     match Bom::parse_from_xml_source(alloc, source, version, budget) {
         Ok(bill) => shown(alloc, &bill),
-        Err(error) => of_xml(alloc, &error),
+        Err(error) => xml_fault_line(alloc, &error),
     }
 }
 

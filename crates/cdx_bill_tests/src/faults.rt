@@ -2,7 +2,7 @@
 
 use cdx_bom::RoadError;
 use cdx_models::{BomError, JsonWriteError, Lack, XmlWriteError};
-use cdx_test_cases::faults::{of_json, of_xml};
+use cdx_test_cases::faults::{json_fault_line, xml_fault_line};
 use std::alloc::{AllocError, Global};
 
 // The version that asks for what the bill lacks.
@@ -31,8 +31,8 @@ pub fn of_xml_writing(alloc: Global, fault: &XmlWriteError) -> Result<String, Al
 
 pub fn of_road(alloc: Global, fault: &RoadError) -> Result<String, AllocError> {
     match fault {
-        RoadError::Json(error) => of_json(alloc, error),
-        RoadError::Xml(error) => of_xml(alloc, error),
+        RoadError::Json(error) => json_fault_line(alloc, error),
+        RoadError::Xml(error) => xml_fault_line(alloc, error),
         RoadError::Bom(error) => of_bom(alloc, error),
         RoadError::Memory(error) => Err(*error),
     }

@@ -8,7 +8,7 @@ use cdx_bom::{Bom, Form, Hop};
 use cdx_events::{Events, List};
 use cdx_models::{JsonReadError, JsonWriteError, SpecVersion, XmlReadError, XmlWriteError};
 use cdx_test_cases::documents::{document, line_of};
-use cdx_test_cases::faults::{of_json, of_xml};
+use cdx_test_cases::faults::{json_fault_line, xml_fault_line};
 use cdx_test_cases::forms::V5;
 use cdx_test_cases::rows::parted;
 use serde_json::Value;
@@ -112,7 +112,7 @@ fn read_xml(alloc: Global, line: &str, version: SpecVersion) -> Result<String, F
     let events = document(alloc, line)?;
     match parse_xml(alloc, &events, version) {
         Ok(bill) => Ok(shown(alloc, &bill)?),
-        Err(error) => Ok(of_xml(alloc, &error)?),
+        Err(error) => Ok(xml_fault_line(alloc, &error)?),
     }
 }
 
@@ -120,7 +120,7 @@ fn read_json(alloc: Global, text: &str, version: SpecVersion) -> Result<String, 
     let value = Value::from_str(alloc, text)?;
     match parse_json(alloc, &value, version) {
         Ok(bill) => Ok(shown(alloc, &bill)?),
-        Err(error) => Ok(of_json(alloc, &error)?),
+        Err(error) => Ok(json_fault_line(alloc, &error)?),
     }
 }
 

@@ -16,7 +16,7 @@ use Rattle.cdx_schema.specs.Table.{rows}
 use Rattle.cdx_schema.specs.XmlSpelling.{attributes_of, nodes_of, plain_name}
 use Rattle.cdx_json.specs.Groups.{group}
 use Rattle.cdx_models.specs.Trees.{fields_of}
-use Rattle.cdx_write.specs.WrittenRows.{attribute_put, attributes_put, rows_written}
+use Rattle.cdx_write.specs.WrittenRows.{attribute_written, attributes_written, rows_written}
 use Rattle.cdx_write.specs.Writing.{end_tag}
 use Rattle.cdx_write.proofs.RowsLaws.{attributes_are, rows_are, rows_in_groups}
 use Rattle.cdx_bom.specs.declared.bom.Bom.{Bom}
@@ -32,17 +32,17 @@ bill_kept V1_5 ts = refl
 -- ---- attributes
 
 -- the version, and then the serial number where there is one, turned round
-turned : (n : ℕ) (serial : Option UrnUuid) (w : SpecVersion) → reverse (attribute_put (codes "version") a_number (number n) w ++ attribute_put (codes "serialNumber") a_text (present urn_tree serial) w ++ []) ≡ attribute_put (codes "serialNumber") a_text (present urn_tree serial) w ++ attribute_put (codes "version") a_number (number n) w
-unfolding attribute_put kept
+turned : (n : ℕ) (serial : Option UrnUuid) (w : SpecVersion) → reverse (attribute_written (codes "version") a_number (number n) w ++ attribute_written (codes "serialNumber") a_text (present urn_tree serial) w ++ []) ≡ attribute_written (codes "serialNumber") a_text (present urn_tree serial) w ++ attribute_written (codes "version") a_number (number n) w
+unfolding attribute_written kept
 turned n None w = refl
 turned n (Some u) w = refl
 
-put_in_order : (b : Bom) (w : SpecVersion) → attributes_put (inventory_groups b ⧺ relations b) w (rows bill) ≡ attribute_put (codes "version") a_number (number b.version) w ++ attribute_put (codes "serialNumber") a_text (present urn_tree b.serial_number) w ++ []
-unfolding attributes_put rows attribute_put kept
+put_in_order : (b : Bom) (w : SpecVersion) → attributes_written (inventory_groups b ⧺ relations b) w (rows bill) ≡ attribute_written (codes "version") a_number (number b.version) w ++ attribute_written (codes "serialNumber") a_text (present urn_tree b.serial_number) w ++ []
+unfolding attributes_written rows attribute_written kept
 put_in_order b w = refl
 
 -- The root's attributes.
-pub root_attributes_are : (b : Bom) (w : SpecVersion) → attribute_put (codes "serialNumber") a_text (present urn_tree b.serial_number) w ++ attribute_put (codes "version") a_number (number b.version) w ≡ attributes_of (keep w (bom_tree b) a_bill) w a_bill
+pub root_attributes_are : (b : Bom) (w : SpecVersion) → attribute_written (codes "serialNumber") a_text (present urn_tree b.serial_number) w ++ attribute_written (codes "version") a_number (number b.version) w ≡ attributes_of (keep w (bom_tree b) a_bill) w a_bill
 root_attributes_are b w =
     sym (turned b.version b.serial_number w) ∙ ap reverse (sym (put_in_order b w) ∙ attributes_are (inventory_groups b ⧺ relations b) w (rows bill))
     ∙ ap (λ t. attributes_of t w a_bill) (sym (bill_kept w (inventory_groups b ⧺ relations b)))

@@ -14,7 +14,7 @@ use Rattle.cdx_schema.specs.Faults.{to_member, JsonFault, under, here}
 use Rattle.cdx_schema.specs.Results.{◌>>=◌}
 use Rattle.cdx_schema.specs.JsonReading.{Object, Found, nothing, a_null, found, format_read}
 use Rattle.cdx_json.specs.Gives.{Fails, IsFaultAt, IsWithin}
-use Rattle.cdx_json.specs.ByRows.{found_as, member_of}
+use Rattle.cdx_json.specs.ByRows.{read_if_found, member_of}
 use Rattle.cdx_json.proofs.Rows.{fails_here, within_fails}
 use Rattle.std.proofs.lemmas.Slice.Eq.{bytes_eq-Decides}
 use Rattle.cdx_bom.specs.Groups.{format_of}
@@ -27,7 +27,7 @@ under_ok : (s : Step) (r : Result Tree JsonFault) (t : Tree) → under s r ≡ O
 under_ok s (Ok u) t e = e
 under_ok s (Err f) t e = absurd cc
 
-found_is : (f : Found) (v : SpecVersion) (d : Depth) (t : List ℕ) → under (to_member (codes "bomFormat")) (found_as f required a_text v d) ≡ Ok (text t) → format_read f v d ≡ checked t
+found_is : (f : Found) (v : SpecVersion) (d : Depth) (t : List ℕ) → under (to_member (codes "bomFormat")) (read_if_found f required a_text v d) ≡ Ok (text t) → format_read f v d ≡ checked t
 found_is nothing v d t e = absurd cc
 found_is a_null v d t e = absurd cc
 found_is (found read) v d t e = rw (under_ok (to_member (codes "bomFormat")) (read v a_text d) (text t) e) refl
@@ -53,7 +53,7 @@ still_fails (BomError b) s r f h = absurd h
 still_fails (JsonElementReadError path kind) s (Ok t) f h = absurd cc
 still_fails (JsonElementReadError path kind) s (Err x) f h = h
 
-found_fails : (e : JsonReadError) (f : Found) (v : SpecVersion) (d : Depth) → Fails e (under (to_member (codes "bomFormat")) (found_as f required a_text v d)) → Fails e (under (to_member (codes "bomFormat")) (format_read f v d))
+found_fails : (e : JsonReadError) (f : Found) (v : SpecVersion) (d : Depth) → Fails e (under (to_member (codes "bomFormat")) (read_if_found f required a_text v d)) → Fails e (under (to_member (codes "bomFormat")) (format_read f v d))
 found_fails e nothing v d h = h
 found_fails e a_null v d h = h
 found_fails e (found read) v d h = still_fails e (to_member (codes "bomFormat")) (read v a_text d) _ h

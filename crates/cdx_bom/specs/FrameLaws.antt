@@ -23,14 +23,14 @@ same_kind (Nested k) = refl
 
 nest_children_read : (k : NestKind) → ReadsEach leaf_kind_of kind_of (reader_of (Nest k)) (plan_of (kind_of (Nest k))).children
 nest_children_read k i row h =
-    let q = nest_laws.children_read k i row h in
+    let q = nest_laws.children_by_rows k i row h in
     (nest_reads q.0, ap (λ o. option_map nest_reads o) q.1, q.2 ∙ same_kind q.0)
 
 -- The child of each position is read as the kind of its row.
-pub children_read : (s : BillKind) → ReadsEach leaf_kind_of kind_of (reader_of s) (plan_of (kind_of s)).children
+pub children_by_rows : (s : BillKind) → ReadsEach leaf_kind_of kind_of (reader_of s) (plan_of (kind_of s)).children
 unfolding rows
-children_read (Nest k) = nest_children_read k
-children_read Bill = reads_listed leaf_kind_of kind_of bill_reads (plan_of (kind_of Bill)).children refl
+children_by_rows (Nest k) = nest_children_read k
+children_by_rows Bill = reads_listed leaf_kind_of kind_of bill_reads (plan_of (kind_of Bill)).children refl
 
 pub kinds_nested : (s : BillKind) → IsNested (kind_of s)
 unfolding rows

@@ -8,7 +8,7 @@ use Rattle.serde_json.specs.Written.{has_float}
 use Rattle.cdx_models.specs.Trees.{Tree}
 use Rattle.cdx_models.specs.SameLaws.{same-Decides}
 use Rattle.cdx_request.specs.Refusals.{bill_refused as refusal}
-use Rattle.cdx_request.specs.Requests.{Misread, not_json, shape, unbalanced, json_of}
+use Rattle.cdx_request.specs.Requests.{Misread, not_json, shape, unbalanced, document_in_json}
 use Rattle.cdx_request.specs.Replies.{Reply, reply, line_of, no_request, reply_to_misread, limit}
 use Rattle.cdx_tool.specs.Owed.{reply_by, IsSettled}
 use Rattle.cdx_tool.specs.Run.{Tells, Ends}
@@ -16,7 +16,7 @@ use Rattle.cdx_tool.specs.Shows.{reply_of}
 use Rattle.cdx_tool.specs.declared.answer.Answer.{Answer}
 use Rattle.cdx_ask.specs.Asks.{Asked, asked_of, Lack, misread, bill_refused, bill_of, bill_in, reply_to_lack, reply_to_bill, AsksFor}
 use Rattle.cdx_canon.specs.Canon.{plain, canon}
-use Rattle.cdx_canon.specs.Answers.{text_answer, is_equal, equal_answer, refused_on, Pair, pair_of, reply_on, reply_beside, reply_to_bills, is_shaped, reply_to_sides, reply_to_pair, reply_if_value, owed, AsksForBoth, TellsEqual}
+use Rattle.cdx_canon.specs.Answers.{canonical_answer, is_equal, equality_answer, refused_on, Pair, pair_of, reply_on, reply_beside, reply_to_bills, is_shaped, reply_to_sides, reply_to_pair, reply_if_value, owed, AsksForBoth, TellsEqual}
 use Rattle.cdx_canon.specs.Plain.{with_part}
 use Rattle.cdx_canon.specs.Sides.{IsSide}
 use Rattle.cdx_canon.specs.declared.comparing.Side.{Side}
@@ -26,7 +26,7 @@ use Rattle.cdx_canon.specs.declared.words.Command.TheVariants.{Text, Equal}
 
 -- what is replied to two bills
 abbrev pub told : Tree → Tree → Reply
-told b c = reply 0 (equal_answer (is_equal b c))
+told b c = reply 0 (equality_answer (is_equal b c))
 
 -- ---- each reply has status 0, 1 or 2
 
@@ -89,9 +89,9 @@ pair_told (Some p) h =
     let t = sides_told (is_shaped (asked_of p.left) && is_shaped (asked_of p.right)) (bill_of (asked_of p.left)) (bill_of (asked_of p.right)) h in
     (p, t.0, t.1, refl, t.2, t.3, t.4)
 
-text_value : (o : Option Data) → (reply_if_value Text o).status ≡ 0 → (d : Data) × (b : Tree) × (o ≡ Some d) × (bill_in d ≡ Ok b) × ((reply_if_value Text o).text ≡ line_of (text_answer b))
+text_value : (o : Option Data) → (reply_if_value Text o).status ≡ 0 → (d : Data) × (b : Tree) × (o ≡ Some d) × (bill_in d ≡ Ok b) × ((reply_if_value Text o).text ≡ line_of (canonical_answer b))
 text_value None h = absurd (no_0 1 h)
-text_value (Some d) h = let t = billed text_answer (bill_in d) h in (d, t.0, refl, t.1, t.2)
+text_value (Some d) h = let t = billed canonical_answer (bill_in d) h in (d, t.0, refl, t.1, t.2)
 
 equal_value : (o : Option Data) → (reply_if_value Equal o).status ≡ 0
     → (d : Data) × (p : Pair) × (b : Tree) × (c : Tree) × (o ≡ Some d) × (pair_of d ≡ Some p) × (bill_in p.left ≡ Ok b) × (bill_in p.right ≡ Ok c) × (reply_if_value Equal o ≡ told b c)
@@ -99,7 +99,7 @@ equal_value None h = absurd (no_0 1 h)
 equal_value (Some d) h = let t = pair_told (pair_of d) h in (d, t.0, t.1, t.2, refl, t.3, t.4, t.5, t.6)
 
 -- the line tells whether the plain bills are equal
-tells_equal : (before now : Option (List ℕ)) (b c : Tree) (is : Bool) → is_equal b c ≡ is → Appends before now (line_of (equal_answer is)) → TellsEqual before now b c
+tells_equal : (before now : Option (List ℕ)) (b c : Tree) (is : Bool) → is_equal b c ≡ is → Appends before now (line_of (equality_answer is)) → TellsEqual before now b c
 tells_equal before now b c true is put = inl ((same-Decides (plain b) (plain c)).0 is, put)
 tells_equal before now b c false is put = inr ((λ e. false≢true (sym is ∙ (same-Decides (plain b) (plain c)).1 e)), put)
 
@@ -130,7 +130,7 @@ pub text_served : (o left before now : Option (List ℕ)) (words : Option Comman
     → (bytes : List ℕ) × (b : Tree) × Tells o bytes × IsAtEnd left × AsksFor bytes b × Appends before now (canon b ++ 10 ∷ [])
 text_served o left before now words bytes status flushed is zero_is tells end ends =
     let s = served Text words bytes status before now flushed is ends zero_is in
-    let t = text_value (json_of bytes) s.0 in
+    let t = text_value (document_in_json bytes) s.0 in
     (bytes, t.1, tells, end, (t.0, t.2, t.3), subst (Appends before now) t.4 s.1)
 
 pub equal_served : (o left before now : Option (List ℕ)) (words : Option Command) (bytes : List ℕ) (status : ℕ) (flushed : Option ℕ) → words ≡ Some Equal → status ≡ 0 → Tells o bytes → IsAtEnd left
@@ -138,7 +138,7 @@ pub equal_served : (o left before now : Option (List ℕ)) (words : Option Comma
     → (bytes : List ℕ) × (b : Tree) × (c : Tree) × Tells o bytes × IsAtEnd left × AsksForBoth bytes b c × TellsEqual before now b c
 equal_served o left before now words bytes status flushed is zero_is tells end ends =
     let s = served Equal words bytes status before now flushed is ends zero_is in
-    let t = equal_value (json_of bytes) s.0 in
+    let t = equal_value (document_in_json bytes) s.0 in
     (bytes, t.2, t.3, tells, end, (t.0, t.1, t.4, t.5, t.6, t.7), tells_equal before now t.2 t.3 (is_equal t.2 t.3) refl (subst (Appends before now) (ap (λ (x : Reply). x.text) t.8) s.1))
 
 -- ---- the two sides

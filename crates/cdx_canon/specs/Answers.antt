@@ -11,7 +11,7 @@ use Rattle.cdx_schema.specs.Kinds.{a_bill}
 use Rattle.cdx_schema.specs.JsonSpelling.{jspell}
 use Rattle.cdx_request.specs.Parts.{member_count}
 use Rattle.cdx_request.specs.Refusals.{only, a_text, refusal_members, unbalanced_members}
-use Rattle.cdx_request.specs.Requests.{Misread, not_json, shape, unbalanced, json_of}
+use Rattle.cdx_request.specs.Requests.{Misread, not_json, shape, unbalanced, document_in_json}
 use Rattle.cdx_request.specs.Replies.{Reply, line_of, reply, reply_to_misread}
 use Rattle.cdx_tool.specs.Owed.{reply_by}
 use Rattle.cdx_ask.specs.Asks.{Asked, asked_of, Lack, misread, bill_refused, bill_of, bill_in, reply_to_bill}
@@ -23,8 +23,8 @@ use Rattle.cdx_canon.specs.declared.words.Command.TheVariants.{Text, Equal}
 -- ---- `text`
 
 -- The answer to a bill: the JSON spelling of its plain bill in 1.5, whose compact text is the canonical text.
-abbrev pub text_answer : Tree → Data
-text_answer b = jspell (plain b) V1_5 a_bill
+abbrev pub canonical_answer : Tree → Data
+canonical_answer b = jspell (plain b) V1_5 a_bill
 
 -- ---- `equal`
 
@@ -32,8 +32,8 @@ text_answer b = jspell (plain b) V1_5 a_bill
 abbrev pub is_equal : Tree → Tree → Bool
 is_equal b c = same (plain b) (plain c)
 
-abbrev pub equal_answer : Bool → Data
-equal_answer b = only (codes "equal") (boolean b)
+abbrev pub equality_answer : Bool → Data
+equality_answer b = only (codes "equal") (boolean b)
 
 -- two values, each of which is to be a question about a bill
 pub record Pair : Type 0 where
@@ -62,7 +62,7 @@ reply_on side next (Err (misread e)) = reply_to_misread e
 
 -- to the right side, beside the left side's bill
 abbrev pub reply_beside : Result Tree Lack → Tree → Reply
-reply_beside right b = reply_on (codes "right") (λ c. reply 0 (equal_answer (is_equal b c))) right
+reply_beside right b = reply_on (codes "right") (λ c. reply 0 (equality_answer (is_equal b c))) right
 
 -- The left side comes first: all that is refused of it comes before all that is refused of the right side.
 abbrev pub reply_to_bills : Result Tree Lack → Result Tree Lack → Reply
@@ -84,7 +84,7 @@ reply_to_pair (Some p) = reply_to_sides (asked_of p.left) (asked_of p.right)
 
 -- to the value that the bytes are
 abbrev pub reply_to_value : Command → Data → Reply
-reply_to_value Text d = reply_to_bill text_answer (bill_in d)
+reply_to_value Text d = reply_to_bill canonical_answer (bill_in d)
 reply_to_value Equal d = reply_to_pair (pair_of d)
 
 abbrev pub reply_if_value : Command → Option Data → Reply
@@ -93,7 +93,7 @@ reply_if_value c (Some d) = reply_to_value c d
 
 -- to bytes that are no more than the limit
 abbrev pub owed : Command → List ℕ → Reply
-owed c bytes = reply_if_value c (json_of bytes)
+owed c bytes = reply_if_value c (document_in_json bytes)
 
 -- to these words and bytes
 abbrev pub canonical_reply : List (String Global) → List ℕ → Reply
@@ -103,10 +103,10 @@ canonical_reply words bytes = reply_by owed (command_of words) bytes
 
 -- The bytes are a question about two bills: b on the left and c on the right.
 abbrev pub AsksForBoth : List ℕ → Tree → Tree → Type 0
-AsksForBoth bytes b c = (d : Data) × (p : Pair) × (json_of bytes ≡ Some d) × (pair_of d ≡ Some p) × (bill_in p.left ≡ Ok b) × (bill_in p.right ≡ Ok c)
+AsksForBoth bytes b c = (d : Data) × (p : Pair) × (document_in_json bytes ≡ Some d) × (pair_of d ≡ Some p) × (bill_in p.left ≡ Ok b) × (bill_in p.right ≡ Ok c)
 
 -- What is written tells whether the plain bills are equal.
 abbrev pub TellsEqual : Option (List ℕ) → Option (List ℕ) → Tree → Tree → Type 0
 TellsEqual before now b c =
-    ((plain b ≡ plain c) × Appends before now (line_of (equal_answer true)))
-    ⊎ ((plain b ≡ plain c → ⊥) × Appends before now (line_of (equal_answer false)))
+    ((plain b ≡ plain c) × Appends before now (line_of (equality_answer true)))
+    ⊎ ((plain b ≡ plain c → ⊥) × Appends before now (line_of (equality_answer false)))

@@ -13,7 +13,7 @@ ghost use Rattle.cdx_bom.specs.Docs.{refusal_of};
 ghost use Rattle.cdx_bom.specs.Trees.{bom_tree};
 ghost use Rattle.cdx_tool.specs.Shows.{reply_of};
 ghost use Rattle.cdx_ask.specs.Asks.{Asked, asked_of, bill_of as bill_owed, GivesBill, Lack, Lacks};
-ghost use Rattle.cdx_canon.specs.Answers.{is_equal, equal_answer, pair_of, refused_on, reply_on, reply_beside, reply_to_bills, reply_to_sides, reply_to_pair};
+ghost use Rattle.cdx_canon.specs.Answers.{is_equal, equality_answer, pair_of, refused_on, reply_on, reply_beside, reply_to_bills, reply_to_sides, reply_to_pair};
 ghost use Rattle.cdx_canon.specs.Sides.{pair_view, IsSide, ReadsSide};
 
 use crate::text::set_part;
@@ -21,9 +21,7 @@ use cdx_ask::{NoBill, Question, read_question};
 use cdx_bom::{Bom, RoadError, into_bill, same};
 use cdx_models::SpecVersion;
 use cdx_tool::status::{REFUSED, SERVED, UNUSABLE};
-use cdx_tool::{
-    Answer, RequestError, answer_value, only, refuse, refused_answer, unbalanced_answer,
-};
+use cdx_tool::{Answer, RequestError, answer_value, imbalance_value, only, refusal_value, refuse};
 use serde_json::{Map, Value};
 use std::alloc::{AllocError, Global};
 
@@ -95,7 +93,7 @@ fn answer_unbalanced(alloc: Global, side: &str, place: usize) -> Result<Answer, 
     ensures { IfOk result
         (λ a. reply_of a ≡ reply 1 (refused_on side.now (unbalanced_members place))) }
 {
-    let refusal = unbalanced_answer(alloc, place)?;
+    let refusal = imbalance_value(alloc, place)?;
     answer_refusal(alloc, side, refusal)
 }
 
@@ -105,7 +103,7 @@ fn answer_refused(alloc: Global, side: &str, error: &RoadError) -> Result<Answer
         → IfOk result (λ a. reply_of a ≡ reply 1 (refused_on side.now (refusal_members r))) }
 {
     cdx_request::no_floats();
-    let refusal = refused_answer(alloc, error)?;
+    let refusal = refusal_value(alloc, error)?;
     answer_refusal(alloc, side, refusal)
 }
 
@@ -139,7 +137,7 @@ fn is_same_text(mut left: Bom, mut right: Bom) -> bool
 
 fn answer_equal(alloc: Global, left: Bom, right: Bom) -> Result<Answer, AllocError>
     ensures { IfOk result
-        (λ a. reply_of a ≡ reply 0 (equal_answer (is_equal (bom_tree left) (bom_tree right)))) }
+        (λ a. reply_of a ≡ reply 0 (equality_answer (is_equal (bom_tree left) (bom_tree right)))) }
 {
     let is_equal = is_same_text(left, right);
     let value = only(alloc, "equal", Value::Bool(is_equal))?;

@@ -11,14 +11,14 @@ ghost use Rattle.cdx_tool.specs.Owed.{IsSettled};
 ghost use Rattle.cdx_tool.specs.Run.{Tells, Ends};
 ghost use Rattle.cdx_tool.specs.Shows.{reply_of};
 ghost use Rattle.cdx_ask.specs.Asks.{AsksFor, bill_in, reply_to_bill};
-ghost use Rattle.cdx_canon.specs.Answers.{text_answer, canonical_reply, AsksForBoth, TellsEqual};
+ghost use Rattle.cdx_canon.specs.Answers.{canonical_answer, canonical_reply, AsksForBoth, TellsEqual};
 ghost use Rattle.cdx_canon.specs.Canon as texts;
 ghost use Rattle.cdx_canon.specs.Words.{command_of};
 
 use crate::comparing::answer_pair;
 use crate::text::plain_value;
 use crate::words::{Command, read_command};
-use cdx_ask::{answer_lack, read_bill};
+use cdx_ask::{answer_lack, take_bill};
 use cdx_bom::Bom;
 use cdx_events::{Sink, Source};
 use cdx_tool::status::{SERVED, UNUSABLE};
@@ -28,7 +28,7 @@ use std::alloc::{AllocError, Global};
 
 // The canonical text and a line feed. The bill is freed once its value is made.
 fn answer_bill(alloc: Global, bill: Bom) -> Result<Answer, AllocError>
-    ensures { IfOk result (λ a. reply_of a ≡ reply 0 (text_answer (bom_tree bill))) }
+    ensures { IfOk result (λ a. reply_of a ≡ reply 0 (canonical_answer (bom_tree bill))) }
 {
     let value = plain_value(alloc, &bill)?;
     drop(bill);
@@ -37,9 +37,9 @@ fn answer_bill(alloc: Global, bill: Bom) -> Result<Answer, AllocError>
 
 // The canonical text of the bill that the value asks about.
 fn answer_text(alloc: Global, value: Value) -> Result<Answer, AllocError>
-    ensures { IfOk result (λ a. reply_of a ≡ reply_to_bill text_answer (bill_in (view value))) }
+    ensures { IfOk result (λ a. reply_of a ≡ reply_to_bill canonical_answer (bill_in (view value))) }
 {
-    match read_bill(alloc, value) {
+    match take_bill(alloc, value) {
         Ok(bill) => answer_bill(alloc, bill),
         Err(lack) => answer_lack(alloc, lack),
     }
@@ -73,7 +73,7 @@ impl Respond for Command {
 /// - 2, `{"request":"shape"}`: the value is no question of the command's kind. For `equal` this is so where either side
 ///   is none.
 /// - 1, `{"refused":{"cause":"unbalanced","place":p}}`: the document's events break at p.
-/// - 1, `{"refused":{..}}` by `refused_answer`: the document has this first fault. For `equal` each refusal has a second
+/// - 1, `{"refused":{..}}` by `refusal_value`: the document has this first fault. For `equal` each refusal has a second
 ///   member `side`, `left` or `right`, and all that is refused of the left side comes before all that is refused of the
 ///   right side.
 /// - 0: the source was read to its end and held such a question. For `text` the canonical text and a line feed were

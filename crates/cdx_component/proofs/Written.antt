@@ -12,7 +12,7 @@ use Rattle.cdx_json.specs.Groups.{group}
 use Rattle.cdx_write.specs.Listed.{item_put}
 use Rattle.cdx_write.specs.Spelling.{written, inner}
 use Rattle.cdx_write.specs.WillWrite.{will_write}
-use Rattle.cdx_write.specs.WrittenRows.{child_put, attributes_put, rows_written, are_rows_of}
+use Rattle.cdx_write.specs.WrittenRows.{child_written, attributes_written, rows_written, are_rows_of}
 use Rattle.cdx_write.specs.Writing.{opening, start_tag, end_tag}
 use Rattle.cdx_write.proofs.Lists.{items_put, item_there, list_inner, list_is}
 use Rattle.cdx_write.proofs.RowWords.{child_there}
@@ -66,35 +66,35 @@ component_in_groups x w =
 
 -- ---- the attributes, which stand in the first group alone
 
-naming_attributes : (x : Component-F Component Components Pedigree) (w : SpecVersion) → attributes_put (naming x) w (group 1 component) ≡ []
-unfolding attributes_put rows
+naming_attributes : (x : Component-F Component Components Pedigree) (w : SpecVersion) → attributes_written (naming x) w (group 1 component) ≡ []
+unfolding attributes_written rows
 naming_attributes x w = refl
 
-marks_attributes : (x : Component-F Component Components Pedigree) (w : SpecVersion) → attributes_put (marks x) w (group 2 component) ≡ []
-unfolding attributes_put rows
+marks_attributes : (x : Component-F Component Components Pedigree) (w : SpecVersion) → attributes_written (marks x) w (group 2 component) ≡ []
+unfolding attributes_written rows
 marks_attributes x w = refl
 
-contents_attributes : (x : Component-F Component Components Pedigree) (w : SpecVersion) → attributes_put (contents components_tree pedigree_tree x) w (group 3 component) ≡ []
-unfolding attributes_put rows
+contents_attributes : (x : Component-F Component Components Pedigree) (w : SpecVersion) → attributes_written (contents components_tree pedigree_tree x) w (group 3 component) ≡ []
+unfolding attributes_written rows
 contents_attributes x w = refl
 
-origin_attributes : (x : Component-F Component Components Pedigree) (w : SpecVersion) → attributes_put (component_fields components_tree pedigree_tree x) w (rows component) ≡ attributes_put (origin x) w (group 0 component)
+origin_attributes : (x : Component-F Component Components Pedigree) (w : SpecVersion) → attributes_written (component_fields components_tree pedigree_tree x) w (rows component) ≡ attributes_written (origin x) w (group 0 component)
 origin_attributes x w =
     let last = contents components_tree pedigree_tree x in
-    let first = attributes_put (origin x) w (group 0 component) in
-    ap (attributes_put (component_fields components_tree pedigree_tree x) w) component_rows
+    let first = attributes_written (origin x) w (group 0 component) in
+    ap (attributes_written (component_fields components_tree pedigree_tree x) w) component_rows
     ∙ attributes_in_groups (origin x) (naming x ⧺ (marks x ⧺ last)) w (group 0 component) (group 1 component ++ (group 2 component ++ group 3 component)) (origin_in_rows x)
     ∙ ap (λ s. first ++ s) (attributes_in_groups (naming x) (marks x ⧺ last) w (group 1 component) (group 2 component ++ group 3 component) (naming_in_rows x)
-    ∙ ap (λ s. attributes_put (naming x) w (group 1 component) ++ s) (attributes_in_groups (marks x) last w (group 2 component) (group 3 component) (marks_in_rows x)))
+    ∙ ap (λ s. attributes_written (naming x) w (group 1 component) ++ s) (attributes_in_groups (marks x) last w (group 2 component) (group 3 component) (marks_in_rows x)))
     ∙ rw (naming_attributes x w, marks_attributes x w, contents_attributes x w) (append-nil first)
 
-pedigree_attributes : (x : Pedigree-F Component Components Pedigree) (w : SpecVersion) → attributes_put (pedigree_fields components_tree x) w (rows pedigree) ≡ []
-unfolding attributes_put rows
+pedigree_attributes : (x : Pedigree-F Component Components Pedigree) (w : SpecVersion) → attributes_written (pedigree_fields components_tree x) w (rows pedigree) ≡ []
+unfolding attributes_written rows
 pedigree_attributes x w = refl
 
 -- ---- a component and a pedigree under a name
 
-pub component_made : (x : Component) (w : SpecVersion) (tag : List ℕ) (as' : List OwnedAttribute) → as' ≡ attributes_put (origin (out-Component x)) w (group 0 component)
+pub component_made : (x : Component) (w : SpecVersion) (tag : List ℕ) (as' : List OwnedAttribute) → as' ≡ attributes_written (origin (out-Component x)) w (group 0 component)
     → opening tag as' ∷ rows_written (component_fields components_tree pedigree_tree (out-Component x)) w (rows component) ++ end_tag tag ∷ [] ≡ written (component_tree x) w tag (a_record component)
 component_made x w tag as' is =
     let ts = component_fields components_tree pedigree_tree (out-Component x) in
@@ -111,7 +111,7 @@ pedigree_made x w tag =
 pub component_item : (tag : List ℕ) (w : SpecVersion) (x : Component) → written (component_tree x) w tag (a_record component) ≡ item_put tag (a_record component) (component_tree x) w
 component_item tag w x = item_there tag (a_record component) (component_tree x) w false refl (sym (component_counts x)) refl
 
-pub pedigree_child : (name : List ℕ) (w : SpecVersion) (x : Pedigree) → written (pedigree_tree x) w name (a_record pedigree) ≡ child_put name (a_record pedigree) (pedigree_tree x) w
+pub pedigree_child : (name : List ℕ) (w : SpecVersion) (x : Pedigree) → written (pedigree_tree x) w name (a_record pedigree) ≡ child_written name (a_record pedigree) (pedigree_tree x) w
 pedigree_child name w x = child_there name (a_record pedigree) (pedigree_tree x) w refl (pedigree_there x)
 
 -- ---- a list of components
@@ -126,5 +126,5 @@ components_made tag w xs =
     ap (λ u. start_tag tag ∷ inner u w (a_list components) ++ end_tag tag ∷ []) (components_tree-out xs)
     ∙ list_is component_tree tag components w (listed_components xs) ∙ ap (λ u. written u w tag (a_list components)) (sym (components_tree-out xs))
 
-pub components_child : (name : List ℕ) (w : SpecVersion) (xs : Components) → written (components_tree xs) w name (a_list components) ≡ child_put name (a_list components) (components_tree xs) w
+pub components_child : (name : List ℕ) (w : SpecVersion) (xs : Components) → written (components_tree xs) w name (a_list components) ≡ child_written name (a_list components) (components_tree xs) w
 components_child name w xs = child_there name (a_list components) (components_tree xs) w refl (components_there xs)

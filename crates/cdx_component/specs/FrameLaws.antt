@@ -12,11 +12,11 @@ use Rattle.cdx_component.specs.declared.frames.ComponentKind.{ComponentKind}
 use Rattle.cdx_component.specs.declared.frames.ComponentKind.TheVariants.{Component, Components, Pedigree}
 
 -- The child of each position is read as the kind of its row.
-pub children_read : (s : ComponentKind) → ReadsEach leaf_kind_of kind_of (reader_of s) (plan_of (kind_of s)).children
+pub children_by_rows : (s : ComponentKind) → ReadsEach leaf_kind_of kind_of (reader_of s) (plan_of (kind_of s)).children
 unfolding rows list
-children_read Component = reads_listed leaf_kind_of kind_of (reads_of Component) (plan_of (kind_of Component)).children refl
-children_read Components = reads_listed leaf_kind_of kind_of (reads_of Components) (plan_of (kind_of Components)).children refl
-children_read Pedigree = reads_listed leaf_kind_of kind_of (reads_of Pedigree) (plan_of (kind_of Pedigree)).children refl
+children_by_rows Component = reads_listed leaf_kind_of kind_of (reads_of Component) (plan_of (kind_of Component)).children refl
+children_by_rows Components = reads_listed leaf_kind_of kind_of (reads_of Components) (plan_of (kind_of Components)).children refl
+children_by_rows Pedigree = reads_listed leaf_kind_of kind_of (reads_of Pedigree) (plan_of (kind_of Pedigree)).children refl
 
 pub kinds_nested : (s : ComponentKind) → IsNested (kind_of s)
 unfolding rows

@@ -76,7 +76,7 @@ fn deeper_component(depth: Depth) -> Option<Depth>
 
 impl Nested for ComponentFrame {
     ghost use Rattle.cdx_component.specs.Frames.{kind_of, frame_kind, frame_fields, value_kind, value_tree, reader_of};
-    ghost use Rattle.cdx_component.specs.FrameLaws.{children_read, kinds_nested, kinds_no_bill};
+    ghost use Rattle.cdx_component.specs.FrameLaws.{children_by_rows, kinds_nested, kinds_no_bill};
 
     type Sort = ComponentKind;
 
@@ -186,7 +186,7 @@ impl Nested for ComponentFrame {
         }
     }
 
-    ghost children = { children_read };
+    ghost children = { children_by_rows };
 
     ghost nested = { kinds_nested };
 

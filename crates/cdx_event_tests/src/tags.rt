@@ -10,7 +10,7 @@ use cdx_leaf::{
 };
 use cdx_models::{Hash, XmlReadError, XmlWriteError};
 use cdx_test_cases::documents::document;
-use cdx_test_cases::faults::of_xml;
+use cdx_test_cases::faults::xml_fault_line;
 use cdx_test_cases::forms::{V5, closed, opened};
 use cdx_test_cases::rows::row;
 use cdx_write::{
@@ -21,10 +21,10 @@ use std::alloc::{AllocError, Global};
 use std::fmt::Display;
 use std::test::Fail;
 
-fn text_answer(alloc: Global, answer: Result<Text, XmlReadError>) -> Result<String, AllocError> {
+fn told_text(alloc: Global, answer: Result<Text, XmlReadError>) -> Result<String, AllocError> {
     match answer {
         Ok(text) => String::from_str(alloc, text.as_str()),
-        Err(fault) => of_xml(alloc, &fault),
+        Err(fault) => xml_fault_line(alloc, &fault),
     }
 }
 
@@ -35,7 +35,7 @@ fn optional_answer(
     match answer {
         Ok(Some(text)) => String::from_str(alloc, text.as_str()),
         Ok(None) => String::from_str(alloc, "none"),
-        Err(fault) => of_xml(alloc, &fault),
+        Err(fault) => xml_fault_line(alloc, &fault),
     }
 }
 
@@ -45,7 +45,7 @@ fn printed<T: Display + Drop>(
 ) -> Result<String, AllocError> {
     match answer {
         Ok(value) => format!(in alloc; "{value}"),
-        Err(fault) => of_xml(alloc, &fault),
+        Err(fault) => xml_fault_line(alloc, &fault),
     }
 }
 
@@ -55,14 +55,14 @@ fn list_answer(
 ) -> Result<String, AllocError> {
     match answer {
         Ok(hashes) => format!(in alloc; "{}", hashes.len()),
-        Err(fault) => of_xml(alloc, &fault),
+        Err(fault) => xml_fault_line(alloc, &fault),
     }
 }
 
 fn unit_answer(alloc: Global, answer: Result<(), XmlReadError>) -> Result<String, AllocError> {
     match answer {
         Ok(()) => String::from_str(alloc, "closed"),
-        Err(fault) => of_xml(alloc, &fault),
+        Err(fault) => xml_fault_line(alloc, &fault),
     }
 }
 
@@ -79,8 +79,8 @@ fn answer(alloc: Global, helper: &str, events: &Events) -> Result<String, AllocE
         "number" => printed(alloc, read_u32_tag(alloc, &mut reader, name)),
         "boolean" => printed(alloc, read_boolean_tag(alloc, &mut reader, name)),
         "optional" => optional_answer(alloc, read_optional_tag(alloc, &mut reader, name)),
-        "simple" => text_answer(alloc, read_simple_tag(alloc, &mut reader, name)),
-        "inner" => text_answer(alloc, inner_text_or_error(alloc, &mut reader, name)),
+        "simple" => told_text(alloc, read_simple_tag(alloc, &mut reader, name)),
+        "inner" => told_text(alloc, inner_text_or_error(alloc, &mut reader, name)),
         "inner-or-none" => optional_answer(alloc, inner_text_or_none(alloc, &mut reader, name)),
         "closing" => unit_answer(alloc, closing_tag_or_error(alloc, &mut reader, name)),
         "hashes" => list_answer(alloc, read_list_tag(alloc, &mut reader, V5, name, "hash")),
@@ -92,7 +92,7 @@ fn answer(alloc: Global, helper: &str, events: &Events) -> Result<String, AllocE
             read_lax_validation_tag(&mut reader, name);
             format!(in alloc; "{}", reader.place())
         }
-        "attribute-x" => text_answer(alloc, attribute_or_error(alloc, 1, name, attributes, "x")),
+        "attribute-x" => told_text(alloc, attribute_or_error(alloc, 1, name, attributes, "x")),
         "namespace" => unit_answer(alloc, expected_namespace_or_error(alloc, V5, namespace)),
         _ => String::from_str(alloc, "no such helper"),
     }
@@ -150,7 +150,7 @@ const VALUES: &str = r#"
     yes -> parse 1 n yes xs:integer / parse 1 b yes xs:boolean
 "#;
 
-fn value_answer(alloc: Global, text: &str) -> Result<String, AllocError> {
+fn told_value(alloc: Global, text: &str) -> Result<String, AllocError> {
     let number = printed(alloc, u32::from_xml_value(alloc, 1, "n", text))?;
     let boolean = printed(alloc, bool::from_xml_value(alloc, 1, "b", text))?;
     format!(in alloc; "{} / {}", number.as_str(), boolean.as_str())
@@ -161,7 +161,7 @@ fn values(rt: HostRuntime) -> Result<(), Fail> {
     let alloc = rt.alloc();
     for line in VALUES.lines() {
         if let Some((text, expected)) = row(line) {
-            row_is(&rt, text, value_answer(alloc, text)?.as_str(), expected);
+            row_is(&rt, text, told_value(alloc, text)?.as_str(), expected);
         }
     }
     text_is(&rt, bool::xml_type_display(), "xs:boolean");
@@ -178,7 +178,7 @@ fn has_attribute(alloc: Global, name: &str) -> Result<bool, Fail> {
 // What the fault of a text in the element tells.
 fn unexpected(alloc: Global, element: &str) -> Result<String, AllocError> {
     let text = XmlEvent::Characters(Text::new(alloc, "x")?);
-    of_xml(alloc, &unexpected_element_error(alloc, 2, element, &text)?)
+    xml_fault_line(alloc, &unexpected_element_error(alloc, 2, element, &text)?)
 }
 
 #[test]

@@ -3,7 +3,7 @@
 use cdx_bom::Bom;
 use cdx_events::Events;
 use cdx_test_cases::documents::document;
-use cdx_test_cases::faults::of_xml;
+use cdx_test_cases::faults::xml_fault_line;
 use serde_json::Value;
 use std::alloc::{AllocError, Global};
 use std::test::Fail;
@@ -30,6 +30,6 @@ pub fn events(alloc: Global, inside: &str) -> Result<Events, Fail> {
 pub fn read(alloc: Global, events: &Events) -> Result<String, Fail> {
     match Bom::parse_from_xml_v1_5(alloc, events) {
         Ok(bill) => Ok(bill.output_as_json_v1_5(alloc)?.to_string(alloc)?),
-        Err(fault) => Ok(of_xml(alloc, &fault)?),
+        Err(fault) => Ok(xml_fault_line(alloc, &fault)?),
     }
 }

@@ -7,7 +7,7 @@ use Rattle.serde_json.specs.View.{items_of}
 use Rattle.serde_json.specs.Written.{has_float, items_have_float, members_have_float}
 use Rattle.cdx_models.specs.Trees.{Tree}
 use Rattle.cdx_schema.proofs.Clear.{neither}
-use Rattle.cdx_request.specs.Requests.{Misread, not_json, shape, unbalanced, json_of}
+use Rattle.cdx_request.specs.Requests.{Misread, not_json, shape, unbalanced, document_in_json}
 use Rattle.cdx_request.specs.Replies.{Reply, line_of, limit, reply_to_misread}
 use Rattle.cdx_tool.specs.declared.answer.Answer.{Answer}
 use Rattle.cdx_tool.specs.Shows.{reply_of}
@@ -58,7 +58,7 @@ value_settled f None = inr (inr refl)
 value_settled f (Some d) = bill_settled f (bill_in d)
 
 pub settled : {E : Type 0} (f : Tree → Data) (bytes : List ℕ) (r : Result Answer E) → IfOk r (λ a. reply_of a ≡ reply_asking f bytes) → IfOk r (λ a. IsSettled a.status)
-settled f bytes (Ok a) is = subst IsSettled (ap (λ (r : Reply). r.status) (sym is)) (value_settled f (json_of bytes))
+settled f bytes (Ok a) is = subst IsSettled (ap (λ (r : Reply). r.status) (sym is)) (value_settled f (document_in_json bytes))
 settled f bytes (Err e) is = tt
 
 misread_refuses : (e : Misread) → (reply_to_misread e).status ≡ 0 → ⊥
@@ -77,7 +77,7 @@ of_value f None h = cc
 of_value f (Some d) h = let p = of_bill f (bill_in d) h in (d, p.0, refl, p.1, p.2)
 
 asked : (f : Tree → Data) (bytes : List ℕ) → (reply_asking f bytes).status ≡ 0 → (b : Tree) × AsksFor bytes b × ((reply_asking f bytes).text ≡ line_of (f b))
-asked f bytes h = let p = of_value f (json_of bytes) h in (p.1, (p.0, p.2, p.3), p.4)
+asked f bytes h = let p = of_value f (document_in_json bytes) h in (p.1, (p.0, p.2, p.3), p.4)
 
 answered : (f : Tree → Data) (bytes : List ℕ) (b : Tree) → AsksFor bytes b → (reply_asking f bytes).status ≡ 0
 answered f bytes b asks = rw (asks.1, asks.2) refl

@@ -11,7 +11,7 @@ ghost use Rattle.cdx_inventory.specs.Stock.{components_answer as components_in, 
 
 use crate::entry::Entry;
 use crate::listing::inventory;
-use cdx_ask::{answer_lack, read_bill};
+use cdx_ask::{answer_lack, take_bill};
 use cdx_bom::Bom;
 use cdx_events::List as Items;
 use cdx_tool::status::{SERVED, UNUSABLE};
@@ -62,7 +62,7 @@ fn answer_question(alloc: Global, value: Value, license: Option<&str>) -> Result
     ensures { let asked = to_list (option_map (λ s. s.now) license.entry) in
         IfOk result (λ a. reply_of a ≡ reply_to_bill (answer_to asked) (bill_in (view value))) }
 {
-    match read_bill(alloc, value) {
+    match take_bill(alloc, value) {
         Ok(bill) => answer_bill(alloc, &bill, license),
         Err(error) => answer_lack(alloc, error),
     }

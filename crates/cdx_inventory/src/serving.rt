@@ -61,7 +61,7 @@ fn read_command(words: &[String]) -> Option<Command<'_>>
 /// - 2, `{"request":"not JSON"}`: `serde_json` has no reading of the bytes.
 /// - 2, `{"request":"shape"}`: the value is no question by `read_question`.
 /// - 1, `{"refused":{"cause":"unbalanced","place":p}}`: its document's events break at p.
-/// - 1, `{"refused":{..}}` by `refused_answer`: its document has this first fault.
+/// - 1, `{"refused":{..}}` by `refusal_value`: its document has this first fault.
 /// - 0: the source was read to its end and held a question about a bill. `{"components":[..]}` was written, with an
 ///   object for each entry in order: `licenses`, an array of texts, `name`, `path`, a JSON pointer, and `version` where
 ///   there is one.

@@ -9,8 +9,8 @@ use Rattle.cdx_schema.specs.Table.{rows}
 use Rattle.cdx_schema.specs.Depth.{Depth}
 use Rattle.cdx_schema.specs.Results.{◌>>=◌}
 use Rattle.cdx_schema.specs.Faults.{to_member, JsonFault, under}
-use Rattle.cdx_schema.specs.JsonReading.{Object, Found, nothing, a_null, found, found_read, member_name, member_read, row_read, rows_read, no_own, own_read, record_read}
-use Rattle.cdx_json.specs.ByRows.{found_as, member_of, late_read, since_read, member_made, row_made, rows_made, own_by_rows, own_made, by_rows, as_record, identifier_of}
+use Rattle.cdx_schema.specs.JsonReading.{Object, Found, nothing, a_null, found, found_read, member_name, member_read, row_read, rows_read, no_own, own_read, record_denoted}
+use Rattle.cdx_json.specs.ByRows.{read_if_found, member_of, late_read, since_read, member_made, row_made, rows_made, own_by_rows, own_made, by_rows, as_record, identifier_of}
 
 pub then_same : {A B F : Type 0} (x : Result A F) (f g : A → Result B F) → ((a : A) → f a ≡ g a) → (x >>= f) ≡ (x >>= g)
 then_same (Ok a) f g h = h a
@@ -22,7 +22,7 @@ then_after (Err e) f g = refl
 
 -- ---- one row
 
-found_same : (f : Found) (r : Row) (v : SpecVersion) (d : Depth) → found_as f r.need r.kind v d ≡ found_read f r v d
+found_same : (f : Found) (r : Row) (v : SpecVersion) (d : Depth) → read_if_found f r.need r.kind v d ≡ found_read f r v d
 found_same nothing r v d = refl
 found_same a_null r v d = refl
 found_same (found read) r v d = refl
@@ -75,7 +75,7 @@ own_same o v d a_signature = refl
 own_same o v d a_bill = refl
 
 -- The reading by rows is the schema's.
-pub by_rows_are : (n : Name) (o : Object) (v : SpecVersion) (d : Depth) → by_rows n o v d ≡ record_read n o v d
+pub by_rows_are : (n : Name) (o : Object) (v : SpecVersion) (d : Depth) → by_rows n o v d ≡ record_denoted n o v d
 by_rows_are n o v d = rows_same o (own_made o v d) (own_read o v d) (rows n) v d (as_record n) (own_same o v d)
 
 -- ---- rows in groups

@@ -18,7 +18,7 @@ use Rattle.cdx_schema.specs.Kinds.{Kind, Need, optional, required, else_empty, r
 use Rattle.cdx_schema.specs.Results.{◌>>=◌}
 use Rattle.cdx_schema.specs.Faults.{JsonFault, under, here}
 use Rattle.cdx_schema.specs.JsonReading.{Object, Found, nothing, a_null, found, as_found, jread, seen}
-use Rattle.cdx_json.specs.ByRows.{found_as, member_of, late_read}
+use Rattle.cdx_json.specs.ByRows.{read_if_found, member_of, late_read}
 use Rattle.cdx_models.specs.declared.errors.JsonReadError.{JsonReadError}
 use Rattle.cdx_models.specs.declared.errors.JsonReadError.TheVariants.{JsonElementReadError, BomError, Memory}
 use Rattle.cdx_json.specs.Gives.{Fails, Gives, IsFaultAt, IsWithin, fault, non_null, stands, is_found}
@@ -38,9 +38,9 @@ unfolding jread
 seen_is no_members q = refl
 seen_is (json.member l x ms) q = seen_at (slice_cmp nat_cmp q l) x (seen ms q) (get_member q ms) (seen_is ms q)
 
-pub member_is : (k : List ℕ) (need : Need) (kind : Kind) (ms : Members) (v : SpecVersion) (d : Depth) (o : Option Data) → o ≡ get_member k ms → member_of (seen ms) k need kind v d ≡ under (Member k) (found_as (as_seen o) need kind v d)
+pub member_is : (k : List ℕ) (need : Need) (kind : Kind) (ms : Members) (v : SpecVersion) (d : Depth) (o : Option Data) → o ≡ get_member k ms → member_of (seen ms) k need kind v d ≡ under (Member k) (read_if_found (as_seen o) need kind v d)
 unfolding member_of
-member_is k need kind ms v d o e = ap (λ f. under (Member k) (found_as f need kind v d)) (seen_is ms k ∙ ap as_seen (sym e))
+member_is k need kind ms v d o e = ap (λ f. under (Member k) (read_if_found f need kind v d)) (seen_is ms k ∙ ap as_seen (sym e))
 
 -- ---- errors
 
@@ -59,7 +59,7 @@ within_fails s (JsonElementReadError p k) (JsonElementReadError path kind) r h w
 
 -- ---- a member that is there and not null
 
-live : (need : Need) (kind : Kind) (v : SpecVersion) (d : Depth) (o : Option Data) (x : Data) → Some x ≡ non_null o → found_as (as_seen o) need kind v d ≡ jread x v kind d
+live : (need : Need) (kind : Kind) (v : SpecVersion) (d : Depth) (o : Option Data) (x : Data) → Some x ≡ non_null o → read_if_found (as_seen o) need kind v d ≡ jread x v kind d
 live need kind v d None x e = absurd cc
 live need kind v d (Some json.null) x e = absurd cc
 live need kind v d (Some (json.boolean b)) x e = let same : json.boolean b ≡ x = cc in ap (λ y. jread y v kind d) same
@@ -94,17 +94,17 @@ null_found need kind v d (json.array xs) e = absurd cc
 null_found need kind v d (json.object ms) e = absurd cc
 
 -- a member that is null
-pub member_null : (k : List ℕ) (need : Need) (kind : Kind) (ms : Members) (v : SpecVersion) (d : Depth) (x : Data) → Some x ≡ get_member k ms → None ≡ non_null (get_member k ms) → member_of (seen ms) k need kind v d ≡ under (Member k) (found_as a_null need kind v d)
+pub member_null : (k : List ℕ) (need : Need) (kind : Kind) (ms : Members) (v : SpecVersion) (d : Depth) (x : Data) → Some x ≡ get_member k ms → None ≡ non_null (get_member k ms) → member_of (seen ms) k need kind v d ≡ under (Member k) (read_if_found a_null need kind v d)
 member_null k need kind ms v d x is dead =
-    member_is k need kind ms v d (Some x) is ∙ ap (λ f. under (Member k) (found_as f need kind v d)) (null_found need kind v d x (dead ∙ ap non_null (sym is)))
+    member_is k need kind ms v d (Some x) is ∙ ap (λ f. under (Member k) (read_if_found f need kind v d)) (null_found need kind v d x (dead ∙ ap non_null (sym is)))
 
 pub must_null : (old new : JsonReadError) (k : List ℕ) (kind : Kind) (ms : Members) (v : SpecVersion) (d : Depth) (x : Data) → Some x ≡ get_member k ms → None ≡ non_null (get_member k ms) → IsFaultAt [] WrongKind old → IsWithin (Member k) old new → Fails new (member_of (seen ms) k required kind v d)
 must_null old new k kind ms v d x is dead at w =
     subst (Fails new) (sym (member_null k required kind ms v d x is dead)) (within_fails (Member k) old new (here WrongKind) (fails_here old WrongKind (here {A = Tree} WrongKind) at refl) w)
 
-may_seen : (k : List ℕ) (kind : Kind) (v : SpecVersion) (d : Depth) (o : Option Data) → None ≡ non_null o → under (Member k) (found_as (as_seen o) optional kind v d) ≡ Ok absent
+may_seen : (k : List ℕ) (kind : Kind) (v : SpecVersion) (d : Depth) (o : Option Data) → None ≡ non_null o → under (Member k) (read_if_found (as_seen o) optional kind v d) ≡ Ok absent
 may_seen k kind v d None e = refl
-may_seen k kind v d (Some x) e = ap (λ f. under (Member k) (found_as f optional kind v d)) (null_found optional kind v d x e)
+may_seen k kind v d (Some x) e = ap (λ f. under (Member k) (read_if_found f optional kind v d)) (null_found optional kind v d x e)
 
 pub may_none : (k : List ℕ) (kind : Kind) (ms : Members) (v : SpecVersion) (d : Depth) → None ≡ non_null (get_member k ms) → member_of (seen ms) k optional kind v d ≡ Ok absent
 may_none k kind ms v d e = member_is k optional kind ms v d (get_member k ms) refl ∙ may_seen k kind v d (get_member k ms) e
@@ -125,17 +125,17 @@ left_out_list k kind ms v d is = member_is k else_empty kind ms v d None is
 
 -- ---- a row that only the first version requires
 
-first_1_3 : (f : Found) (kind : Kind) (d : Depth) → found_as f required_first kind V1_3 d ≡ found_as f required kind V1_3 d
+first_1_3 : (f : Found) (kind : Kind) (d : Depth) → read_if_found f required_first kind V1_3 d ≡ read_if_found f required kind V1_3 d
 first_1_3 nothing kind d = refl
 first_1_3 a_null kind d = refl
 first_1_3 (found read) kind d = refl
 
-first_1_4 : (f : Found) (kind : Kind) (d : Depth) → found_as f required_first kind V1_4 d ≡ found_as f optional kind V1_4 d
+first_1_4 : (f : Found) (kind : Kind) (d : Depth) → read_if_found f required_first kind V1_4 d ≡ read_if_found f optional kind V1_4 d
 first_1_4 nothing kind d = refl
 first_1_4 a_null kind d = refl
 first_1_4 (found read) kind d = refl
 
-first_1_5 : (f : Found) (kind : Kind) (d : Depth) → found_as f required_first kind V1_5 d ≡ found_as f optional kind V1_5 d
+first_1_5 : (f : Found) (kind : Kind) (d : Depth) → read_if_found f required_first kind V1_5 d ≡ read_if_found f optional kind V1_5 d
 first_1_5 nothing kind d = refl
 first_1_5 a_null kind d = refl
 first_1_5 (found read) kind d = refl

@@ -12,7 +12,7 @@ use Rattle.cdx_schema.specs.Faults.{to_item, JsonFault, under, here}
 use Rattle.cdx_schema.specs.Results.{◌>>=◌}
 use Rattle.cdx_schema.specs.Table.{list}
 use Rattle.cdx_schema.specs.Depth.{inside, name_too_deep, is_too_deep}
-use Rattle.cdx_schema.specs.JsonReading.{jread, seen, at_depth, record_read, items_read, number_read}
+use Rattle.cdx_schema.specs.JsonReading.{jread, seen, at_depth, record_denoted, items_read, number_read}
 use Rattle.cdx_json.specs.ByRows.{json_kind, IsJsonListOf, list_read, by_rows, signature_of}
 use Rattle.cdx_json.proofs.ByRowsLaws.{by_rows_are}
 use Rattle.cdx_models.specs.declared.errors.JsonReadError.{JsonReadError}
@@ -137,7 +137,7 @@ list_gives see r x ds k l v d h is gives = subst (Gives see r) (sym (list_is x d
 at_no_depth : (n : Name) (d : Depth) (r : Result Tree JsonFault) → name_too_deep n d ≡ false → at_depth (a_record n) d r ≡ r
 at_no_depth n d r e = rw e refl
 
-record_is : (x : Data) (ms : Members) (n : Name) (v : SpecVersion) (d : Depth) → name_too_deep n d ≡ false → inside n d ≡ d → Some ms ≡ as_object x → jread x v (a_record n) d ≡ record_read n (seen ms) v d
+record_is : (x : Data) (ms : Members) (n : Name) (v : SpecVersion) (d : Depth) → name_too_deep n d ≡ false → inside n d ≡ d → Some ms ≡ as_object x → jread x v (a_record n) d ≡ record_denoted n (seen ms) v d
 unfolding jread
 record_is json.null ms n v d f i e = absurd cc
 record_is (json.boolean b) ms n v d f i e = absurd cc
@@ -145,7 +145,7 @@ record_is (json.number k) ms n v d f i e = absurd cc
 record_is (json.string s) ms n v d f i e = absurd cc
 record_is (json.array ds) ms n v d f i e = absurd cc
 record_is (json.object ls) ms n v d f i e =
-    let same : ls ≡ ms = cc in at_no_depth n d _ f ∙ ap (record_read n (seen ls) v) i ∙ ap (λ q. record_read n (seen q) v d) same
+    let same : ls ≡ ms = cc in at_no_depth n d _ f ∙ ap (record_denoted n (seen ls) v) i ∙ ap (λ q. record_denoted n (seen q) v d) same
 
 record_wrong : (x : Data) (n : Name) (v : SpecVersion) (d : Depth) → name_too_deep n d ≡ false → None ≡ as_object x → jread x v (a_record n) d ≡ here WrongKind
 unfolding jread
@@ -291,14 +291,14 @@ deep (json.object ms) k v d e = at_too_deep k d _ e
 pub deep_err : (e : JsonReadError) (x : Data) (n : Name) (v : SpecVersion) (d : Depth) → name_too_deep n d ≡ true → IsFaultAt [] TooDeep e → Fails e (jread x v (a_record n) d)
 deep_err e x n v d h at = fails_here e TooDeep (jread x v (a_record n) d) at (deep x (a_record n) v d h)
 
-deep_record_is : (x : Data) (ms : Members) (n : Name) (v : SpecVersion) (d : Depth) → name_too_deep n d ≡ false → Some ms ≡ as_object x → jread x v (a_record n) d ≡ record_read n (seen ms) v (inside n d)
+deep_record_is : (x : Data) (ms : Members) (n : Name) (v : SpecVersion) (d : Depth) → name_too_deep n d ≡ false → Some ms ≡ as_object x → jread x v (a_record n) d ≡ record_denoted n (seen ms) v (inside n d)
 unfolding jread
 deep_record_is json.null ms n v d f e = absurd cc
 deep_record_is (json.boolean b) ms n v d f e = absurd cc
 deep_record_is (json.number k) ms n v d f e = absurd cc
 deep_record_is (json.string s) ms n v d f e = absurd cc
 deep_record_is (json.array ds) ms n v d f e = absurd cc
-deep_record_is (json.object ls) ms n v d f e = let same : ls ≡ ms = cc in at_no_depth n d _ f ∙ ap (λ q. record_read n (seen q) v (inside n d)) same
+deep_record_is (json.object ls) ms n v d f e = let same : ls ≡ ms = cc in at_no_depth n d _ f ∙ ap (λ q. record_denoted n (seen q) v (inside n d)) same
 
 pub deep_record_gives : {X : Type 0} (see : X → Tree) (r : Result X JsonReadError) (x : Data) (ms : Members) (n : Name) (v : SpecVersion) (d : Depth) → name_too_deep n d ≡ false → Some ms ≡ as_object x → Gives see r (by_rows n (seen ms) v (inside n d)) → Gives see r (jread x v (a_record n) d)
 deep_record_gives see r x ms n v d f is h = subst (Gives see r) (by_rows_are n (seen ms) v (inside n d) ∙ sym (deep_record_is x ms n v d f is)) h

@@ -21,14 +21,14 @@ json_kind k = k
 abbrev pub IsJsonListOf : Kind → Lists → Type 0
 IsJsonListOf k l = json_kind (list l).kind ≡ json_kind k
 
-abbrev pub found_as : Found → Need → Kind → SpecVersion → Depth → Result Tree JsonFault
-found_as nothing need k v d = when_nothing need v
-found_as a_null need k v d = when_null need v
-found_as (found read) need k v d = read v k d
+abbrev pub read_if_found : Found → Need → Kind → SpecVersion → Depth → Result Tree JsonFault
+read_if_found nothing need k v d = when_nothing need v
+read_if_found a_null need k v d = when_null need v
+read_if_found (found read) need k v d = read v k d
 
 -- a member of an object
 unfoldable pub member_of : Object → List ℕ → Need → Kind → SpecVersion → Depth → Result Tree JsonFault
-member_of o name need k v d = under (to_member name) (found_as (o name) need k v d)
+member_of o name need k v d = under (to_member name) (read_if_found (o name) need k v d)
 
 -- what a version reads of a row that is known from `since` on
 unfoldable pub late_read : SpecVersion → SpecVersion → Result Tree JsonFault → Result Tree JsonFault

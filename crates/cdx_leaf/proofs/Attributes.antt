@@ -11,22 +11,22 @@ use Rattle.cdx_schema.specs.Results.{◌>>=◌}
 use Rattle.cdx_schema.specs.Faults.{lacking}
 use Rattle.cdx_schema.specs.Kinds.{Kind, Row, Member, required, optional, a_text}
 use Rattle.cdx_schema.specs.JsonReading.{is_required}
-use Rattle.cdx_schema.specs.XmlTexts.{of_text}
+use Rattle.cdx_schema.specs.XmlTexts.{tree_of_text}
 use Rattle.cdx_schema.specs.XmlReading.{attribute_read, parsed, find_attribute, row_attribute, attributes_read}
 use Rattle.cdx_leaf.specs.Fault.{FailsAt}
 use Rattle.cdx_leaf.specs.Attribute.{or_fault, GivesAt, known_since, text_row, value_of}
-use Rattle.cdx_leaf.specs.Numbers.{value_attribute}
+use Rattle.cdx_leaf.specs.Numbers.{parsed_attribute}
 use Rattle.cdx_leaf.specs.Parts.{text_alone}
 use Rattle.cdx_models.specs.Trees.{present}
 use Rattle.cdx_leaf.proofs.Records.{first_fails, then_fails}
 
 pub required_text : (r : Row) → r.kind ≡ a_text → r.need ≡ required → (name : List ℕ) (v : SpecVersion) (el : List ℕ) (p : ℕ) (o : Option (List ℕ)) → attribute_read o name r v el p ≡ (or_fault o (lacking p el name) >>= λ s. Ok (text s))
 required_text r kind need name v el p None = ap (λ x. if is_required x v then Err (lacking p el name) else Ok absent) need
-required_text r kind need name v el p (Some s) = ap (λ k. parsed (of_text k s) p name s k) kind
+required_text r kind need name v el p (Some s) = ap (λ k. parsed (tree_of_text k s) p name s k) kind
 
 pub optional_text_is : (r : Row) → r.kind ≡ a_text → r.need ≡ optional → (name : List ℕ) (v : SpecVersion) (el : List ℕ) (p : ℕ) (o : Option (List ℕ)) → attribute_read o name r v el p ≡ Ok (present text o)
 optional_text_is r kind need name v el p None = ap (λ x. if is_required x v then Err (lacking p el name) else Ok absent) need
-optional_text_is r kind need name v el p (Some s) = ap (λ k. parsed (of_text k s) p name s k) kind
+optional_text_is r kind need name v el p (Some s) = ap (λ k. parsed (tree_of_text k s) p name s k) kind
 
 -- a value that is read is the first, or the only one
 pub gives_into : {X T U : Type 0} (view : X → T) (into : T → U) (place : ℕ) (denoted : Result T XmlReadError) (r : Result X XmlReadError) → GivesAt view place denoted r → GivesAt (λ x. into (view x)) place (denoted >>= λ t. Ok (into t)) r
@@ -64,14 +64,14 @@ module _ (as' : List OwnedAttribute) (v : SpecVersion) (el : List ℕ) (p : ℕ)
       go false = refl
 
   -- a value that may be there
-  value_is : (r : Row) → r.need ≡ optional → (name : List ℕ) (o : Option (List ℕ)) → attribute_read o name r v el p ≡ value_attribute r.kind p name o
+  value_is : (r : Row) → r.need ≡ optional → (name : List ℕ) (o : Option (List ℕ)) → attribute_read o name r v el p ≡ parsed_attribute r.kind p name o
   value_is r need name None = ap (λ x. if is_required x v then Err (lacking p el name) else Ok absent) need
   value_is r need name (Some s) = refl
 
-  pub value_row : (K : Kind) (name : List ℕ) (j : Member) (t : Tree) → value_attribute K p name (find_attribute name as') ≡ Ok t → row_attribute (value_of K name j) as' v el p ≡ Ok t
+  pub value_row : (K : Kind) (name : List ℕ) (j : Member) (t : Tree) → parsed_attribute K p name (find_attribute name as') ≡ Ok t → row_attribute (value_of K name j) as' v el p ≡ Ok t
   value_row K name j t e = value_is (value_of K name j) refl name (find_attribute name as') ∙ e
 
-  pub value_row_fails : (K : Kind) (name : List ℕ) (j : Member) (e : XmlReadError) (q : ℕ) → FailsAt e q (value_attribute K p name (find_attribute name as')) → FailsAt e q (row_attribute (value_of K name j) as' v el p)
+  pub value_row_fails : (K : Kind) (name : List ℕ) (j : Member) (e : XmlReadError) (q : ℕ) → FailsAt e q (parsed_attribute K p name (find_attribute name as')) → FailsAt e q (row_attribute (value_of K name j) as' v el p)
   value_row_fails K name j e q h = subst (λ x. FailsAt e q x) (sym (value_is (value_of K name j) refl name (find_attribute name as'))) h
 
   pub rows_end : attributes_read [] as' v el p ≡ Ok none

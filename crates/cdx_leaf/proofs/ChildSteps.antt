@@ -21,7 +21,7 @@ use Rattle.cdx_schema.specs.Depth.{Depth}
 use Rattle.cdx_schema.specs.Kinds.{Kind}
 use Rattle.cdx_schema.specs.Kinds as sorts
 use Rattle.cdx_schema.specs.Nodes.{places, places_of}
-use Rattle.cdx_schema.specs.XmlReading.{ElementReading, Plan, Child, find_child, child_read, unknown, is_second, stored, appended, all, xread, nodes_read, node_read}
+use Rattle.cdx_schema.specs.XmlReading.{ElementReading, Plan, Child, find_child, child_read_into, unknown, is_second, stored, appended, all, xread, nodes_read, node_read}
 use Rattle.cdx_leaf.specs.declared.taken.Taken.{Taken}
 use Rattle.cdx_leaf.specs.declared.taken.Taken.TheVariants as answers
 use Rattle.cdx_leaf.specs.declared.rule.Rule.{Rule}
@@ -50,7 +50,7 @@ then_read nothing r el q s = unknown r el q s
 then_read second r el q s = Err (unexpected q el kinds.StartElement)
 then_read (found x) r el q s = x
 
-meet_is : (o : Option Child) (r : sorts.Rule) (read : ElementReading) (el : List ℕ) (v : SpecVersion) (d : Depth) (q : ℕ) (s : Trees) → child_read o r read el v d q s ≡ then_read (meet o (λ k. read v k q d) s) r el q s
+meet_is : (o : Option Child) (r : sorts.Rule) (read : ElementReading) (el : List ℕ) (v : SpecVersion) (d : Depth) (q : ℕ) (s : Trees) → child_read_into o r read el v d q s ≡ then_read (meet o (λ k. read v k q d) s) r el q s
 meet_is None r read el v d q s = refl
 meet_is (Some c) r read el v d q s = go (is_second c.place (field c.field s))
   where

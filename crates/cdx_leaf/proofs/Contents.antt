@@ -17,7 +17,7 @@ use Rattle.cdx_schema.proofs.PlainNames.{plain_name}
 use Rattle.cdx_schema.specs.Kinds.{a_record}
 use Rattle.cdx_schema.specs.Table.{rows}
 use Rattle.cdx_schema.specs.Nodes.{places_of}
-use Rattle.cdx_schema.specs.XmlReading.{any_text, one_text_alone, content_from, content_read, simple_text, exact_text, attributes_read, in_force, ended, Element, record_read, xread, nodes_read}
+use Rattle.cdx_schema.specs.XmlReading.{any_text, one_text_alone, content_from, content_fields, simple_text, exact_text, attributes_read, in_force, ended, Element, record_denoted, xread, nodes_read}
 use Rattle.cdx_leaf.specs.Attribute.{GivesAt}
 use Rattle.cdx_leaf.specs.Reading.{Reads, ReadsAs, behind_end}
 use Rattle.cdx_leaf.specs.Content.{with_text, ReadsContent}
@@ -35,13 +35,13 @@ paired_is (Err f) ts = refl
 -- The content of a record is field i, read like this.
 abbrev pub HasContent : Name → ℕ → (Nodes → List ℕ → ℕ → Result (List ℕ) XmlReadError) → Type 0
 HasContent name i read =
-    (e : Element) (ts : Trees) (v : SpecVersion) (d : Depth) → content_read (content_from 0 (rows name)) e name ts v d ≡ (read e.nodes e.name (suc e.start) >>= λ s. Ok (with_field i (text s) ts))
+    (e : Element) (ts : Trees) (v : SpecVersion) (d : Depth) → content_fields (content_from 0 (rows name)) e name ts v d ≡ (read e.nodes e.name (suc e.start) >>= λ s. Ok (with_field i (text s) ts))
 
 pub any_content : (name : Name) (i : ℕ) → content_from 0 (rows name) ≡ any_text i → HasContent name i (λ nodes el q. simple_text nodes el q)
-any_content name i is e ts v d = ap (λ c. content_read c e name ts v d) is
+any_content name i is e ts v d = ap (λ c. content_fields c e name ts v d) is
 
 pub text_content : (name : Name) (i : ℕ) → content_from 0 (rows name) ≡ one_text_alone i → HasContent name i (λ nodes el q. exact_text nodes el q)
-text_content name i is e ts v d = ap (λ c. content_read c e name ts v d) is
+text_content name i is e ts v d = ap (λ c. content_fields c e name ts v d) is
 
 module _ (name : Name) (i : ℕ) (read : Nodes → List ℕ → ℕ → Result (List ℕ) XmlReadError) (has : HasContent name i read) (plain : is_plain name ≡ true) where
   pub content_is : (v : SpecVersion) (n : OwnedName) (a : List OwnedAttribute) (ns : Namespace) (d : Depth) (p : ℕ) (nodes : Nodes)
@@ -51,15 +51,15 @@ module _ (name : Name) (i : ℕ) (read : Nodes → List ℕ → ℕ → Result (
       let e : Element = record { name = n.local_name; attributes = a; namespace = ns.default; nodes = nodes; start = p; read = λ plan w e ts. nodes_read nodes plan n.local_name w e (suc p) ts } in
       let last : Trees → Result Tree XmlReadError = λ ts. finished name v n.local_name (suc (p + places_of nodes)) ts in
       let first = attributes_read (rows name) (in_force name a) v n.local_name p in
-      ap (λ b. if b then Err (nested p) else record_read e name v d) ((plain_name name plain).shallow d)
-      ∙ ap (λ x. (first >>= λ ts. content_read (content_from 0 (rows name)) e name ts v x) >>= last) ((plain_name name plain).same_depth d)
+      ap (λ b. if b then Err (nested p) else record_denoted e name v d) ((plain_name name plain).shallow d)
+      ∙ ap (λ x. (first >>= λ ts. content_fields (content_from 0 (rows name)) e name ts v x) >>= last) ((plain_name name plain).same_depth d)
       ∙ go e first last
     where
       inner : (r : Result (List ℕ) XmlReadError) (ts : Trees) (last : Trees → Result Tree XmlReadError) → ((r >>= λ s. Ok (with_field i (text s) ts)) >>= last) ≡ (paired r ts >>= λ x. last (with_field i (text x.1) x.0))
       inner (Ok s) ts last = refl
       inner (Err f) ts last = refl
 
-      go : (e : Element) (first : Result Trees XmlReadError) (last : Trees → Result Tree XmlReadError) → ((first >>= λ ts. content_read (content_from 0 (rows name)) e name ts v d) >>= last) ≡ (with_text read first e.name e.start e.nodes >>= λ x. last (with_field i (text x.1) x.0))
+      go : (e : Element) (first : Result Trees XmlReadError) (last : Trees → Result Tree XmlReadError) → ((first >>= λ ts. content_fields (content_from 0 (rows name)) e name ts v d) >>= last) ≡ (with_text read first e.name e.start e.nodes >>= λ x. last (with_field i (text x.1) x.0))
       go e (Ok ts) last = ap (λ r. r >>= last) (has e ts v d) ∙ inner (read e.nodes e.name (suc e.start)) ts last ∙ ap (λ q. q >>= λ x. last (with_field i (text x.1) x.0)) (paired_is (read e.nodes e.name (suc e.start)) ts)
       go e (Err f) last = refl
 

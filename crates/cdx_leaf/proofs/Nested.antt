@@ -16,7 +16,7 @@ use Rattle.cdx_schema.specs.Depth.{Depth, name_too_deep}
 use Rattle.cdx_schema.specs.Kinds.{a_record}
 use Rattle.cdx_schema.specs.Table.{rows}
 use Rattle.cdx_schema.specs.Nodes.{places_of}
-use Rattle.cdx_schema.specs.XmlReading.{Plan, record_plan, attributes_read, in_force, Element, record_read, xread, nodes_read, ended}
+use Rattle.cdx_schema.specs.XmlReading.{Plan, record_plan, attributes_read, in_force, Element, record_denoted, xread, nodes_read, ended}
 use Rattle.cdx_leaf.specs.declared.taken.Taken.{Taken}
 use Rattle.cdx_leaf.specs.Attribute.{GivesAt}
 use Rattle.cdx_leaf.specs.Children.{TakesChild}
@@ -38,7 +38,7 @@ deep_is : (name : Name) (v : SpecVersion) (n : OwnedName) (a : List OwnedAttribu
 unfolding xread
 deep_is name v n a ns d p nodes deep =
     let e : Element = record { name = n.local_name; attributes = a; namespace = ns.default; nodes = nodes; start = p; read = λ plan w e ts. nodes_read nodes plan n.local_name w e (suc p) ts } in
-    ap (λ b. if b then Err (nested p) else record_read e name v d) deep
+    ap (λ b. if b then Err (nested p) else record_denoted e name v d) deep
 
 -- One level too much is refused at the element's start.
 pub deep_reads : {X : Type 0} (tree : X → Tree) (name : Name) (v : SpecVersion) (n : OwnedName) (a : List OwnedAttribute) (d : Depth) (old : Cursor) (k : ℕ) → name_too_deep name d ≡ true → k ≡ old.place → ReadsAs tree old old n a v (a_record name) (λ _. d) (Err (nested (k - 1)))

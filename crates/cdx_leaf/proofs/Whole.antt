@@ -18,7 +18,7 @@ use Rattle.cdx_schema.specs.Plain.{is_plain}
 use Rattle.cdx_schema.proofs.PlainNames.{plain_name}
 use Rattle.cdx_schema.specs.Table.{rows}
 use Rattle.cdx_schema.specs.Nodes.{places_of}
-use Rattle.cdx_schema.specs.XmlReading.{Plan, no_content, content_from, content_read, record_plan, attributes_read, in_force, ended, Element, record_read, xread, nodes_read}
+use Rattle.cdx_schema.specs.XmlReading.{Plan, no_content, content_from, content_fields, record_plan, attributes_read, in_force, ended, Element, record_denoted, xread, nodes_read}
 use Rattle.cdx_leaf.specs.Fault.{FailsAt}
 use Rattle.cdx_leaf.specs.Attribute.{GivesAt}
 use Rattle.cdx_leaf.specs.Each.{each_node, plan_step}
@@ -60,8 +60,8 @@ nested_is name alone v n a ns d p nodes shallow =
     let last : Trees → Result Tree XmlReadError = λ ts. finished name v n.local_name (suc (p + places_of nodes)) ts in
     let first = attributes_read (rows name) (in_force name a) v n.local_name p in
     let i = inside name d in
-    ap (λ b. if b then Err (nested p) else record_read e name v d) shallow
-    ∙ ap (λ c. (first >>= λ ts. content_read c e name ts v i) >>= last) alone
+    ap (λ b. if b then Err (nested p) else record_denoted e name v d) shallow
+    ∙ ap (λ c. (first >>= λ ts. content_fields c e name ts v i) >>= last) alone
     ∙ ap (λ r. r >>= last) (both first (λ ts. nodes_read nodes (record_plan name) n.local_name v i (suc p) ts) (λ ts. each_node (plan_step (record_plan name) v i n.local_name) nodes (suc p) ts) (λ ts. each_is nodes (record_plan name) n.local_name v i (suc p) ts))
 
 -- its fields, read at a depth, and its end

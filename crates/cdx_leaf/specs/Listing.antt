@@ -29,12 +29,12 @@ abbrev pub listing_plan : Rule → List ℕ → Kind → Plan
 listing_plan r inner K = record { rule = as_rule r; children = record { name = inner; since = V1_3; kind = K; field = 0; place = all } ∷ [] }
 
 -- the list that the nodes of an element of this name are
-abbrev pub items_read : Plan → List ℕ → SpecVersion → Depth → ℕ → Nodes → Result Tree XmlReadError
-items_read plan el v d p nodes = nodes_read nodes plan el v d (suc p) (one absent) >>= λ ts. Ok (list_of (field 0 ts))
+abbrev pub items_denoted : Plan → List ℕ → SpecVersion → Depth → ℕ → Nodes → Result Tree XmlReadError
+items_denoted plan el v d p nodes = nodes_read nodes plan el v d (suc p) (one absent) >>= λ ts. Ok (list_of (field 0 ts))
 
 abbrev pub ReadsList : {X : Type 0} → (X → Tree) → Kind → (Depth → Depth) → Cursor → Cursor → SpecVersion → OwnedName → List ℕ → Rule → Result (List X) XmlReadError → Type 0
 ReadsList tree K depth old new v n inner r result =
-    (d : Depth) (p : ℕ) (nodes : Nodes) (rest : List XmlEvent) → Stands old n p nodes rest → Reads (list_tree tree) old new (behind_end old nodes rest) (items_read (listing_plan r inner K) n.local_name v (depth d) p nodes) result
+    (d : Depth) (p : ℕ) (nodes : Nodes) (rest : List XmlEvent) → Stands old n p nodes rest → Reads (list_tree tree) old new (behind_end old nodes rest) (items_denoted (listing_plan r inner K) n.local_name v (depth d) p nodes) result
 
 -- The same, seen as the fields of a record of one row.
 abbrev pub ReadsItems : {X : Type 0} → (X → Tree) → Kind → (Depth → Depth) → Cursor → Cursor → SpecVersion → OwnedName → List ℕ → Rule → Result (List X) XmlReadError → Type 0
@@ -44,4 +44,4 @@ ReadsItems tree K depth old new v n inner r result =
 -- A list was read into a field. The answer is always Read.
 abbrev pub TakesList : Tree → Kind → (Depth → Depth) → Cursor → Cursor → SpecVersion → OwnedName → List ℕ → Rule → Result Taken XmlReadError → Type 0
 TakesList now K depth old new v n inner r result =
-    (d : Depth) (p : ℕ) (nodes : Nodes) (rest : List XmlEvent) → Stands old n p nodes rest → Took now old new (behind_end old nodes rest) (items_read (listing_plan r inner K) n.local_name v (depth d) p nodes) result
+    (d : Depth) (p : ℕ) (nodes : Nodes) (rest : List XmlEvent) → Stands old n p nodes rest → Took now old new (behind_end old nodes rest) (items_denoted (listing_plan r inner K) n.local_name v (depth d) p nodes) result

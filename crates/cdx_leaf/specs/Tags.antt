@@ -28,10 +28,10 @@ abbrev pub boolean_in : Nodes → List ℕ → ℕ → Result Tree XmlReadError
 boolean_in nodes around p = simple_text nodes around p >>= λ s. value_read a_boolean (p + places_of nodes) around s
 
 -- the text that an event is, in an element of this name
-abbrev pub event_text : XmlEvent → List ℕ → ℕ → Result (List ℕ) XmlReadError
-event_text (Characters t) around p = Ok t
-event_text (CData t) around p = Ok t
-event_text event around p = Err (unexpected p around (kind_of event))
+abbrev pub text_in_event : XmlEvent → List ℕ → ℕ → Result (List ℕ) XmlReadError
+text_in_event (Characters t) around p = Ok t
+text_in_event (CData t) around p = Ok t
+text_in_event event around p = Err (unexpected p around (kind_of event))
 
 -- the same, where the element may end
 abbrev pub event_text_or_end : XmlEvent → List ℕ → ℕ → Result (Option (List ℕ)) XmlReadError

@@ -8,7 +8,7 @@ ghost use Rattle.cdx_models.specs.Trees.{number, boolean};
 ghost use Rattle.cdx_schema.specs.XmlTexts.{number_of};
 ghost use Rattle.cdx_schema.specs.XmlReading.{simple_text, exact_text, after_text, number_alone, number_in};
 ghost use Rattle.cdx_leaf.specs.Reading.{WithinElement, IsAt, Reads, ReadsRest, behind_end};
-ghost use Rattle.cdx_leaf.specs.Tags.{text_or_none, boolean_in, event_text, event_text_or_end, ReadsNext};
+ghost use Rattle.cdx_leaf.specs.Tags.{text_or_none, boolean_in, text_in_event, event_text_or_end, ReadsNext};
 
 use crate::error::{invalid_parse_error, refuse};
 use crate::xml_type::{FromXmlType, number_of};
@@ -42,7 +42,7 @@ pub fn inner_text_or_error(
 ) -> Result<Text, XmlReadError>
     requires { IsAt reader.old element.now }
     ensures { ReadsNext (λ t. t) reader.old reader.new
-        (λ q event. event_text event element.now.local_name q) result }
+        (λ q event. text_in_event event element.now.local_name q) result }
 {
     let place = reader.place();
     match reader.next() {

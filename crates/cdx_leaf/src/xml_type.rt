@@ -5,7 +5,7 @@ ghost use Rattle.cdx_models.specs.Trees.{present};
 ghost use Rattle.cdx_schema.specs.XmlReading.{find_attribute};
 ghost use Rattle.cdx_schema.specs.XmlTexts.{boolean_of, number_of};
 ghost use Rattle.cdx_leaf.specs.Attribute.{GivesAt};
-ghost use Rattle.cdx_leaf.specs.Numbers.{value_attribute};
+ghost use Rattle.cdx_leaf.specs.Numbers.{parsed_attribute};
 
 use crate::attribute::optional_attribute;
 use crate::error::{Reading, invalid_parse_error};
@@ -115,7 +115,7 @@ impl FromXmlType for u32 {
 /// start.
 pub fn attribute_value<T: FromXmlType>(opened: &Start<'_>, expected: &str) -> Reading<Option<T>>
     ensures { GivesAt (present T.tree) (opened.now.place + 1)
-        (value_attribute T.value_kind opened.now.place expected.now
+        (parsed_attribute T.value_kind opened.now.place expected.now
         (find_attribute expected.now opened.now.attributes.now))
         result }
 {

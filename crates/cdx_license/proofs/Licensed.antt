@@ -29,7 +29,7 @@ use Rattle.cdx_schema.specs.Keeping.{kept, keep}
 use Rattle.cdx_models.specs.declared.errors.JsonReadError.{JsonReadError}
 use Rattle.cdx_models.specs.declared.errors.JsonReadError.TheVariants.{JsonElementReadError, BomError, Memory}
 use Rattle.cdx_json.specs.Gives.{Fails, Gives, IsFaultAt, stands}
-use Rattle.cdx_json.specs.ByRows.{found_as, member_of, identifier_of, choice_of, by_rows}
+use Rattle.cdx_json.specs.ByRows.{read_if_found, member_of, identifier_of, choice_of, by_rows}
 use Rattle.cdx_json.specs.KeptRows.{put_kept, put_own}
 use Rattle.cdx_json.proofs.ByRowsLaws.{by_rows_are}
 use Rattle.cdx_json.proofs.Rows.{fails_here}
@@ -43,7 +43,7 @@ pub reads_id : (o : Object) (b : Bool) (v : SpecVersion) (d : Depth) → b ≡ s
 unfolding identifier_of member_of
 reads_id o b v d is e = by (o (codes "id")) (sym is ∙ e)
   where
-    by : (f : Found) → stands f ≡ true → id_read f o v d ≡ (under (to_member (codes "id")) (found_as f required a_text v d) >>= as_identifier spdx_id)
+    by : (f : Found) → stands f ≡ true → id_read f o v d ≡ (under (to_member (codes "id")) (read_if_found f required a_text v d) >>= as_identifier spdx_id)
     by nothing h = absurd cc
     by a_null h = refl
     by (found read) h = refl
@@ -57,7 +57,7 @@ pub reads_name : (o : Object) (b c : Bool) (v : SpecVersion) (d : Depth) → b �
 unfolding identifier_of member_of
 reads_name o b c v d is e at h = no_id (o (codes "id")) o v d (sym is ∙ e) ∙ by (o (codes "name")) (sym at ∙ h)
   where
-    by : (f : Found) → stands f ≡ true → name_read f v d ≡ (under (to_member (codes "name")) (found_as f required a_text v d) >>= as_identifier license_name)
+    by : (f : Found) → stands f ≡ true → name_read f v d ≡ (under (to_member (codes "name")) (read_if_found f required a_text v d) >>= as_identifier license_name)
     by nothing h = absurd cc
     by a_null h = refl
     by (found read) h = refl
@@ -192,7 +192,7 @@ pub reads_license : (ms : Members) (b : Bool) (v : SpecVersion) (d : Depth) → 
 unfolding choice_of member_of
 reads_license ms b v d is e = ap (λ c. choice_read c (seen ms) v d) (sym is ∙ e) ∙ by (seen ms (codes "license")) (lone_stands ms (sym is ∙ e))
   where
-    by : (f : Found) → stands f ≡ true → license_read f v d ≡ under (to_member (codes "license")) (found_as f required (a_record license) v d)
+    by : (f : Found) → stands f ≡ true → license_read f v d ≡ under (to_member (codes "license")) (read_if_found f required (a_record license) v d)
     by nothing h = absurd cc
     by a_null h = refl
     by (found read) h = refl

@@ -57,7 +57,7 @@ fn read_command(words: &[String]) -> Option<Command>
 /// - 2, `{"request":"not JSON"}`: `serde_json` has no reading of the bytes.
 /// - 2, `{"request":"shape"}`: the value is no request by `read_request`.
 /// - 1, `{"refused":{"cause":"unbalanced","place":p}}`: its document's events break at p.
-/// - 1, `{"refused":{..}}` by `refused_answer`: its document has this first fault, or denotes a bill that lacks a version
+/// - 1, `{"refused":{..}}` by `refusal_value`: its document has this first fault, or denotes a bill that lacks a version
 ///   which a hop asks for.
 /// - 0: the source was read to its end and held a request. `{"losses":[..]}` was written, with an object for each loss by
 ///   `losses`, in order: `path`, a JSON pointer, and `reason`, which is `version`, `tools`, `flow` or `xml`.

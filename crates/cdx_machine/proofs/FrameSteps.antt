@@ -15,7 +15,7 @@ use Rattle.cdx_schema.specs.Faults.{unexpected}
 use Rattle.cdx_schema.specs.Locality.{fault_place}
 use Rattle.cdx_schema.specs.Nodes.{places, places_of, ◌⊕◌}
 use Rattle.cdx_schema.specs.Results.{◌>>=◌}
-use Rattle.cdx_schema.specs.XmlReading.{Plan, Child, find_child, is_second, stored, unknown, child_read, node_read, nodes_read, xread}
+use Rattle.cdx_schema.specs.XmlReading.{Plan, Child, find_child, is_second, stored, unknown, child_read_into, node_read, nodes_read, xread}
 use Rattle.cdx_schema.proofs.Groups.{one_node_more, under_ok, after}
 use Rattle.cdx_schema.proofs.FaultPlaces.{err_same}
 use Rattle.cdx_leaf.specs.declared.rule.Rule.{Rule}
@@ -66,8 +66,8 @@ module _ (denotes : Node → SpecVersion → ℕ → Depth → Result Tree XmlRe
       beyond i j k l e f = omega (arith, e, f)
 
   -- an element by its name
-  named_read : (k : Node) (m : OwnedName) (el : List ℕ) (v : SpecVersion) (d : Depth) (q : ℕ) (ts : Trees) → IsNamed m k → node_read k (xread k) plan el v d q ts ≡ child_read (find_child v m.local_name plan.children) plan.rule (xread k) el v d q ts
-  named_read k m el v d q ts (b, r, ys, e) = subst (λ (k : Node). node_read k (xread k) plan el v d q ts ≡ child_read (find_child v m.local_name plan.children) plan.rule (xread k) el v d q ts) (sym e) refl
+  named_read : (k : Node) (m : OwnedName) (el : List ℕ) (v : SpecVersion) (d : Depth) (q : ℕ) (ts : Trees) → IsNamed m k → node_read k (xread k) plan el v d q ts ≡ child_read_into (find_child v m.local_name plan.children) plan.rule (xread k) el v d q ts
+  named_read k m el v d q ts (b, r, ys, e) = subst (λ (k : Node). node_read k (xread k) plan el v d q ts ≡ child_read_into (find_child v m.local_name plan.children) plan.rule (xread k) el v d q ts) (sym e) refl
 
   module _ (n : OwnedName) (a : List OwnedAttribute) (s : Namespace) (xs : Nodes) (v : SpecVersion) (p : ℕ) (d : Depth) (ts : Trees) (h : read_so_far first plan n.local_name a v d p xs ≡ Ok ts) where
     -- a child that a child of the plan reads
@@ -99,7 +99,7 @@ module _ (denotes : Node → SpecVersion → ℕ → Depth → Result Tree XmlRe
     -- a child that is skipped
     pub skipped_read : (k : Node) (m : OwnedName) → IsNamed m k → find_child v m.local_name plan.children ≡ None → ((el : List ℕ) (q : ℕ) (ts : Trees) → unknown plan.rule el q ts ≡ Ok ts) → read_so_far first plan n.local_name a v d p (xs ⊕ lone k) ≡ Ok ts
     skipped_read k m i f g =
-        more_node n a s xs v p d ts k h ∙ (named_read k m n.local_name v d (suc p + places_of xs) ts i ∙ (ap (λ o. child_read o plan.rule (xread k) n.local_name v d (suc p + places_of xs) ts) f ∙ g n.local_name (suc p + places_of xs) ts))
+        more_node n a s xs v p d ts k h ∙ (named_read k m n.local_name v d (suc p + places_of xs) ts i ∙ (ap (λ o. child_read_into o plan.rule (xread k) n.local_name v d (suc p + places_of xs) ts) f ∙ g n.local_name (suc p + places_of xs) ts))
 
   module _ {R C : Type 0} (holds : ChildHolding C) (slots : R → Trees) (kept : Type 0) (v : SpecVersion) (p : ℕ) (d : Depth) (name : List ℕ) (known : SpecVersion) where
     abbrev pub Stepped : (Begun → Type 0) → Next → Result Bool XmlReadError → Type 0
@@ -132,9 +132,9 @@ module _ (denotes : Node → SpecVersion → ℕ → Depth → Result Tree XmlRe
           refuses_on f (suc place) (p + suc (places_of xs + 1)) _ (denotes (element n a s (xs ⊕ lone (element m b z no_nodes))) v p d)
           (λ g i. whole_fails n a s (xs ⊕ lone (element m b z no_nodes)) v p d g
           (more_node n a s xs v p d (slots r) (element m b z no_nodes) h.reads
-          ∙ (ap (λ q. child_read (find_child v m.local_name plan.children) plan.rule (xread (element m b z no_nodes)) n.local_name v d q (slots r)) (sym (is ∙ moved (places_of xs)))
-          ∙ (ap (λ el. child_read (find_child v m.local_name plan.children) plan.rule (xread (element m b z no_nodes)) el v d place (slots r)) (sym h.name_is)
-          ∙ (ap (λ (w : SpecVersion). child_read (find_child w m.local_name plan.children) plan.rule (xread (element m b z no_nodes)) name w d place (slots r)) (sym h.version_is) ∙ i)))))
+          ∙ (ap (λ q. child_read_into (find_child v m.local_name plan.children) plan.rule (xread (element m b z no_nodes)) n.local_name v d q (slots r)) (sym (is ∙ moved (places_of xs)))
+          ∙ (ap (λ el. child_read_into (find_child v m.local_name plan.children) plan.rule (xread (element m b z no_nodes)) el v d place (slots r)) (sym h.name_is)
+          ∙ (ap (λ (w : SpecVersion). child_read_into (find_child w m.local_name plan.children) plan.rule (xread (element m b z no_nodes)) name w d place (slots r)) (sym h.version_is) ∙ i)))))
           (ends (places_of xs) is) e
         where
           moved : (k : ℕ) → p + suc k ≡ suc p + k

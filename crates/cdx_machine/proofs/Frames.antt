@@ -16,7 +16,7 @@ use Rattle.cdx_schema.specs.Faults.{unexpected}
 use Rattle.cdx_schema.specs.Kinds as sorts
 use Rattle.cdx_schema.specs.Nodes.{◌⊕◌}
 use Rattle.cdx_schema.specs.Results.{◌>>=◌}
-use Rattle.cdx_schema.specs.XmlReading.{ElementReading, Plan, Child, find_child, is_second, stored, unknown, child_read, xread}
+use Rattle.cdx_schema.specs.XmlReading.{ElementReading, Plan, Child, find_child, is_second, stored, unknown, child_read_into, xread}
 use Rattle.cdx_leaf.specs.declared.rule.Rule.{Rule}
 use Rattle.cdx_leaf.specs.Fault.{Refused}
 use Rattle.cdx_leaf.specs.Rules.{skips, as_rule}
@@ -106,17 +106,17 @@ level_less (around n a s xs o) = let e : levels o ≤ count o = level_less o in 
 
 -- what a child of the plan makes of an element
 pub row_read : (found : Option Child) (row : Child) (rule : sorts.Rule) (read : ElementReading) (el : List ℕ) (v : SpecVersion) (d : Depth) (q : ℕ) (ts : Trees) → found ≡ Some row → is_second row.place (field row.field ts) ≡ false
-    → child_read found rule read el v d q ts ≡ (read v row.kind q d >>= λ t. Ok (stored row.place row.field t ts))
+    → child_read_into found rule read el v d q ts ≡ (read v row.kind q d >>= λ t. Ok (stored row.place row.field t ts))
 row_read found row rule read el v d q ts f g =
-    ap (λ o. child_read o rule read el v d q ts) f ∙ ap (λ b. if b then Err (unexpected q el kinds.StartElement) else (read v row.kind q d >>= λ t. Ok (stored row.place row.field t ts))) g
+    ap (λ o. child_read_into o rule read el v d q ts) f ∙ ap (λ b. if b then Err (unexpected q el kinds.StartElement) else (read v row.kind q d >>= λ t. Ok (stored row.place row.field t ts))) g
 
 second_read : (found : Option Child) (row : Child) (rule : sorts.Rule) (read : ElementReading) (el : List ℕ) (v : SpecVersion) (d : Depth) (q : ℕ) (ts : Trees) → found ≡ Some row → is_second row.place (field row.field ts) ≡ true
-    → child_read found rule read el v d q ts ≡ Err (unexpected q el kinds.StartElement)
+    → child_read_into found rule read el v d q ts ≡ Err (unexpected q el kinds.StartElement)
 second_read found row rule read el v d q ts f g =
-    ap (λ o. child_read o rule read el v d q ts) f ∙ ap (λ b. if b then Err (unexpected q el kinds.StartElement) else (read v row.kind q d >>= λ t. Ok (stored row.place row.field t ts))) g
+    ap (λ o. child_read_into o rule read el v d q ts) f ∙ ap (λ b. if b then Err (unexpected q el kinds.StartElement) else (read v row.kind q d >>= λ t. Ok (stored row.place row.field t ts))) g
 
-unknown_read : (found : Option Child) (rule : sorts.Rule) (read : ElementReading) (el : List ℕ) (v : SpecVersion) (d : Depth) (q : ℕ) (ts : Trees) → found ≡ None → child_read found rule read el v d q ts ≡ unknown rule el q ts
-unknown_read found rule read el v d q ts f = ap (λ o. child_read o rule read el v d q ts) f
+unknown_read : (found : Option Child) (rule : sorts.Rule) (read : ElementReading) (el : List ℕ) (v : SpecVersion) (d : Depth) (q : ℕ) (ts : Trees) → found ≡ None → child_read_into found rule read el v d q ts ≡ unknown rule el q ts
+unknown_read found rule read el v d q ts f = ap (λ o. child_read_into o rule read el v d q ts) f
 
 unknown_by : (r : Rule) (el : List ℕ) (q : ℕ) (ts : Trees) → skips r ≡ true → unknown (as_rule r) el q ts ≡ Ok ts
 unknown_by Rattle.cdx_leaf.specs.declared.rule.Rule.TheVariants.Lax el q ts h = refl
@@ -142,7 +142,7 @@ module _ {C : Type 0} (holds : ChildHolding C) (plan : Plan) (ts : Trees) (v : S
       one_less : (k : ℕ) → k + 1 ≡ suc k
       one_less k = omega arith
 
-  refused_here : (found : kinds.the_data) (r : Result (Inside C) XmlReadError) → child_read (find_child v m.local_name plan.children) plan.rule (xread (element m b s no_nodes)) n v d q ts ≡ Err (unexpected q n kinds.StartElement)
+  refused_here : (found : kinds.the_data) (r : Result (Inside C) XmlReadError) → child_read_into (find_child v m.local_name plan.children) plan.rule (xread (element m b s no_nodes)) n v d q ts ≡ Err (unexpected q n kinds.StartElement)
       → found ≡ kinds.StartElement → Refused r (unexpected q n found) → EntersAt holds plan ts v n q d (innermost m b s no_nodes) r
   refused_here found (Ok x) is k h = absurd h
   refused_here found (Err e) is k h = refuses_known (Inside C) e (unexpected q n found) (suc q) _ h (is ∙ ap (λ x. Err (unexpected q n x)) (sym k)) refl

@@ -16,7 +16,7 @@ use Rattle.cdx_schema.specs.Kinds.{Kind}
 use Rattle.cdx_schema.specs.Locality.{fault_place}
 use Rattle.cdx_schema.specs.Nodes.{places_of}
 use Rattle.cdx_schema.specs.Results.{◌>>=◌}
-use Rattle.cdx_schema.specs.XmlReading.{Plan, Child, find_child, is_second, unknown, child_read, xread, nodes_read}
+use Rattle.cdx_schema.specs.XmlReading.{Plan, Child, find_child, is_second, unknown, child_read_into, xread, nodes_read}
 use Rattle.cdx_machine.specs.declared.frame.Inside.{Inside}
 use Rattle.cdx_machine.specs.declared.frame.Inside.TheVariants as places_inside
 use Rattle.cdx_machine.specs.Begun.{Begun, innermost, around, start_name, levels, count, ended_now}
@@ -108,7 +108,7 @@ abbrev pub EntersAt : {C : Type 0} → ChildHolding C → Plan → Trees → Spe
 EntersAt holds plan ts v n q d o (Ok places_inside.Nothing) = ⊥
 EntersAt holds plan ts v n q d o (Ok (places_inside.Read c)) = OpensChild holds plan ts v q d o c
 EntersAt holds plan ts v n q d o (Ok (places_inside.Skipped depth)) = IsSkipped plan depth v o
-EntersAt holds plan ts v n q d o (Err e) = RefusesBefore e (suc q) (child_read (find_child v (start_name o).local_name plan.children) plan.rule (xread (ended_now o)) n v d q ts)
+EntersAt holds plan ts v n q d o (Err e) = RefusesBefore e (suc q) (child_read_into (find_child v (start_name o).local_name plan.children) plan.rule (xread (ended_now o)) n v d q ts)
 
 abbrev pub Enters : {C : Type 0} → ChildHolding C → Plan → Trees → SpecVersion → List ℕ → ℕ → XmlEvent → OwnedName → List OwnedAttribute → Result (Inside C) XmlReadError → Type 0
 Enters holds plan ts v n q event m b result = kind_of event ≡ kinds.StartElement → (d : Depth) (s : Namespace) → EntersAt holds plan ts v n q d (innermost m b s no_nodes) result

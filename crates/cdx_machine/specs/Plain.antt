@@ -17,8 +17,8 @@ use Rattle.cdx_events.specs.declared.name.Namespace.{Namespace}
 use Rattle.cdx_events.specs.Nodes.{element}
 use Rattle.cdx_schema.specs.Depth.{Depth}
 use Rattle.cdx_schema.specs.Nodes.{places_of}
-use Rattle.cdx_schema.specs.XmlTexts.{of_text}
-use Rattle.cdx_schema.specs.XmlReading.{one_text_alone, content_from, content_read, simple_text, exact_text, parsed, attributes_read, in_force, ended, xread}
+use Rattle.cdx_schema.specs.XmlTexts.{tree_of_text}
+use Rattle.cdx_schema.specs.XmlReading.{one_text_alone, content_from, content_fields, simple_text, exact_text, parsed, attributes_read, in_force, ended, xread}
 use Rattle.cdx_leaf.proofs.Contents.{HasContent, content_is}
 use Rattle.cdx_schema.specs.Plain.{is_plain}
 use Rattle.cdx_schema.proofs.FaultPlaces.{ok_err, err_same, attributes_place}
@@ -81,7 +81,7 @@ flag_content = record {
   begun = λ c n a s xs v p d h. simple_then xs n.local_name (suc p) (λ t. value_read a_boolean (suc (p + places_of xs)) n.local_name t);
   refused = λ n a s xs v p d f h. ok_err h;
   first_place = λ el a v p f h. ok_err h;
-  last_place = λ el q c o f h. flag_place (of_text a_boolean (unwrap_or o [])) el (unwrap_or o []) q f h;
+  last_place = λ el q c o f h. flag_place (tree_of_text a_boolean (unwrap_or o [])) el (unwrap_or o []) q f h;
 }
 
 then_fields : (r : Result (List ℕ) XmlReadError) (ts : Trees) (name : Name) (i : ℕ) (v : SpecVersion) (el : List ℕ) (q : ℕ) → ((t : List ℕ) → ended (rows name) (with_field i (text t) ts) v el q ≡ Ok (with_field i (text t) ts))
@@ -116,7 +116,7 @@ record_content name i start has plain whole = record {
 
 -- the text that stands right in the element of a record, where there has to be one
 pub one_content : (name : Name) (i : ℕ) → content_from 0 (rows name) ≡ one_text_alone i → HasContent name i (λ nodes el q. exact_text nodes el q)
-one_content name i is e ts v d = ap (λ c. content_read c e name ts v d) is
+one_content name i is e ts v d = ap (λ c. content_fields c e name ts v d) is
 
 exact_is : {T : Type 0} (xs : Nodes) (el : List ℕ) (q : ℕ) (k : ℕ) (g : List ℕ → T) (last : Option (List ℕ) → Result T XmlReadError) → k ≡ q + places_of xs → last None ≡ Err (unexpected k el kinds.EndElement) → ((t : List ℕ) → last (Some t) ≡ Ok (g t))
     → (exact_text xs el q >>= λ t. Ok (g t)) ≡ (text_or_none xs el q >>= last)

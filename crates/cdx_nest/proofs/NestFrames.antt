@@ -19,8 +19,8 @@ use Rattle.cdx_service.specs.declared.frames.ServiceKind.{ServiceKind}
 use Rattle.cdx_service.specs.declared.frames.ServiceKind.TheVariants as service_kinds
 use Rattle.cdx_nest.specs.declared.frames.NestKind.{NestKind}
 use Rattle.cdx_nest.specs.declared.frames.NestKind.TheVariants as nest_kinds
-use Rattle.cdx_nest.specs.Frames.{nest_kind, of_component, of_service, Reader, reads_as, reader_of}
-use Rattle.cdx_nest.specs.FrameLaws.{component_same, service_same}
+use Rattle.cdx_nest.specs.Frames.{nest_kind, among_components, among_services, Reader, reads_as, reader_of}
+use Rattle.cdx_nest.specs.FrameLaws.{components_alike, services_alike}
 
 -- ---- what reads a child, there and here
 
@@ -70,38 +70,38 @@ component_of nest_kinds.Components = component_kinds.Components
 component_of nest_kinds.Pedigree = component_kinds.Pedigree
 component_of _ = component_kinds.Component
 
-component_back : (k : ComponentKind) → component_of (of_component k) ≡ k
+component_back : (k : ComponentKind) → component_of (among_components k) ≡ k
 unfolding component_of
 component_back component_kinds.Component = refl
 component_back component_kinds.Components = refl
 component_back component_kinds.Pedigree = refl
 
-component_reads : (k : ComponentKind) (i : ℕ) → reader_of (of_component k) i ≡ option_map (reads_as of_component) (component_reader k i)
+component_reads : (k : ComponentKind) (i : ℕ) → reader_of (among_components k) i ≡ option_map (reads_as among_components) (component_reader k i)
 component_reads component_kinds.Component i = refl
 component_reads component_kinds.Components i = refl
 component_reads component_kinds.Pedigree i = refl
 
-pub component_has : (k : ComponentKind) (i : ℕ) → HasReader (reader_of (of_component k)) i → HasReader (component_reader k) i
-component_has k i (r, at) = own_reader of_component component_of component_back (component_reader k i) r (sym (component_reads k i) ∙ at)
+pub component_has : (k : ComponentKind) (i : ℕ) → HasReader (reader_of (among_components k)) i → HasReader (component_reader k) i
+component_has k i (r, at) = own_reader among_components component_of component_back (component_reader k i) r (sym (component_reads k i) ∙ at)
 
-pub component_child : (k : ComponentKind) (i : ℕ) (q : Reads LeafKind ComponentKind) → component_reader k i ≡ Some q → reader_of (of_component k) i ≡ Some (reads_as of_component q)
-component_child k i q at = component_reads k i ∙ ap (λ o. option_map (reads_as of_component) o) at
+pub component_child : (k : ComponentKind) (i : ℕ) (q : Reads LeafKind ComponentKind) → component_reader k i ≡ Some q → reader_of (among_components k) i ≡ Some (reads_as among_components q)
+component_child k i q at = component_reads k i ∙ ap (λ o. option_map (reads_as among_components) o) at
 
-pub component_leaf : (k : ComponentKind) (i : ℕ) (l : LeafKind) → reader_of (of_component k) i ≡ Some (Leaf l) → component_reader k i ≡ Some (Leaf l)
-component_leaf k i l at = own_leaf of_component component_of component_back (component_reader k i) l (sym (component_reads k i) ∙ at)
+pub component_leaf : (k : ComponentKind) (i : ℕ) (l : LeafKind) → reader_of (among_components k) i ≡ Some (Leaf l) → component_reader k i ≡ Some (Leaf l)
+component_leaf k i l at = own_leaf among_components component_of component_back (component_reader k i) l (sym (component_reads k i) ∙ at)
 
-pub component_nested : (k : ComponentKind) (i : ℕ) (j : ComponentKind) (s : NestKind) → of_component j ≡ s → reader_of (of_component k) i ≡ Some (Nested s) → component_reader k i ≡ Some (Nested j)
-component_nested k i j s same at = own_nested of_component component_of component_back (component_reader k i) j (sym (component_reads k i) ∙ (at ∙ ap (λ x. Some (Nested x)) (sym same)))
+pub component_nested : (k : ComponentKind) (i : ℕ) (j : ComponentKind) (s : NestKind) → among_components j ≡ s → reader_of (among_components k) i ≡ Some (Nested s) → component_reader k i ≡ Some (Nested j)
+component_nested k i j s same at = own_nested among_components component_of component_back (component_reader k i) j (sym (component_reads k i) ∙ (at ∙ ap (λ x. Some (Nested x)) (sym same)))
 
-pub component_kinded : (k : ComponentKind) (i : ℕ) (s : NestKind) → reader_of (of_component k) i ≡ Some (Nested s) → (j : ComponentKind) × (s ≡ of_component j)
-component_kinded k i s at = own_kind of_component component_of component_back (component_reader k i) s (sym (component_reads k i) ∙ at)
+pub component_kinded : (k : ComponentKind) (i : ℕ) (s : NestKind) → reader_of (among_components k) i ≡ Some (Nested s) → (j : ComponentKind) × (s ≡ among_components j)
+component_kinded k i s at = own_kind among_components component_of component_back (component_reader k i) s (sym (component_reads k i) ∙ at)
 
-pub component_puts : (k : ComponentKind) (i : ℕ) (t u : Tree) (before now : Trees) (r : Result (Unit {0}) AllocError) → t ≡ u → OnOk r (Puts (plan_of (component_kind k)).children i t before now) → OnOk r (Puts (plan_of (nest_kind (of_component k))).children i u before now)
-component_puts k i t u before now r trees h = moved (component_kind k) (nest_kind (of_component k)) i t u before now r (component_same k) trees h
+pub component_puts : (k : ComponentKind) (i : ℕ) (t u : Tree) (before now : Trees) (r : Result (Unit {0}) AllocError) → t ≡ u → OnOk r (Puts (plan_of (component_kind k)).children i t before now) → OnOk r (Puts (plan_of (nest_kind (among_components k))).children i u before now)
+component_puts k i t u before now r trees h = moved (component_kind k) (nest_kind (among_components k)) i t u before now r (components_alike k) trees h
 
 -- what is said of the kind there holds of the kind here
-pub component_here : (P : Kind → Type 0) (k : ComponentKind) → P (component_kind k) → P (nest_kind (of_component k))
-component_here P k h = subst P (sym (component_same k)) h
+pub component_here : (P : Kind → Type 0) (k : ComponentKind) → P (component_kind k) → P (nest_kind (among_components k))
+component_here P k h = subst P (sym (components_alike k)) h
 
 -- ---- services
 
@@ -109,33 +109,33 @@ service_of : NestKind → ServiceKind
 service_of nest_kinds.Services = service_kinds.Services
 service_of _ = service_kinds.Service
 
-service_back : (k : ServiceKind) → service_of (of_service k) ≡ k
+service_back : (k : ServiceKind) → service_of (among_services k) ≡ k
 unfolding service_of
 service_back service_kinds.Service = refl
 service_back service_kinds.Services = refl
 
-service_reads : (k : ServiceKind) (i : ℕ) → reader_of (of_service k) i ≡ option_map (reads_as of_service) (service_reader k i)
+service_reads : (k : ServiceKind) (i : ℕ) → reader_of (among_services k) i ≡ option_map (reads_as among_services) (service_reader k i)
 service_reads service_kinds.Service i = refl
 service_reads service_kinds.Services i = refl
 
-pub service_has : (k : ServiceKind) (i : ℕ) → HasReader (reader_of (of_service k)) i → HasReader (service_reader k) i
-service_has k i (r, at) = own_reader of_service service_of service_back (service_reader k i) r (sym (service_reads k i) ∙ at)
+pub service_has : (k : ServiceKind) (i : ℕ) → HasReader (reader_of (among_services k)) i → HasReader (service_reader k) i
+service_has k i (r, at) = own_reader among_services service_of service_back (service_reader k i) r (sym (service_reads k i) ∙ at)
 
-pub service_child : (k : ServiceKind) (i : ℕ) (q : Reads LeafKind ServiceKind) → service_reader k i ≡ Some q → reader_of (of_service k) i ≡ Some (reads_as of_service q)
-service_child k i q at = service_reads k i ∙ ap (λ o. option_map (reads_as of_service) o) at
+pub service_child : (k : ServiceKind) (i : ℕ) (q : Reads LeafKind ServiceKind) → service_reader k i ≡ Some q → reader_of (among_services k) i ≡ Some (reads_as among_services q)
+service_child k i q at = service_reads k i ∙ ap (λ o. option_map (reads_as among_services) o) at
 
-pub service_leaf : (k : ServiceKind) (i : ℕ) (l : LeafKind) → reader_of (of_service k) i ≡ Some (Leaf l) → service_reader k i ≡ Some (Leaf l)
-service_leaf k i l at = own_leaf of_service service_of service_back (service_reader k i) l (sym (service_reads k i) ∙ at)
+pub service_leaf : (k : ServiceKind) (i : ℕ) (l : LeafKind) → reader_of (among_services k) i ≡ Some (Leaf l) → service_reader k i ≡ Some (Leaf l)
+service_leaf k i l at = own_leaf among_services service_of service_back (service_reader k i) l (sym (service_reads k i) ∙ at)
 
-pub service_nested : (k : ServiceKind) (i : ℕ) (j : ServiceKind) (s : NestKind) → of_service j ≡ s → reader_of (of_service k) i ≡ Some (Nested s) → service_reader k i ≡ Some (Nested j)
-service_nested k i j s same at = own_nested of_service service_of service_back (service_reader k i) j (sym (service_reads k i) ∙ (at ∙ ap (λ x. Some (Nested x)) (sym same)))
+pub service_nested : (k : ServiceKind) (i : ℕ) (j : ServiceKind) (s : NestKind) → among_services j ≡ s → reader_of (among_services k) i ≡ Some (Nested s) → service_reader k i ≡ Some (Nested j)
+service_nested k i j s same at = own_nested among_services service_of service_back (service_reader k i) j (sym (service_reads k i) ∙ (at ∙ ap (λ x. Some (Nested x)) (sym same)))
 
-pub service_kinded : (k : ServiceKind) (i : ℕ) (s : NestKind) → reader_of (of_service k) i ≡ Some (Nested s) → (j : ServiceKind) × (s ≡ of_service j)
-service_kinded k i s at = own_kind of_service service_of service_back (service_reader k i) s (sym (service_reads k i) ∙ at)
+pub service_kinded : (k : ServiceKind) (i : ℕ) (s : NestKind) → reader_of (among_services k) i ≡ Some (Nested s) → (j : ServiceKind) × (s ≡ among_services j)
+service_kinded k i s at = own_kind among_services service_of service_back (service_reader k i) s (sym (service_reads k i) ∙ at)
 
-pub service_puts : (k : ServiceKind) (i : ℕ) (t u : Tree) (before now : Trees) (r : Result (Unit {0}) AllocError) → t ≡ u → OnOk r (Puts (plan_of (service_kind k)).children i t before now) → OnOk r (Puts (plan_of (nest_kind (of_service k))).children i u before now)
-service_puts k i t u before now r trees h = moved (service_kind k) (nest_kind (of_service k)) i t u before now r (service_same k) trees h
+pub service_puts : (k : ServiceKind) (i : ℕ) (t u : Tree) (before now : Trees) (r : Result (Unit {0}) AllocError) → t ≡ u → OnOk r (Puts (plan_of (service_kind k)).children i t before now) → OnOk r (Puts (plan_of (nest_kind (among_services k))).children i u before now)
+service_puts k i t u before now r trees h = moved (service_kind k) (nest_kind (among_services k)) i t u before now r (services_alike k) trees h
 
 -- what is said of the kind there holds of the kind here
-pub service_here : (P : Kind → Type 0) (k : ServiceKind) → P (service_kind k) → P (nest_kind (of_service k))
-service_here P k h = subst P (sym (service_same k)) h
+pub service_here : (P : Kind → Type 0) (k : ServiceKind) → P (service_kind k) → P (nest_kind (among_services k))
+service_here P k h = subst P (sym (services_alike k)) h

@@ -14,26 +14,26 @@ use Rattle.cdx_nest_machine.specs.declared.nested.Reads.TheVariants.{Leaf, Neste
 use Rattle.cdx_nest_machine.specs.Forms.{plan_of, IsNested, record_nested, list_nested, tools_nested}
 use Rattle.cdx_nest_machine.specs.Children.{ReadsEach, child_kind, reads_listed}
 use Rattle.cdx_component.specs.Frames.{kind_of as component_kind, reader_of as component_reader}
-use Rattle.cdx_component.specs.FrameLaws.{children_read as component_children}
+use Rattle.cdx_component.specs.FrameLaws.{children_by_rows as component_children}
 use Rattle.cdx_component.specs.declared.frames.ComponentKind.{ComponentKind}
 use Rattle.cdx_component.specs.declared.frames.ComponentKind.TheVariants as component_kinds
 use Rattle.cdx_service.specs.Frames.{kind_of as service_kind, reader_of as service_reader}
-use Rattle.cdx_service.specs.FrameLaws.{children_read as service_children}
+use Rattle.cdx_service.specs.FrameLaws.{children_by_rows as service_children}
 use Rattle.cdx_service.specs.declared.frames.ServiceKind.{ServiceKind}
 use Rattle.cdx_service.specs.declared.frames.ServiceKind.TheVariants as service_kinds
 use Rattle.cdx_nest.specs.declared.frames.NestKind.{NestKind}
 use Rattle.cdx_nest.specs.declared.frames.NestKind.TheVariants.{Tools, Component, Components, Pedigree, Service, Services, Metadata}
-use Rattle.cdx_nest.specs.Frames.{nest_kind, of_component, of_service, reads_as, tools_reads, metadata_reads, reader_of}
+use Rattle.cdx_nest.specs.Frames.{nest_kind, among_components, among_services, reads_as, tools_reads, metadata_reads, reader_of}
 
 -- Kinds of components and of services are the same in the schema.
-pub component_same : (k : ComponentKind) → nest_kind (of_component k) ≡ component_kind k
-component_same component_kinds.Component = refl
-component_same component_kinds.Components = refl
-component_same component_kinds.Pedigree = refl
+pub components_alike : (k : ComponentKind) → nest_kind (among_components k) ≡ component_kind k
+components_alike component_kinds.Component = refl
+components_alike component_kinds.Components = refl
+components_alike component_kinds.Pedigree = refl
 
-pub service_same : (k : ServiceKind) → nest_kind (of_service k) ≡ service_kind k
-service_same service_kinds.Service = refl
-service_same service_kinds.Services = refl
+pub services_alike : (k : ServiceKind) → nest_kind (among_services k) ≡ service_kind k
+services_alike service_kinds.Service = refl
+services_alike service_kinds.Services = refl
 
 -- What reads the children of those reads them here.
 module _ {K : Type 0} (of : K → NestKind) (own : K → Kind) (same : (k : K) → nest_kind (of k) ≡ own k) where
@@ -47,15 +47,15 @@ module _ {K : Type 0} (of : K → NestKind) (own : K → Kind) (same : (k : K) �
       (reads_as of r, ap (λ o. option_map (reads_as of) o) is, kind ∙ kind_same r)
 
 -- The child of each position is read as the kind of its row.
-pub children_read : (s : NestKind) → ReadsEach leaf_kind nest_kind (reader_of s) (plan_of (nest_kind s)).children
+pub children_by_rows : (s : NestKind) → ReadsEach leaf_kind nest_kind (reader_of s) (plan_of (nest_kind s)).children
 unfolding rows list
-children_read Tools = reads_listed leaf_kind nest_kind tools_reads (plan_of (nest_kind Tools)).children refl
-children_read Component = reads_here of_component component_kind component_same (component_reader component_kinds.Component) (plan_of (nest_kind Component)).children (component_children component_kinds.Component)
-children_read Components = reads_here of_component component_kind component_same (component_reader component_kinds.Components) (plan_of (nest_kind Components)).children (component_children component_kinds.Components)
-children_read Pedigree = reads_here of_component component_kind component_same (component_reader component_kinds.Pedigree) (plan_of (nest_kind Pedigree)).children (component_children component_kinds.Pedigree)
-children_read Service = reads_here of_service service_kind service_same (service_reader service_kinds.Service) (plan_of (nest_kind Service)).children (service_children service_kinds.Service)
-children_read Services = reads_here of_service service_kind service_same (service_reader service_kinds.Services) (plan_of (nest_kind Services)).children (service_children service_kinds.Services)
-children_read Metadata = reads_listed leaf_kind nest_kind metadata_reads (plan_of (nest_kind Metadata)).children refl
+children_by_rows Tools = reads_listed leaf_kind nest_kind tools_reads (plan_of (nest_kind Tools)).children refl
+children_by_rows Component = reads_here among_components component_kind components_alike (component_reader component_kinds.Component) (plan_of (nest_kind Component)).children (component_children component_kinds.Component)
+children_by_rows Components = reads_here among_components component_kind components_alike (component_reader component_kinds.Components) (plan_of (nest_kind Components)).children (component_children component_kinds.Components)
+children_by_rows Pedigree = reads_here among_components component_kind components_alike (component_reader component_kinds.Pedigree) (plan_of (nest_kind Pedigree)).children (component_children component_kinds.Pedigree)
+children_by_rows Service = reads_here among_services service_kind services_alike (service_reader service_kinds.Service) (plan_of (nest_kind Service)).children (service_children service_kinds.Service)
+children_by_rows Services = reads_here among_services service_kind services_alike (service_reader service_kinds.Services) (plan_of (nest_kind Services)).children (service_children service_kinds.Services)
+children_by_rows Metadata = reads_listed leaf_kind nest_kind metadata_reads (plan_of (nest_kind Metadata)).children refl
 
 pub kinds_nested : (s : NestKind) → IsNested (nest_kind s)
 unfolding rows

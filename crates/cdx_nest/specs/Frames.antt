@@ -36,14 +36,14 @@ nest_kind Services = a_list services
 nest_kind Metadata = a_record metadata
 
 -- the kinds of components and of services among these
-abbrev pub of_component : ComponentKind → NestKind
-of_component component_kinds.Component = Component
-of_component component_kinds.Components = Components
-of_component component_kinds.Pedigree = Pedigree
+abbrev pub among_components : ComponentKind → NestKind
+among_components component_kinds.Component = Component
+among_components component_kinds.Components = Components
+among_components component_kinds.Pedigree = Pedigree
 
-abbrev pub of_service : ServiceKind → NestKind
-of_service service_kinds.Service = Service
-of_service service_kinds.Services = Services
+abbrev pub among_services : ServiceKind → NestKind
+among_services service_kinds.Service = Service
+among_services service_kinds.Services = Services
 
 -- what a value was read as, and its tree
 abbrev pub value_kind : NestValue → NestKind
@@ -66,8 +66,8 @@ value_tree (values.Metadata x) = metadata_tree x
 
 -- what an open element is read as, and its fields so far
 abbrev pub frame_kind : NestFrame → NestKind
-frame_kind (frames.Component x) = of_component (component_frame_kind x)
-frame_kind (frames.Service x) = of_service (service_frame_kind x)
+frame_kind (frames.Component x) = among_components (component_frame_kind x)
+frame_kind (frames.Service x) = among_services (service_frame_kind x)
 frame_kind (frames.Tools x) = Tools
 frame_kind (frames.Metadata x) = Metadata
 
@@ -95,9 +95,9 @@ metadata_reads = Leaf leaf_kinds.Text ∷ Nested Tools ∷ Leaf leaf_kinds.Autho
 
 abbrev pub reader_of : NestKind → ℕ → Option Reader
 reader_of Tools i = at_position tools_reads i
-reader_of Component i = option_map (reads_as of_component) (component_reader component_kinds.Component i)
-reader_of Components i = option_map (reads_as of_component) (component_reader component_kinds.Components i)
-reader_of Pedigree i = option_map (reads_as of_component) (component_reader component_kinds.Pedigree i)
-reader_of Service i = option_map (reads_as of_service) (service_reader service_kinds.Service i)
-reader_of Services i = option_map (reads_as of_service) (service_reader service_kinds.Services i)
+reader_of Component i = option_map (reads_as among_components) (component_reader component_kinds.Component i)
+reader_of Components i = option_map (reads_as among_components) (component_reader component_kinds.Components i)
+reader_of Pedigree i = option_map (reads_as among_components) (component_reader component_kinds.Pedigree i)
+reader_of Service i = option_map (reads_as among_services) (service_reader service_kinds.Service i)
+reader_of Services i = option_map (reads_as among_services) (service_reader service_kinds.Services i)
 reader_of Metadata i = at_position metadata_reads i

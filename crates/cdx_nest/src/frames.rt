@@ -97,7 +97,7 @@ pub enum NestFrame {
 /// place. Tools are a list of tools, or from 1.5 on services and components; other elements and texts are unexpected.
 impl Nested for NestFrame {
     ghost use Rattle.cdx_nest.specs.Frames.{nest_kind, frame_kind, frame_fields, value_kind, value_tree, reader_of};
-    ghost use Rattle.cdx_nest.specs.FrameLaws.{children_read, kinds_nested, kinds_no_bill};
+    ghost use Rattle.cdx_nest.specs.FrameLaws.{children_by_rows, kinds_nested, kinds_no_bill};
 
     type Sort = NestKind;
 
@@ -224,7 +224,7 @@ impl Nested for NestFrame {
         }
     }
 
-    ghost children = { children_read };
+    ghost children = { children_by_rows };
 
     ghost nested = { kinds_nested };
 

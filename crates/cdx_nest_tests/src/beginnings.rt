@@ -8,7 +8,7 @@ use crate::samples::{GOOD, MISSING, PASSED, STRAY, UNKNOWN, UNPARSED};
 use crate::told::{fed, reading, told};
 use cdx_events::Events;
 use cdx_push_tests::pieces::{around, ended, place_of};
-use cdx_test_cases::faults::of_xml;
+use cdx_test_cases::faults::xml_fault_line;
 use cdx_test_cases::rows::cases;
 use std::alloc::Global;
 use std::process::Abort;
@@ -30,7 +30,7 @@ fn wanted(
     if place_of(&fault) > count {
         return Ok(String::from_str(alloc, otherwise)?);
     }
-    Ok(of_xml(alloc, &fault)?)
+    Ok(xml_fault_line(alloc, &fault)?)
 }
 
 /// Feeds a machine the first `count` events of the element, whose document the events are.

@@ -178,7 +178,7 @@ const INSIDE_32_COMPONENTS: &str = r#"
 "#;
 
 #[test]
-fn inside_components(rt: HostRuntime) -> Result<(), Fail> {
+fn deep_in_components(rt: HostRuntime) -> Result<(), Fail> {
     let alloc = rt.alloc();
     all_inside(&rt, alloc, 31, 0, INSIDE_31_COMPONENTS)?;
     all_inside(&rt, alloc, 32, 0, INSIDE_32_COMPONENTS)

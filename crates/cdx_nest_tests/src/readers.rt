@@ -4,7 +4,7 @@ use cdx_events::Events;
 use cdx_leaf::read_root;
 use cdx_models::{SpecVersion, XmlReadError};
 use cdx_nest::{NestKind, NestValue};
-use cdx_test_cases::faults::of_xml;
+use cdx_test_cases::faults::xml_fault_line;
 use std::alloc::{AllocError, Global};
 
 /// What the root is read as, as the kind in the version, by the kind's reader, or its first fault.
@@ -34,6 +34,6 @@ pub fn answered(
 ) -> Result<String, AllocError> {
     match read(alloc, events, kind, version) {
         Ok(_) => String::from_str(alloc, "done"),
-        Err(fault) => of_xml(alloc, &fault),
+        Err(fault) => xml_fault_line(alloc, &fault),
     }
 }

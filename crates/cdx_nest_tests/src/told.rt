@@ -5,7 +5,7 @@ use crate::kinds::kind_named;
 use cdx_events::Events;
 use cdx_leaf::{Root, root_of};
 use cdx_nest::{Depth, NestKind};
-use cdx_test_cases::faults::of_xml;
+use cdx_test_cases::faults::xml_fault_line;
 use cdx_test_cases::rows::Case;
 use std::alloc::{AllocError, Global};
 use std::test::Fail;
@@ -47,6 +47,6 @@ pub fn told(alloc: Global, heard: &Heard) -> Result<String, AllocError> {
     match heard {
         Heard::More => String::from_str(alloc, "more"),
         Heard::Done(_) => String::from_str(alloc, "done"),
-        Heard::Refused(fault) => of_xml(alloc, fault),
+        Heard::Refused(fault) => xml_fault_line(alloc, fault),
     }
 }

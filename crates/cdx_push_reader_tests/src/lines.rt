@@ -3,7 +3,7 @@
 use crate::feeding::{Fed, feed_each};
 use cdx_events::XmlEvent;
 use cdx_models::SpecVersion;
-use cdx_test_cases::faults::of_xml;
+use cdx_test_cases::faults::xml_fault_line;
 use std::alloc::{AllocError, Global};
 use std::slice::from_ref;
 use std::test::Fail;
@@ -21,7 +21,7 @@ pub fn singles(alloc: Global, events: &[XmlEvent]) -> Result<Vec<&[XmlEvent]>, A
 fn finished(alloc: Global, fed: Fed) -> Result<String, Fail> {
     match fed.reader.finish() {
         Ok(bill) => Ok(bill.output_as_json_v1_5(alloc)?.to_string(alloc)?),
-        Err(fault) => Ok(of_xml(alloc, &fault)?),
+        Err(fault) => Ok(xml_fault_line(alloc, &fault)?),
     }
 }
 

@@ -7,7 +7,7 @@ use crate::readers::read;
 use crate::samples::{GOOD, MISSING, PASSED, STRAY, UNKNOWN, UNPARSED};
 use crate::told::{fed, kind_of, told};
 use cdx_push::LeafKind;
-use cdx_test_cases::faults::of_xml;
+use cdx_test_cases::faults::xml_fault_line;
 use cdx_test_cases::rows::{Case, cases};
 use std::alloc::Global;
 use std::process::Abort;
@@ -29,7 +29,7 @@ fn wanted(
     if place_of(&fault) > count {
         return Ok(String::from_str(alloc, otherwise)?);
     }
-    Ok(of_xml(alloc, &fault)?)
+    Ok(xml_fault_line(alloc, &fault)?)
 }
 
 fn each_beginning(rt: &impl Abort, alloc: Global, case: &Case<'_>) -> Result<(), Fail> {

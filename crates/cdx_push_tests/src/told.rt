@@ -6,7 +6,7 @@ use cdx_events::Events;
 use cdx_leaf::{Root, root_of};
 use cdx_models::SpecVersion;
 use cdx_push::LeafKind;
-use cdx_test_cases::faults::of_xml;
+use cdx_test_cases::faults::xml_fault_line;
 use std::alloc::{AllocError, Global};
 use std::test::Fail;
 
@@ -40,6 +40,6 @@ pub fn told(alloc: Global, heard: &Heard) -> Result<String, AllocError> {
     match heard {
         Heard::More => String::from_str(alloc, "more"),
         Heard::Done(_) => String::from_str(alloc, "done"),
-        Heard::Refused(fault) => of_xml(alloc, fault),
+        Heard::Refused(fault) => xml_fault_line(alloc, fault),
     }
 }

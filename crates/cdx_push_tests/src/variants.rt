@@ -14,7 +14,7 @@ use std::alloc::Global;
 use std::process::Abort;
 use std::test::Fail;
 
-fn of_signer(signer: &Signer) -> &'static str {
+fn signer_variant(signer: &Signer) -> &'static str {
     match signer.algorithm {
         Algorithm::RS256 => "RS256",
         Algorithm::ES256 => "ES256",
@@ -27,14 +27,14 @@ fn of_signer(signer: &Signer) -> &'static str {
 
 fn of_only(signers: &List<Signer>) -> &'static str {
     match signers.as_slice() {
-        [signer] => of_signer(signer),
+        [signer] => signer_variant(signer),
         _ => "not one",
     }
 }
 
-fn of_signature(signature: &Signature) -> &'static str {
+fn signature_variant(signature: &Signature) -> &'static str {
     match signature {
-        Signature::Single(signer) => of_signer(signer),
+        Signature::Single(signer) => signer_variant(signer),
         Signature::Chain(signers) => of_only(signers),
         Signature::Signers(signers) => of_only(signers),
     }
@@ -52,7 +52,7 @@ fn of_references(references: &ExternalReferences) -> &'static str {
 
 fn variant(value: &LeafValue) -> &'static str {
     match value {
-        LeafValue::Signature(signature) => of_signature(signature),
+        LeafValue::Signature(signature) => signature_variant(signature),
         LeafValue::ExternalReferences(references) => of_references(references),
         _ => "another kind",
     }

@@ -11,7 +11,7 @@ use crate::told::{fed, kind_of, told};
 use cdx_events::Events;
 use cdx_models::{Hashes, SpecVersion};
 use cdx_push::{LeafKind, LeafValue};
-use cdx_test_cases::faults::of_xml;
+use cdx_test_cases::faults::xml_fault_line;
 use cdx_test_cases::rows::{Case, cases};
 use std::alloc::Global;
 use std::process::Abort;
@@ -117,7 +117,7 @@ fn answered(
 ) -> Result<String, Fail> {
     match read(alloc, events, kind, version) {
         Ok(_) => Ok(String::from_str(alloc, "done")?),
-        Err(fault) => Ok(of_xml(alloc, &fault)?),
+        Err(fault) => Ok(xml_fault_line(alloc, &fault)?),
     }
 }
 

@@ -6,7 +6,7 @@ use cdx_json::ToJson;
 use cdx_models::XmlReadError;
 use cdx_nest::Metadata;
 use cdx_signature::{Algorithm, Signature, Signer};
-use cdx_test_cases::faults::of_xml;
+use cdx_test_cases::faults::xml_fault_line;
 use cdx_test_cases::forms::{V5, held};
 use cdx_write::ToXml;
 use std::alloc::Global;
@@ -18,7 +18,11 @@ fn missing_data(rt: HostRuntime) -> Result<(), Fail> {
     let alloc = rt.alloc();
     let element = OwnedName::local(alloc, "x")?;
     let fault = XmlReadError::required_data_missing(alloc, 5, "f", &element)?;
-    text_is(&rt, of_xml(alloc, &fault)?.as_str(), "missing 5 x f");
+    text_is(
+        &rt,
+        xml_fault_line(alloc, &fault)?.as_str(),
+        "missing 5 x f",
+    );
     Ok(())
 }
 

@@ -18,7 +18,7 @@ use Rattle.cdx_schema.specs.XmlSpelling.{root}
 use Rattle.cdx_schema.specs.Trips.{Form, in_json, in_xml, Hop}
 use Rattle.cdx_schema.specs.Roads.{Doc, denotes, document_of, fits_all, hops_from}
 use Rattle.cdx_schema.proofs.Stated.{stays_bill, stays_shallow, denotes_shapes, nests}
-use Rattle.cdx_request.specs.EventValues.{text_put, with_name, attribute_value, with_attributes, event_value}
+use Rattle.cdx_request.specs.EventValues.{with_optional_text, with_name, attribute_value, with_attributes, event_value}
 use Rattle.cdx_request.specs.Replies.{doc_value}
 use Rattle.cdx_request.specs.Served.{AnswersNest}
 use Rattle.cdx_request.proofs.AnswerFloats.{bound, same_ok, chosen}
@@ -35,7 +35,7 @@ put_within n k d no_members p q = omega (arith, p)
 put_within n k d (member l e ms) p q =
     ordered (slice_cmp nat_cmp k l) n _ _ _ (omega (arith, p, q)) (omega (arith, p, q)) (omega (arith, q, put_within n k d ms p (omega (arith, q))))
 
-text_within : (n : ℕ) (k : List ℕ) (o : Option (List ℕ)) (ms : Members) → members_depth ms ≤ n → members_depth (text_put k o ms) ≤ n
+text_within : (n : ℕ) (k : List ℕ) (o : Option (List ℕ)) (ms : Members) → members_depth ms ≤ n → members_depth (with_optional_text k o ms) ≤ n
 text_within n k None ms h = h
 text_within n k (Some s) ms h = put_within n k (string s) ms (omega arith) h
 
@@ -56,7 +56,7 @@ event_within StartDocument = omega arith
 event_within EndDocument = omega arith
 event_within (StartElement n as' space) =
     let inner : members_depth (with_name (codes "element") n no_members) ≤ 2 = name_within 2 (codes "element") n no_members (omega arith) in
-    let whole = text_put (codes "default") space.default (with_name (codes "element") n no_members) in
+    let whole = with_optional_text (codes "default") space.default (with_name (codes "element") n no_members) in
     omega (arith, with_within as' whole (text_within 2 (codes "default") space.default (with_name (codes "element") n no_members) inner))
 event_within (EndElement n) = omega (arith, name_within 2 (codes "end") n no_members (omega arith))
 event_within (Characters s) = omega arith

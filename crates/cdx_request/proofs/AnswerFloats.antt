@@ -20,7 +20,7 @@ use Rattle.cdx_schema.specs.Keeping.{keep}
 use Rattle.cdx_schema.specs.Trips.{Form, in_json, in_xml, Hop}
 use Rattle.cdx_models.specs.declared.errors.XmlReadError.TheVariants.{ElementReadError, UnexpectedElementReadError, RequiredDataMissing, RequiredAttributeMissing, InvalidParseError, InvalidNamespaceError, TooDeep, Memory}
 use Rattle.cdx_schema.specs.Roads.{Doc, of_json, of_xml, version_missing, denotes, document_of, fits_all, hops_from}
-use Rattle.cdx_request.specs.EventValues.{text_put, with_name, attribute_value, with_attributes, event_value}
+use Rattle.cdx_request.specs.EventValues.{with_optional_text, with_name, attribute_value, with_attributes, event_value}
 use Rattle.cdx_request.specs.Replies.{doc_value}
 use Rattle.cdx_request.specs.Served.{NoFloats, NoFloatRefused}
 use Rattle.cdx_schema.proofs.Clear.{neither, spelling_clear}
@@ -47,7 +47,7 @@ put_clear k d (member l e ms) p q =
     let rest = second_clear (has_float e) (members_have_float ms) q in
     ordered (slice_cmp nat_cmp k l) _ _ _ (neither (has_float d) _ p q) (neither (has_float d) _ p rest) (neither (has_float e) _ e_clear (put_clear k d ms p rest))
 
-text_clear : (k : List ℕ) (o : Option (List ℕ)) (ms : Members) → members_have_float ms ≡ false → members_have_float (text_put k o ms) ≡ false
+text_clear : (k : List ℕ) (o : Option (List ℕ)) (ms : Members) → members_have_float ms ≡ false → members_have_float (with_optional_text k o ms) ≡ false
 text_clear k None ms h = h
 text_clear k (Some s) ms h = put_clear k (string s) ms refl h
 

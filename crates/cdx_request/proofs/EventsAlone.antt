@@ -11,8 +11,8 @@ use Rattle.cdx_events.specs.declared.name.Namespace.{Namespace}
 use Rattle.cdx_events.specs.declared.event.XmlEvent.{XmlEvent}
 use Rattle.cdx_events.specs.declared.event.XmlEvent.TheVariants.{StartDocument, EndDocument, StartElement, EndElement, Characters, CData}
 use Rattle.cdx_request.specs.Parts.{◌>>=◌, has, text_at, how_many, if_text, all_in}
-use Rattle.cdx_request.specs.EventValues.{text_put, with_name, attribute_value, one_text}
-use Rattle.cdx_request.specs.EventReading.{name_at, name_count, attribute_parts, attribute_meant, if_attributes, mark_of, mark_event, start_parts, start_count, start_event, end_event, text_event, event_of}
+use Rattle.cdx_request.specs.EventValues.{with_optional_text, with_name, attribute_value, one_text}
+use Rattle.cdx_request.specs.EventReading.{name_at, members_of_name, attribute_parts, attribute_meant, if_attributes, mark_of, mark_event, start_parts, members_of_start, start_event, end_event, text_event, event_of}
 use Rattle.cdx_request.specs.SameValues.{HoldsTheSame, HasMembers}
 use Rattle.cdx_request.specs.Alone.{WritesEvent, EventsAlone}
 use Rattle.cdx_request.proofs.Finding.{count, given, made, tested, same_some, Has, text_held, is_array, with_put, told, told_is, with_text_held, all_alone, same_items}
@@ -42,7 +42,7 @@ named_held local ds n ws is held =
 abbrev name_told : OwnedName → ℕ
 name_told n = 1 + told n.namespace + told n.prefix
 
-name_counted : (local : List ℕ) (ds : Members) (n : OwnedName) → IsNamed local ds n → name_count (object ds) ≡ name_told n
+name_counted : (local : List ℕ) (ds : Members) (n : OwnedName) → IsNamed local ds n → members_of_name (object ds) ≡ name_told n
 name_counted local ds n is = rw (told_is (get_member (codes "uri") ds) n.namespace is.uri, told_is (get_member (codes "prefix") ds) n.prefix is.prefix) refl
 
 -- ---- attributes
@@ -55,11 +55,11 @@ attribute_len n v (Some u) (Some p) = refl
 
 attribute_held : (ds : Members) (a : OwnedAttribute) → attribute_meant (object ds) ≡ Some a → HoldsTheSame (object ds) (attribute_value a)
 attribute_held ds a e =
-    let t = tested (members_len ds == name_count (object ds) + 1) (attribute_parts (object ds)) a e in
+    let t = tested (members_len ds == members_of_name (object ds) + 1) (attribute_parts (object ds)) a e in
     let name = given (name_at (codes "name") (object ds)) _ a t.1 in
     let value = given (text_at (codes "value") (object ds)) _ a name.2 in
     let is = name_read (codes "name") ds name.0 name.1 in
-    let many = count (members_len ds) (name_count (object ds) + 1) t.0 ∙ ap (λ (k : ℕ). k + 1) (name_counted (codes "name") ds name.0 is) in
+    let many = count (members_len ds) (members_of_name (object ds) + 1) t.0 ∙ ap (λ (k : ℕ). k + 1) (name_counted (codes "name") ds name.0 is) in
     subst (λ (a : OwnedAttribute). HoldsTheSame (object ds) (attribute_value a)) (same_some (record { name = name.0; value = value.0 }) a value.2)
     (many ∙ sym (attribute_len name.0.local_name value.0 name.0.namespace name.0.prefix), named_held (codes "name") ds name.0 (member (codes "value") (string value.0) no_members) is (text_held (codes "value") ds value.0 value.1, tt))
 
@@ -89,7 +89,7 @@ listed (Some d) as' e = inr (refl, (d, refl, array_alone d as' e))
 
 -- the members of the start of an element without attributes
 abbrev start_members : OwnedName → Namespace → Members
-start_members n s = text_put (codes "default") s.default (with_name (codes "element") n no_members)
+start_members n s = with_optional_text (codes "default") s.default (with_name (codes "element") n no_members)
 
 start_len : (l : List ℕ) (u p d : Option (List ℕ)) → members_len (start_members (record { local_name = l; namespace = u; prefix = p }) (record { default = d })) ≡ 1 + told u + told p + told d
 start_len l None None None = refl
@@ -137,12 +137,12 @@ start_writes ds n s (a ∷ as') is = by is.attributes
 
 start_alone : (ds : Members) (e : XmlEvent) → start_event (object ds) ≡ Some e → WritesEvent (object ds) e
 start_alone ds e h =
-    let t = tested (members_len ds == start_count (object ds)) (start_parts (object ds)) e h in
+    let t = tested (members_len ds == members_of_start (object ds)) (start_parts (object ds)) e h in
     let name = given (name_at (codes "element") (object ds)) _ e t.1 in
     let default = given (if_text (get_member (codes "default") ds)) _ e name.2 in
     let attributes = given (if_attributes (get_member (codes "attributes") ds)) _ e default.2 in
     let is = name_read (codes "element") ds name.0 name.1 in
-    let many = count (members_len ds) (start_count (object ds)) t.0 in
+    let many = count (members_len ds) (members_of_start (object ds)) t.0 in
     let named_many = name_counted (codes "element") ds name.0 is in
     let default_many = told_is (get_member (codes "default") ds) default.0 default.1 in
     subst (λ (e : XmlEvent). WritesEvent (object ds) e) (same_some (StartElement name.0 attributes.0 (record { default = default.0 })) e attributes.2)
@@ -162,10 +162,10 @@ end_len l (Some u) (Some p) = refl
 
 end_alone : (ds : Members) (e : XmlEvent) → end_event (object ds) ≡ Some e → WritesEvent (object ds) e
 end_alone ds e h =
-    let t = tested (members_len ds == name_count (object ds)) _ e h in
+    let t = tested (members_len ds == members_of_name (object ds)) _ e h in
     let name = made (λ n. EndElement n) (name_at (codes "end") (object ds)) e t.1 in
     let is = name_read (codes "end") ds name.0 name.1 in
-    let many = count (members_len ds) (name_count (object ds)) t.0 ∙ name_counted (codes "end") ds name.0 is in
+    let many = count (members_len ds) (members_of_name (object ds)) t.0 ∙ name_counted (codes "end") ds name.0 is in
     subst (λ (e : XmlEvent). WritesEvent (object ds) e) name.2
     (many ∙ sym (end_len name.0.local_name name.0.namespace name.0.prefix), named_held (codes "end") ds name.0 no_members is tt)
 

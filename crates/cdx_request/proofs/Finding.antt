@@ -9,7 +9,7 @@ use Rattle.serde_json.specs.Data.{Data, null, boolean, number, string, array, ob
 use Rattle.serde_json.specs.Find.{get_member, as_str, as_array}
 use Rattle.serde_json.specs.View.{items_of}
 use Rattle.cdx_request.specs.Parts.{◌>>=◌, text_at, how_many, if_text, all_in}
-use Rattle.cdx_request.specs.EventValues.{text_put}
+use Rattle.cdx_request.specs.EventValues.{with_optional_text}
 use Rattle.cdx_request.specs.SameValues.{HoldsTheSame, HoldTheSame, HasMembers}
 use Rattle.cdx_request.specs.Alone.{EachWrites}
 
@@ -91,7 +91,7 @@ there (Some (string t)) s e = (string t, refl, cc)
 there None s e = absurd cc
 there (Some d) s e = absurd cc
 
-pub with_text_held : (k : List ℕ) (ds : Members) (o : Option (List ℕ)) (ws : Members) → if_text (get_member k ds) ≡ Some o → HasMembers ds ws → HasMembers ds (text_put k o ws)
+pub with_text_held : (k : List ℕ) (ds : Members) (o : Option (List ℕ)) (ws : Members) → if_text (get_member k ds) ≡ Some o → HasMembers ds ws → HasMembers ds (with_optional_text k o ws)
 with_text_held k ds None ws e held = held
 with_text_held k ds (Some s) ws e held = with_put ds k (string s) ws (there (get_member k ds) s e) held
 

@@ -5,7 +5,7 @@ use Rattle.cdx_schema.specs.Laws.{LeadsFrom}
 use Rattle.cdx_schema.specs.Roads.{Doc, Refusal, denotes, fits_all, hops_from, road}
 use Rattle.cdx_schema.proofs.Stated.{leads}
 use Rattle.cdx_request.specs.Requests.{Misread, not_json, shape, unbalanced, Request, request_in}
-use Rattle.cdx_request.specs.Replies.{Reply, reply, no_request, line_of, documents_answer, reply_to_request, reply_to_road, limit}
+use Rattle.cdx_request.specs.Replies.{Reply, reply, no_request, line_of, documents_value, reply_to_request, reply_to_road, limit}
 use Rattle.cdx_request.specs.Served.{Serves, ReplyLaw, ValidLaw}
 use Rattle.cdx_request.proofs.AnswerFloats.{bound, same_ok}
 
@@ -21,13 +21,13 @@ serves bytes r docs asks is =
     fitted true r e y h = refl
     fitted false r e y h = cc
 
-of_road : (o : Result (List Doc) Refusal) → (reply_to_road o).status ≡ 0 → (docs : List Doc) × (o ≡ Ok docs) × ((reply_to_road o).text ≡ line_of (documents_answer docs))
+of_road : (o : Result (List Doc) Refusal) → (reply_to_road o).status ≡ 0 → (docs : List Doc) × (o ≡ Ok docs) × ((reply_to_road o).text ≡ line_of (documents_value docs))
 of_road (Err e) h = cc
 of_road (Ok docs) h = (docs, refl, refl)
 
 -- what a reply of status 0 answers
 abbrev IsOwed : Result Request Misread → List ℕ → Type 0
-IsOwed o text = (r : Request) × (docs : List Doc) × (o ≡ Ok r) × (road r.doc r.from r.hops ≡ Ok docs) × (text ≡ line_of (documents_answer docs))
+IsOwed o text = (r : Request) × (docs : List Doc) × (o ≡ Ok r) × (road r.doc r.from r.hops ≡ Ok docs) × (text ≡ line_of (documents_value docs))
 
 of_request : (o : Result Request Misread) → (reply_to_request o).status ≡ 0 → IsOwed o (reply_to_request o).text
 of_request (Err not_json) h = cc

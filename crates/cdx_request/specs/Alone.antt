@@ -11,7 +11,7 @@ use Rattle.cdx_models.specs.Versions.{label}
 use Rattle.cdx_schema.specs.Trips.{Hop}
 use Rattle.cdx_schema.specs.Roads.{Doc}
 use Rattle.cdx_request.specs.Parts.{member_count}
-use Rattle.cdx_request.specs.EventValues.{text_put, with_name, event_value}
+use Rattle.cdx_request.specs.EventValues.{with_optional_text, with_name, event_value}
 use Rattle.cdx_request.specs.EventReading.{events_of}
 use Rattle.cdx_request.specs.Refusals.{only}
 use Rattle.cdx_request.specs.Requests.{Sent, sent_value, sent_events, sent_of, doc_in, hop_meant, Asked, asked_of, Request, request_of}
@@ -22,7 +22,7 @@ use Rattle.cdx_request.specs.SameValues.{HoldsTheSame}
 
 -- the start of an element with an empty list of attributes, which is read and never written
 abbrev pub empty_list_value : OwnedName → Namespace → Data
-empty_list_value name namespace = object (put (codes "attributes") (array no_items) (text_put (codes "default") namespace.default (with_name (codes "element") name no_members)))
+empty_list_value name namespace = object (put (codes "attributes") (array no_items) (with_optional_text (codes "default") namespace.default (with_name (codes "element") name no_members)))
 
 -- The value is the event's, with its members in any order. The start of an element without attributes may have an
 -- empty list of them.

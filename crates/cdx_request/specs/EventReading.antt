@@ -18,8 +18,8 @@ name_at local d = do
   Some (record { local_name = name; namespace = uri; prefix = prefix })
 
 -- how many members the name has
-abbrev pub name_count : Data → ℕ
-name_count d = 1 + how_many (get (codes "uri") d) + how_many (get (codes "prefix") d)
+abbrev pub members_of_name : Data → ℕ
+members_of_name d = 1 + how_many (get (codes "uri") d) + how_many (get (codes "prefix") d)
 
 -- ---- attributes
 
@@ -31,7 +31,7 @@ attribute_parts d = do
 
 -- a name and a value
 abbrev pub attribute_meant : Data → Option OwnedAttribute
-attribute_meant d = if member_count d == name_count d + 1 then attribute_parts d else None
+attribute_meant d = if member_count d == members_of_name d + 1 then attribute_parts d else None
 
 -- no attributes, or an array of them, which may be empty
 abbrev pub if_attributes : Option Data → Option (List OwnedAttribute)
@@ -55,15 +55,15 @@ start_parts d = do
   Some (StartElement name attributes (record { default = default }))
 
 -- how many members the start of an element has
-abbrev pub start_count : Data → ℕ
-start_count d = name_count d + how_many (get (codes "default") d) + how_many (get (codes "attributes") d)
+abbrev pub members_of_start : Data → ℕ
+members_of_start d = members_of_name d + how_many (get (codes "default") d) + how_many (get (codes "attributes") d)
 
 -- the start of an element: a name, and perhaps the default namespace and attributes
 abbrev pub start_event : Data → Option XmlEvent
-start_event d = if member_count d == start_count d then start_parts d else None
+start_event d = if member_count d == members_of_start d then start_parts d else None
 
 abbrev pub end_event : Data → Option XmlEvent
-end_event d = if member_count d == name_count d then option_map (λ name. EndElement name) (name_at (codes "end") d) else None
+end_event d = if member_count d == members_of_name d then option_map (λ name. EndElement name) (name_at (codes "end") d) else None
 
 -- a text under a member that says what it is
 abbrev pub text_event : List ℕ → (List ℕ → XmlEvent) → Data → Option XmlEvent

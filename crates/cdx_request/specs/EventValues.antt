@@ -7,13 +7,13 @@ use Rattle.cdx_events.specs.declared.name.OwnedAttribute.{OwnedAttribute}
 use Rattle.cdx_events.specs.declared.event.XmlEvent.{XmlEvent}
 use Rattle.cdx_events.specs.declared.event.XmlEvent.TheVariants.{StartDocument, EndDocument, StartElement, EndElement, Characters, CData}
 
-abbrev pub text_put : List ℕ → Option (List ℕ) → Members → Members
-text_put name None ms = ms
-text_put name (Some s) ms = put name (string s) ms
+abbrev pub with_optional_text : List ℕ → Option (List ℕ) → Members → Members
+with_optional_text name None ms = ms
+with_optional_text name (Some s) ms = put name (string s) ms
 
 -- A name: its local part under the member given, its namespace under `uri`, and its prefix.
 abbrev pub with_name : List ℕ → OwnedName → Members → Members
-with_name local n ms = text_put (codes "prefix") n.prefix (text_put (codes "uri") n.namespace (put local (string n.local_name) ms))
+with_name local n ms = with_optional_text (codes "prefix") n.prefix (with_optional_text (codes "uri") n.namespace (put local (string n.local_name) ms))
 
 abbrev pub attribute_value : OwnedAttribute → Data
 attribute_value a = object (with_name (codes "name") a.name (member (codes "value") (string a.value) no_members))
@@ -28,7 +28,7 @@ one_text name s = object (member name (string s) no_members)
 abbrev pub event_value : XmlEvent → Data
 event_value StartDocument = one_text (codes "document") (codes "start")
 event_value EndDocument = one_text (codes "document") (codes "end")
-event_value (StartElement name attributes namespace) = object (with_attributes attributes (text_put (codes "default") namespace.default (with_name (codes "element") name no_members)))
+event_value (StartElement name attributes namespace) = object (with_attributes attributes (with_optional_text (codes "default") namespace.default (with_name (codes "element") name no_members)))
 event_value (EndElement name) = object (with_name (codes "end") name no_members)
 event_value (Characters s) = one_text (codes "text") s
 event_value (CData s) = one_text (codes "cdata") s

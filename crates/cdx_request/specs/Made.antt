@@ -60,8 +60,8 @@ count_answer n (Ok (xml root ∷ json x ∷ [])) = made_counts (length (compact_
 count_answer n _ = null
 
 -- the answer of so many components
-abbrev pub made_answer : ℕ → Data
-made_answer n = count_answer n (made_road n)
+abbrev pub count_value : ℕ → Data
+count_value n = count_answer n (made_road n)
 
 abbrev pub made_reply : ℕ → Reply
-made_reply n = reply 0 (made_answer n)
+made_reply n = reply 0 (count_value n)

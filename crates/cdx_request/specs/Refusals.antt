@@ -71,9 +71,9 @@ abbrev pub refused : Members → Data
 refused ms = only (codes "refused") (object ms)
 
 -- the answer to a document with this fault, or to one whose bill lacks a version
-abbrev pub refused_answer : Refusal → Data
-refused_answer r = refused (refusal_members r)
+abbrev pub refusal_value : Refusal → Data
+refusal_value r = refused (refusal_members r)
 
 -- the answer to events that break at a place
-abbrev pub unbalanced_answer : ℕ → Data
-unbalanced_answer place = refused (unbalanced_members place)
+abbrev pub imbalance_value : ℕ → Data
+imbalance_value place = refused (unbalanced_members place)

@@ -6,7 +6,7 @@ use Rattle.serde_json.specs.Written.{compact_text}
 use Rattle.cdx_events.specs.Nodes.{document}
 use Rattle.cdx_schema.specs.Roads.{Doc, json, xml, Refusal, road}
 use Rattle.cdx_request.specs.EventValues.{events_value}
-use Rattle.cdx_request.specs.Refusals.{only, refused_answer, unbalanced_answer}
+use Rattle.cdx_request.specs.Refusals.{only, refusal_value, imbalance_value}
 use Rattle.cdx_request.specs.Requests.{Misread, not_json, shape, unbalanced, Request, request_in}
 
 -- the status that the program ends with, and the text that it writes
@@ -27,8 +27,8 @@ abbrev pub doc_value : Doc → Data
 doc_value (json x) = only (codes "json") x
 doc_value (xml root) = only (codes "xml") (events_value (document root))
 
-abbrev pub documents_answer : List Doc → Data
-documents_answer docs = only (codes "documents") (array (items_of (map doc_value docs)))
+abbrev pub documents_value : List Doc → Data
+documents_value docs = only (codes "documents") (array (items_of (map doc_value docs)))
 
 -- ---- replies
 
@@ -39,11 +39,11 @@ no_request reason = only (codes "request") (string reason)
 abbrev pub reply_to_misread : Misread → Reply
 reply_to_misread not_json = reply 2 (no_request (codes "not JSON"))
 reply_to_misread shape = reply 2 (no_request (codes "shape"))
-reply_to_misread (unbalanced place) = reply 1 (unbalanced_answer place)
+reply_to_misread (unbalanced place) = reply 1 (imbalance_value place)
 
 abbrev pub reply_to_road : Result (List Doc) Refusal → Reply
-reply_to_road (Ok docs) = reply 0 (documents_answer docs)
-reply_to_road (Err r) = reply 1 (refused_answer r)
+reply_to_road (Ok docs) = reply 0 (documents_value docs)
+reply_to_road (Err r) = reply 1 (refusal_value r)
 
 abbrev pub reply_to_request : Result Request Misread → Reply
 reply_to_request (Err e) = reply_to_misread e

@@ -107,8 +107,8 @@ abbrev pub request_of : Data → Result Request Misread
 request_of d = request_if (asked_of d)
 
 -- the value that the bytes are
-abbrev pub json_of : List ℕ → Option Data
-json_of bytes = if is_utf8 bytes then read bytes else None
+abbrev pub document_in_json : List ℕ → Option Data
+document_in_json bytes = if is_utf8 bytes then read bytes else None
 
 abbrev pub request_from : Option Data → Result Request Misread
 request_from None = Err not_json
@@ -116,4 +116,4 @@ request_from (Some d) = request_of d
 
 -- the one request that the bytes are
 abbrev pub request_in : List ℕ → Result Request Misread
-request_in bytes = request_from (json_of bytes)
+request_in bytes = request_from (document_in_json bytes)

@@ -13,10 +13,10 @@ use Rattle.cdx_schema.specs.Laws.{LeadsFrom}
 use Rattle.cdx_request.specs.EventValues.{events_value}
 use Rattle.cdx_request.specs.EventReading.{events_of}
 use Rattle.cdx_request.specs.Requests.{Request, doc_in, request_of, request_in}
-use Rattle.cdx_request.specs.Refusals.{refused_answer}
-use Rattle.cdx_request.specs.Replies.{line_of, doc_value, documents_answer, limit, reply_to}
+use Rattle.cdx_request.specs.Refusals.{refusal_value}
+use Rattle.cdx_request.specs.Replies.{line_of, doc_value, documents_value, limit, reply_to}
 use Rattle.cdx_request.specs.RequestValues.{has_root, request_value}
-use Rattle.cdx_request.specs.Made.{made_road, made_counts, made_answer}
+use Rattle.cdx_request.specs.Made.{made_road, made_counts, count_value}
 
 -- The bytes are one request, whose document denotes one bill in its version. The documents are those of the road:
 -- one for each hop, in the hop's form, which denotes in the hop's version the same as the bill after the hops up to it.
@@ -56,15 +56,15 @@ AnsweredHaveRoots = (x : Doc) (v : SpecVersion) (hops : List Hop) (docs : List D
 
 -- No answer of documents holds a float.
 abbrev pub NoFloats : Type 0
-NoFloats = (x : Doc) (v : SpecVersion) (hops : List Hop) (docs : List Doc) → road x v hops ≡ Ok docs → has_float (documents_answer docs) ≡ false
+NoFloats = (x : Doc) (v : SpecVersion) (hops : List Hop) (docs : List Doc) → road x v hops ≡ Ok docs → has_float (documents_value docs) ≡ false
 
 -- No answer to a refused document holds one.
 abbrev pub NoFloatRefused : Type 0
-NoFloatRefused = (r : Refusal) → has_float (refused_answer r) ≡ false
+NoFloatRefused = (r : Refusal) → has_float (refusal_value r) ≡ false
 
 -- A reply of status 0 holds the documents of one served request.
 abbrev pub ReplyLaw : Type 0
-ReplyLaw = (bytes : List ℕ) → (reply_to bytes).status ≡ 0 → (docs : List Doc) × Serves bytes docs × ((reply_to bytes).text ≡ line_of (documents_answer docs))
+ReplyLaw = (bytes : List ℕ) → (reply_to bytes).status ≡ 0 → (docs : List Doc) × Serves bytes docs × ((reply_to bytes).text ≡ line_of (documents_value docs))
 
 -- A valid request of no more bytes than the limit is owed such a reply.
 abbrev pub ValidLaw : Type 0
@@ -72,7 +72,7 @@ ValidLaw = (bytes : List ℕ) (r : Request) → length bytes ≤ limit → reque
 
 -- The answer of the documents of a road nests no deeper than 107 arrays and objects.
 abbrev pub AnswersNest : Type 0
-AnswersNest = (x : Doc) (v : SpecVersion) (hops : List Hop) (docs : List Doc) → road x v hops ≡ Ok docs → depth (documents_answer docs) ≤ 107
+AnswersNest = (x : Doc) (v : SpecVersion) (hops : List Hop) (docs : List Doc) → road x v hops ≡ Ok docs → depth (documents_value docs) ≤ 107
 
 -- The road of a made bill is an XML document and then a JSON document. The answer counts the events of the first and
 -- the bytes of the second one's text.
@@ -80,7 +80,7 @@ pub record IsMade (n : ℕ) : Type 0 where
   pub root : Node
   pub value : Data
   pub led : made_road n ≡ Ok (xml root ∷ json value ∷ [])
-  pub counted : made_answer n ≡ made_counts (length (compact_text value)) n (length (document root))
+  pub counted : count_value n ≡ made_counts (length (compact_text value)) n (length (document root))
 
 abbrev pub MadeLaw : Type 0
 MadeLaw = (n : ℕ) → IsMade n

@@ -11,7 +11,7 @@ use Rattle.cdx_schema.specs.Table.{rows, rule, list, row, must, at, bill_childre
 use Rattle.cdx_schema.specs.Results.{◌>>=◌}
 use Rattle.cdx_schema.specs.Depth.{Depth}
 use Rattle.cdx_schema.specs.XmlTexts.{decimal, number_tree}
-use Rattle.cdx_schema.specs.XmlReading.{xread, nodes_read, attributes_read, ended, end_of, Element, content_read, content_from, no_content, record_plan}
+use Rattle.cdx_schema.specs.XmlReading.{xread, nodes_read, attributes_read, ended, end_of, Element, content_fields, content_from, no_content, record_plan}
 use Rattle.cdx_schema.specs.XmlSpelling.{root, nodes_of, fields_nodes, attributes_in, attributes_of, attribute_of, row_attributes, plain_name}
 use Rattle.cdx_schema.proofs.JsonBack.{FieldsHeld, if_true, same_itself, and_true}
 use Rattle.cdx_schema.proofs.XmlBack.{rows_read, ended_is}
@@ -98,8 +98,8 @@ bill_steps w d n ts s as' xs is holds atts reads ends =
     ap (λ a. xread (element (plain_name (codes "bom")) a (record { default = Some (namespace w) }) (nodes_of (fields bill (whole w n s ts)) w a_bill)) w a_bill 1 d) is
     ∙ (ap (λ y. xread (element (plain_name (codes "bom")) as' (record { default = Some (namespace w) }) y) w a_bill 1 d) holds
     ∙ (if_true (bytes_eq (namespace w) (namespace w)) _ _ (same_itself (namespace w))
-    ∙ (ap (λ x. (x >>= (λ vs. content_read (content_from 0 (rows bill)) E bill vs w d)) >>= (λ us. ended (rows bill) us w (codes "bom") (end_of E) >>= (λ zs. Ok (fields bill zs)))) atts
-    ∙ (ap (λ c. content_read c E bill (whole w n s (first_fields w ts bill_children)) w d >>= (λ us. ended (rows bill) us w (codes "bom") (end_of E) >>= (λ zs. Ok (fields bill zs)))) no_text
+    ∙ (ap (λ x. (x >>= (λ vs. content_fields (content_from 0 (rows bill)) E bill vs w d)) >>= (λ us. ended (rows bill) us w (codes "bom") (end_of E) >>= (λ zs. Ok (fields bill zs)))) atts
+    ∙ (ap (λ c. content_fields c E bill (whole w n s (first_fields w ts bill_children)) w d >>= (λ us. ended (rows bill) us w (codes "bom") (end_of E) >>= (λ zs. Ok (fields bill zs)))) no_text
     ∙ (ap (λ x. x >>= (λ us. ended (rows bill) us w (codes "bom") (end_of E) >>= (λ zs. Ok (fields bill zs)))) reads
     ∙ ap (λ x. x >>= (λ zs. Ok (fields bill zs))) (ends (end_of E)))))))
   where

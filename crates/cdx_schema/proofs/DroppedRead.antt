@@ -15,8 +15,8 @@ use Rattle.cdx_schema.specs.Faults.{unexpected, lacking, namespaced, nested}
 use Rattle.cdx_schema.specs.Depth.{Depth, top, inside, name_too_deep}
 use Rattle.cdx_models.specs.Entries.{entry_of}
 use Rattle.cdx_schema.specs.JsonReading.{is_required}
-use Rattle.cdx_schema.specs.XmlTexts.{boolean_of, number_of, boolean_tree, of_text}
-use Rattle.cdx_schema.specs.XmlReading.{ElementReading, Child, Plan, record_plan, plan_of_list, tools_plan, data_plan, signature_plan, no_plan, find_child, stored, stray, unknown, is_second, child_read, find_attribute, parsed, attribute_read, attribute_or_read, row_attribute, attributes_read, in_force, after_text, text_in, exact_text, Content, no_content, any_text, one_text_alone, content_from, name_owed, lacks, lacking_row, filled, ended, Element, end_of, text_read, number_alone, number_in, list_of, content_read, record_so_far, record_read, tools_object_of, tools_of, data_of, signature_of, in_namespace, kind_read, xread, nodes_read, xml_denotes}
+use Rattle.cdx_schema.specs.XmlTexts.{boolean_of, number_of, boolean_tree, tree_of_text}
+use Rattle.cdx_schema.specs.XmlReading.{ElementReading, Child, Plan, record_plan, plan_of_list, tools_plan, data_plan, signature_plan, no_plan, find_child, stored, stray, unknown, is_second, child_read_into, find_attribute, parsed, attribute_read, attribute_or_read, row_attribute, attributes_read, in_force, after_text, text_in, exact_text, Content, no_content, any_text, one_text_alone, content_from, name_owed, lacks, lacking_row, filled, ended, Element, end_of, text_read, number_alone, number_in, list_of, content_fields, record_so_far, record_denoted, tools_object_of, tools_of, data_of, signature_of, in_namespace, kind_read, xread, nodes_read, xml_denotes}
 use Rattle.cdx_events.specs.EmptyTexts.{lean, lean_nodes}
 use Rattle.cdx_schema.specs.Dropped.{earlier, if_nothing, record_hole, kind_hole, child_hole, hole, holes, unless}
 use Rattle.cdx_events.specs.declared.event.EventKind.TheVariants as kinds
@@ -59,11 +59,11 @@ attribute_ok None a r v n p q t h = by (is_required r.need v) h
     by : (b : Bool) → (if b then Err (lacking p n a) else Ok absent) ≡ Ok t → (if b then Err (lacking q n a) else Ok absent) ≡ Ok t
     by true e = fault_ok e
     by false e = e
-attribute_ok (Some s) a r v n p q t h = parsed_ok (of_text r.kind s) p q a s r.kind t h
+attribute_ok (Some s) a r v n p q t h = parsed_ok (tree_of_text r.kind s) p q a s r.kind t h
 
 attribute_or_ok : (o : Option (List ℕ)) (a : List ℕ) (m : ℕ) (r : Row) (p q : ℕ) (t : Tree) → attribute_or_read o a m r p ≡ Ok t → attribute_or_read o a m r q ≡ Ok t
 attribute_or_ok None a m r p q t h = h
-attribute_or_ok (Some s) a m r p q t h = parsed_ok (of_text r.kind s) p q a s r.kind t h
+attribute_or_ok (Some s) a m r p q t h = parsed_ok (tree_of_text r.kind s) p q a s r.kind t h
 
 known_ok : (b : Bool) (x y : Result Tree XmlReadError) (t : Tree) → (x ≡ Ok t → y ≡ Ok t) → (if b then x else Ok absent) ≡ Ok t → (if b then y else Ok absent) ≡ Ok t
 known_ok true x y t f h = f h
@@ -200,7 +200,7 @@ module _ (n : List ℕ) (as' : List OwnedAttribute) (nsp : Option (List ℕ)) (p
   abbrev R : Name → SpecVersion → Option XmlReadError
   R k v = record_hole (content_from 0 (rows k)) k v n q (lean_nodes xs) (H v)
 
-  content_lean : (c : Content) (k : Name) (ts us : Trees) (v : SpecVersion) (d : Depth) → content_read c E k ts v d ≡ Ok us → content_read c F k ts v d ≡ unless (record_hole c k v n q (lean_nodes xs) (H v)) us
+  content_lean : (c : Content) (k : Name) (ts us : Trees) (v : SpecVersion) (d : Depth) → content_fields c E k ts v d ≡ Ok us → content_fields c F k ts v d ≡ unless (record_hole c k v n q (lean_nodes xs) (H v)) us
   content_lean no_content k ts us v d g = h (record_plan k) v d ts us g
   content_lean (any_text i) k ts us v d g = bind_ok (text_read E) (λ s. Ok (with_field i (text s) ts)) us g
       (λ s a b. ap (λ r. r >>= (λ z. Ok (with_field i (text z) ts))) (text_lean xs n (suc p) (suc q) s a) ∙ b)
@@ -213,26 +213,26 @@ module _ (n : List ℕ) (as' : List OwnedAttribute) (nsp : Option (List ℕ)) (p
   ends_ok : (k : Name) (v : SpecVersion) (us : Trees) (t : Tree) → Ends E k v us ≡ Ok t → Ends F k v us ≡ Ok t
   ends_ok k v us t g = bind_ok (ended (rows k) us v n (end_of E)) (λ zs. Ok (fields k zs)) t g (λ zs i j. ap (λ r. r >>= (λ ys. Ok (fields k ys))) (ended_ok (rows k) us v n (end_of E) (end_of F) zs i) ∙ j)
 
-  record_lean : (k : Name) (v : SpecVersion) (d : Depth) (t : Tree) → record_read E k v d ≡ Ok t → record_read F k v d ≡ unless (R k v) t
+  record_lean : (k : Name) (v : SpecVersion) (d : Depth) (t : Tree) → record_denoted E k v d ≡ Ok t → record_denoted F k v d ≡ unless (R k v) t
   record_lean k v d t g =
       bind_ok (record_so_far E k v (inside k d)) (Ends E k v) t g
-      (λ us i z. bind_ok (attributes_read (rows k) (in_force k as') v n p) (λ ts. content_read (content_from 0 (rows k)) E k ts v (inside k d)) us i
+      (λ us i z. bind_ok (attributes_read (rows k) (in_force k as') v n p) (λ ts. content_fields (content_from 0 (rows k)) E k ts v (inside k d)) us i
       (λ ts a c. unless_then (R k v) (record_so_far F k v (inside k d)) us (Ends F k v) t
-      (ap (λ r. r >>= (λ ys. content_read (content_from 0 (rows k)) F k ys v (inside k d))) (attributes_ok (rows k) (in_force k as') v n p q ts a) ∙ content_lean (content_from 0 (rows k)) k ts us v (inside k d) c)
+      (ap (λ r. r >>= (λ ys. content_fields (content_from 0 (rows k)) F k ys v (inside k d))) (attributes_ok (rows k) (in_force k as') v n p q ts a) ∙ content_lean (content_from 0 (rows k)) k ts us v (inside k d) c)
       (ends_ok k v us t z)))
 
-  deep_lean : (b : Bool) (k : Name) (v : SpecVersion) (d : Depth) (t : Tree) → (if b then Err (nested p) else record_read E k v d) ≡ Ok t → (if b then Err (nested q) else record_read F k v d) ≡ unless (R k v) t
+  deep_lean : (b : Bool) (k : Name) (v : SpecVersion) (d : Depth) (t : Tree) → (if b then Err (nested p) else record_denoted E k v d) ≡ Ok t → (if b then Err (nested q) else record_denoted F k v d) ≡ unless (R k v) t
   deep_lean true k v d t g = fault_ok g
   deep_lean false k v d t g = record_lean k v d t g
 
-  either_lean : (b c : Bool) (j k : Name) (a : List ℕ) (v : SpecVersion) (d : Depth) (t : Tree) → (if b then record_read E j v d else (if c then record_read E k v d else Err (lacking p n a))) ≡ Ok t
-      → (if b then record_read F j v d else (if c then record_read F k v d else Err (lacking q n a))) ≡ unless (if b then R j v else R k v) t
+  either_lean : (b c : Bool) (j k : Name) (a : List ℕ) (v : SpecVersion) (d : Depth) (t : Tree) → (if b then record_denoted E j v d else (if c then record_denoted E k v d else Err (lacking p n a))) ≡ Ok t
+      → (if b then record_denoted F j v d else (if c then record_denoted F k v d else Err (lacking q n a))) ≡ unless (if b then R j v else R k v) t
   either_lean true c j k a v d t g = record_lean j v d t g
   either_lean false true j k a v d t g = record_lean k v d t g
   either_lean false false j k a v d t g = fault_ok g
 
-  root_lean : (b c : Bool) (e e' f f' : XmlReadError) (v : SpecVersion) (d : Depth) (t : Tree) → (if b then (if c then record_read E bill v d else Err e) else Err f) ≡ Ok t
-      → (if b then (if c then record_read F bill v d else Err e') else Err f') ≡ unless (R bill v) t
+  root_lean : (b c : Bool) (e e' f f' : XmlReadError) (v : SpecVersion) (d : Depth) (t : Tree) → (if b then (if c then record_denoted E bill v d else Err e) else Err f) ≡ Ok t
+      → (if b then (if c then record_denoted F bill v d else Err e') else Err f') ≡ unless (R bill v) t
   root_lean true true e e' f f' v d t g = record_lean bill v d t g
   root_lean true false e e' f f' v d t g = fault_ok g
   root_lean false c e e' f f' v d t g = fault_ok g
@@ -281,7 +281,7 @@ module _ (n : List ℕ) (as' : List OwnedAttribute) (nsp : Option (List ℕ)) (p
   kind_lean v a_license_identifier d t g = either_lean (bytes_eq n (codes "id")) (bytes_eq n (codes "name")) spdx_id license_name (codes "id or name") v d t g
   kind_lean v a_tools d t g = plan_lean tools_plan v d (more absent (two absent absent)) (λ ts. tools_of E v ts) (λ ts. tools_of F v ts) t g (λ us j. tools_ok v us (field 0 us) t j)
   kind_lean v a_data d t g = plan_lean data_plan v d (two absent absent) (λ ts. Ok (data_of ts)) (λ ts. Ok (data_of ts)) t g (λ us j. j)
-  kind_lean v an_entry d t g = bind_ok (record_read E service_data v d) (λ z. Ok (entry_of z)) t g (λ u i j. unless_then (R service_data v) (record_read F service_data v d) u (λ z. Ok (entry_of z)) t (record_lean service_data v d u i) j)
+  kind_lean v an_entry d t g = bind_ok (record_denoted E service_data v d) (λ z. Ok (entry_of z)) t g (λ u i j. unless_then (R service_data v) (record_denoted F service_data v d) u (λ z. Ok (entry_of z)) t (record_lean service_data v d u i) j)
   kind_lean v a_signature d t g = plan_lean signature_plan v d (more absent (two absent absent)) (λ ts. signature_of E v ts) (λ ts. signature_of F v ts) t g (λ us j. signature_ok v us (field 0 us) t j)
   kind_lean v a_bill d t g = root_lean (bytes_eq n (codes "bom")) (in_namespace nsp (namespace v)) (namespaced (namespace v) nsp) (namespaced (namespace v) nsp) (unexpected p (codes "bom") kinds.StartElement) (unexpected q (codes "bom") kinds.StartElement) v d t g
 
@@ -289,7 +289,7 @@ module _ (n : List ℕ) (as' : List OwnedAttribute) (nsp : Option (List ℕ)) (p
 
 child_lean : (o : Option Child) (r : Rule) (read read' : ElementReading) (look : Kind → Option XmlReadError) (around : List ℕ) (v : SpecVersion) (d : Depth) (p q : ℕ) (ts us : Trees)
     → ((k : Kind) (t : Tree) → read v k p d ≡ Ok t → read' v k q d ≡ unless (look k) t)
-    → child_read o r read around v d p ts ≡ Ok us → child_read o r read' around v d q ts ≡ unless (child_hole o look) us
+    → child_read_into o r read around v d p ts ≡ Ok us → child_read_into o r read' around v d q ts ≡ unless (child_hole o look) us
 child_lean None r read read' look around v d p q ts us f h = unknown_ok r around p q ts us h
 child_lean (Some c) r read read' look around v d p q ts us f h = by (is_second c.place (field c.field ts)) h
   where
@@ -322,9 +322,9 @@ nodes_lean (node (cdata (c ∷ s)) xs) plan around v d p q ts us h =
     (λ ws i j. earlier_then None (holes (lean_nodes xs) v (q + 1) plan) (stray plan.rule kinds.CData around q ts) ws (λ ys. nodes_read (lean_nodes xs) plan around v d (q + 1) ys) us
     (stray_ok plan.rule kinds.CData around p q ts ws i) (nodes_lean xs plan around v d (p + 1) (q + 1) ws us j))
 nodes_lean (node (element n as' nsp zs) xs) plan around v d p q ts us h =
-    bind_ok (child_read (find_child v n.local_name plan.children) plan.rule (xread (element n as' nsp zs)) around v d p ts) (λ ws. nodes_read xs plan around v d (p + places (element n as' nsp zs)) ws) us h
+    bind_ok (child_read_into (find_child v n.local_name plan.children) plan.rule (xread (element n as' nsp zs)) around v d p ts) (λ ws. nodes_read xs plan around v d (p + places (element n as' nsp zs)) ws) us h
     (λ ws i j. earlier_then (child_hole (find_child v n.local_name plan.children) (hole (element n as' nsp (lean_nodes zs)) v q)) (holes (lean_nodes xs) v (q + places (element n as' nsp (lean_nodes zs))) plan)
-    (child_read (find_child v n.local_name plan.children) plan.rule (xread (element n as' nsp (lean_nodes zs))) around v d q ts) ws (λ ys. nodes_read (lean_nodes xs) plan around v d (q + places (element n as' nsp (lean_nodes zs))) ys) us
+    (child_read_into (find_child v n.local_name plan.children) plan.rule (xread (element n as' nsp (lean_nodes zs))) around v d q ts) ws (λ ys. nodes_read (lean_nodes xs) plan around v d (q + places (element n as' nsp (lean_nodes zs))) ys) us
     (child_lean (find_child v n.local_name plan.children) plan.rule (xread (element n as' nsp zs)) (xread (element n as' nsp (lean_nodes zs))) (hole (element n as' nsp (lean_nodes zs)) v q) around v d p q ts ws
     (λ k t g. element_lean n as' nsp zs v k p q d t (λ pl w e as'' bs. nodes_lean zs pl n.local_name w e (suc p) (suc q) as'' bs) g) i)
     (nodes_lean xs plan around v d (p + places (element n as' nsp zs)) (q + places (element n as' nsp (lean_nodes zs))) ws us j))

@@ -12,7 +12,7 @@ use Rattle.cdx_events.specs.Root.{with, node_of, frame_opened}
 use Rattle.cdx_events.proofs.Checks.{checks, checks_all, inside_checks, goes_checks}
 use Rattle.cdx_events.proofs.Hears.{opened_with, opened_end}
 use Rattle.cdx_schema.specs.Soon.{ends, BeginsElement, IsElement, IsEnded}
-use Rattle.cdx_schema.specs.OpenRoot.{in_root, outer_name}
+use Rattle.cdx_schema.specs.OpenRoot.{inside_root, outer_name}
 use Rattle.cdx_schema.proofs.EarlyBalance.{closed_root, ended_all}
 
 -- ---- the open elements of a child, with the root around them
@@ -52,12 +52,12 @@ inside_allowed f fs events e i g =
     checks_allowed f.name (names fs) e c.0 (inside_checks f fs (e ∷ c.0) (subst (λ es. checks_all (es ++ e ∷ c.0)) i c.1))
 
 -- after the nodes of the root
-pub between_allowed : (r : Frame) (e : XmlEvent) → GoesOn (in_root r [] ++ e ∷ []) → Allowed r.name e
-between_allowed r e g = inside_allowed r [] (in_root r []) e (ap (λ es. StartDocument ∷ es) (append-nil (opened (r ∷ [])))) g
+pub between_allowed : (r : Frame) (e : XmlEvent) → GoesOn (inside_root r [] ++ e ∷ []) → Allowed r.name e
+between_allowed r e g = inside_allowed r [] (inside_root r []) e (ap (λ es. StartDocument ∷ es) (append-nil (opened (r ∷ [])))) g
 
 -- inside a child of the root
-pub child_allowed : (r f : Frame) (fs : List Frame) (e : XmlEvent) → GoesOn (in_root r (opened (f ∷ fs)) ++ e ∷ []) → Allowed f.name e
-child_allowed r f fs e g = inside_allowed f (around f fs r) (in_root r (opened (f ∷ fs))) e (ap (λ es. StartDocument ∷ es) (sym (opened_around r f fs))) g
+pub child_allowed : (r f : Frame) (fs : List Frame) (e : XmlEvent) → GoesOn (inside_root r (opened (f ∷ fs)) ++ e ∷ []) → Allowed f.name e
+child_allowed r f fs e g = inside_allowed f (around f fs r) (inside_root r (opened (f ∷ fs))) e (ap (λ es. StartDocument ∷ es) (sym (opened_around r f fs))) g
 
 -- ---- one event more in a child
 
@@ -129,8 +129,8 @@ ended_name f fs s =
 
 -- ---- the root, when a child has ended
 
-pub root_more : (r : Frame) (k : Node) → in_root r (events_of k) ≡ in_root (with r k) []
+pub root_more : (r : Frame) (k : Node) → inside_root r (events_of k) ≡ inside_root (with r k) []
 root_more r k = ap (λ es. StartDocument ∷ es) (sym (opened_with r [] k) ∙ sym (append-nil (opened (with r k ∷ []))))
 
-pub in_root_more : (r : Frame) (es : List XmlEvent) (e : XmlEvent) → in_root r es ++ e ∷ [] ≡ in_root r (es ++ e ∷ [])
+pub in_root_more : (r : Frame) (es : List XmlEvent) (e : XmlEvent) → inside_root r es ++ e ∷ [] ≡ inside_root r (es ++ e ∷ [])
 in_root_more r es e = ap (λ xs. StartDocument ∷ xs) (append_assoc (opened (r ∷ [])) es (e ∷ []))

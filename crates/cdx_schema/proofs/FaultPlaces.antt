@@ -18,8 +18,8 @@ use Rattle.cdx_schema.specs.Faults.{unexpected, lacking, unreadable, namespaced,
 use Rattle.cdx_schema.specs.Depth.{Depth, top, inside, name_too_deep}
 use Rattle.cdx_models.specs.Entries.{entry_of}
 use Rattle.cdx_schema.specs.JsonReading.{is_required}
-use Rattle.cdx_schema.specs.XmlTexts.{boolean_of, number_of, boolean_tree, of_text}
-use Rattle.cdx_schema.specs.XmlReading.{ElementReading, Child, Plan, row_children, children_from, record_plan, plan_of_list, tools_plan, data_plan, signature_plan, no_plan, find_child, stored, stray, unknown, is_second, child_read, node_read, find_attribute, parsed, attribute_read, attribute_or_read, row_attribute, attributes_read, in_force, after_text, text_in, exact_text, Content, no_content, any_text, one_text_alone, content_from, name_owed, lacks, lacking_row, filled, ended, Element, end_of, text_read, boolean_read, number_alone, number_in, list_of, content_read, record_so_far, record_read, tools_object_of, tools_of, data_of, signature_of, tools_read, signature_read, in_namespace, kind_read, xread, nodes_read, xml_denotes}
+use Rattle.cdx_schema.specs.XmlTexts.{boolean_of, number_of, boolean_tree, tree_of_text}
+use Rattle.cdx_schema.specs.XmlReading.{ElementReading, Child, Plan, row_children, children_from, record_plan, plan_of_list, tools_plan, data_plan, signature_plan, no_plan, find_child, stored, stray, unknown, is_second, child_read_into, node_read, find_attribute, parsed, attribute_read, attribute_or_read, row_attribute, attributes_read, in_force, after_text, text_in, exact_text, Content, no_content, any_text, one_text_alone, content_from, name_owed, lacks, lacking_row, filled, ended, Element, end_of, text_read, boolean_read, number_alone, number_in, list_of, content_fields, record_so_far, record_denoted, tools_object_of, tools_of, data_of, signature_of, tools_read, signature_read, in_namespace, kind_read, xread, nodes_read, xml_denotes}
 use Rattle.cdx_schema.specs.Locality.{fault_place, IsDocumentFault, RefusesByFaults}
 use Rattle.cdx_schema.proofs.JsonBack.{and_true}
 use Rattle.cdx_events.specs.declared.event.EventKind.TheVariants as kinds
@@ -67,11 +67,11 @@ parsed_place (Some t) p q s k f h = ok_err h
 
 attribute_place : (o : Option (List ℕ)) (q : List ℕ) (r : Row) (v : SpecVersion) (around : List ℕ) (p : ℕ) (f : XmlReadError) → attribute_read o q r v around p ≡ Err f → fault_place f ≡ p
 attribute_place None q r v around p f h = if_place (is_required r.need v) (lacking p around q) (Ok absent) f p refl h (λ g. ok_err g)
-attribute_place (Some s) q r v around p f h = parsed_place (of_text r.kind s) p q s r.kind f h
+attribute_place (Some s) q r v around p f h = parsed_place (tree_of_text r.kind s) p q s r.kind f h
 
 attribute_or_place : (o : Option (List ℕ)) (q : List ℕ) (n : ℕ) (r : Row) (p : ℕ) (f : XmlReadError) → attribute_or_read o q n r p ≡ Err f → fault_place f ≡ p
 attribute_or_place None q n r p f h = ok_err h
-attribute_or_place (Some s) q n r p f h = parsed_place (of_text r.kind s) p q s r.kind f h
+attribute_or_place (Some s) q n r p f h = parsed_place (tree_of_text r.kind s) p q s r.kind f h
 
 known_place : (b : Bool) (r : Result Tree XmlReadError) (f : XmlReadError) (p : ℕ) → (if b then r else Ok absent) ≡ Err f → (r ≡ Err f → fault_place f ≡ p) → fault_place f ≡ p
 known_place true r f p h g = g h
@@ -195,7 +195,7 @@ module _ (m : Bool) (Q : Type 0) (f : XmlReadError) (n : List ℕ) (as' : List O
   exact_out : exact_text xs n (suc s) ≡ Err f → Out m Q f (exact_text ys n (suc s))
   exact_out g = h.1 (Err (unexpected (suc s) n kinds.EndElement)) (λ z. ap fault_place (sym (err_same z))) g
 
-  content_out : (c : Content) (k : Name) (ts : Trees) (v : SpecVersion) (d : Depth) → content_read c E k ts v d ≡ Err f → Out m Q f (content_read c F k ts v d)
+  content_out : (c : Content) (k : Name) (ts : Trees) (v : SpecVersion) (d : Depth) → content_fields c E k ts v d ≡ Err f → Out m Q f (content_fields c F k ts v d)
   content_out no_content k ts v d g = h.0 (record_plan k) v d ts (children_no_bill 0 (rows k) (rows_no_bill k)) g
   content_out (any_text i) k ts v d g = bind_err (text_read E) (λ t. Ok (with_field i (text t) ts)) f g
       (λ z. out_bind m Q f (text_read F) (λ t. Ok (with_field i (text t) ts)) (simple_out z)) (λ t i j. ok_err j)
@@ -208,22 +208,22 @@ module _ (m : Bool) (Q : Type 0) (f : XmlReadError) (n : List ℕ) (as' : List O
   ends_out : (k : Name) (v : SpecVersion) (us : Trees) (r : Result Tree XmlReadError) → Ends E k v us ≡ Err f → Out m Q f r
   ends_out k v us r g = bind_err (ended (rows k) us v n (end_of E)) (λ zs. Ok (fields k zs)) f g (λ z. h.4 r (ended_place (rows k) us v n (end_of E) f z)) (λ zs i j. ok_err j)
 
-  pub record_out : (k : Name) (v : SpecVersion) (d : Depth) → record_read E k v d ≡ Err f → Out m Q f (record_read F k v d)
+  pub record_out : (k : Name) (v : SpecVersion) (d : Depth) → record_denoted E k v d ≡ Err f → Out m Q f (record_denoted F k v d)
   record_out k v d g =
       bind_err (record_so_far E k v (inside k d)) (Ends E k v) f g
-      (λ z. bind_err (attributes_read (rows k) (in_force k as') v n s) (λ ts. content_read (content_from 0 (rows k)) E k ts v (inside k d)) f z
-      (λ a. h.3 (record_read F k v d) (attributes_place (rows k) (in_force k as') v n s f a)
-      (err_bind (record_so_far F k v (inside k d)) (Ends F k v) f (err_bind (attributes_read (rows k) (in_force k as') v n s) (λ ts. content_read (content_from 0 (rows k)) F k ts v (inside k d)) f a)))
+      (λ z. bind_err (attributes_read (rows k) (in_force k as') v n s) (λ ts. content_fields (content_from 0 (rows k)) E k ts v (inside k d)) f z
+      (λ a. h.3 (record_denoted F k v d) (attributes_place (rows k) (in_force k as') v n s f a)
+      (err_bind (record_so_far F k v (inside k d)) (Ends F k v) f (err_bind (attributes_read (rows k) (in_force k as') v n s) (λ ts. content_fields (content_from 0 (rows k)) F k ts v (inside k d)) f a)))
       (λ ts i a. out_bind m Q f (record_so_far F k v (inside k d)) (Ends F k v)
-      (subst (λ (r : Result Trees XmlReadError). Out m Q f (r >>= (λ us. content_read (content_from 0 (rows k)) F k us v (inside k d)))) (sym i) (content_out (content_from 0 (rows k)) k ts v (inside k d) a))))
-      (λ us i z. ends_out k v us (record_read F k v d) z)
+      (subst (λ (r : Result Trees XmlReadError). Out m Q f (r >>= (λ us. content_fields (content_from 0 (rows k)) F k us v (inside k d)))) (sym i) (content_out (content_from 0 (rows k)) k ts v (inside k d) a))))
+      (λ us i z. ends_out k v us (record_denoted F k v d) z)
 
-  deep_out : (b : Bool) (k : Name) (v : SpecVersion) (d : Depth) → (if b then Err (nested s) else record_read E k v d) ≡ Err f → Out m Q f (if b then Err (nested s) else record_read F k v d)
+  deep_out : (b : Bool) (k : Name) (v : SpecVersion) (d : Depth) → (if b then Err (nested s) else record_denoted E k v d) ≡ Err f → Out m Q f (if b then Err (nested s) else record_denoted F k v d)
   deep_out true k v d g = h.3 (Err (nested s)) (ap fault_place (sym (err_same g))) g
   deep_out false k v d g = record_out k v d g
 
-  either_out : (b c : Bool) (j k : Name) (q : List ℕ) (v : SpecVersion) (d : Depth) → (if b then record_read E j v d else (if c then record_read E k v d else Err (lacking s n q))) ≡ Err f
-      → Out m Q f (if b then record_read F j v d else (if c then record_read F k v d else Err (lacking s n q)))
+  either_out : (b c : Bool) (j k : Name) (q : List ℕ) (v : SpecVersion) (d : Depth) → (if b then record_denoted E j v d else (if c then record_denoted E k v d else Err (lacking s n q))) ≡ Err f
+      → Out m Q f (if b then record_denoted F j v d else (if c then record_denoted F k v d else Err (lacking s n q)))
   either_out true c j k q v d g = record_out j v d g
   either_out false true j k q v d g = record_out k v d g
   either_out false false j k q v d g = h.3 (Err (lacking s n q)) (ap fault_place (sym (err_same g))) g
@@ -273,7 +273,7 @@ module _ (m : Bool) (Q : Type 0) (f : XmlReadError) (n : List ℕ) (as' : List O
   kind_out v a_license_identifier d b g = either_out (bytes_eq n (codes "id")) (bytes_eq n (codes "name")) spdx_id license_name (codes "id or name") v d g
   kind_out v a_tools d b g = plan_out tools_plan v d (more absent (two absent absent)) (λ ts. tools_of E v ts) (λ ts. tools_of F v ts) refl g (λ us j. tools_out v us (field 0 us) (tools_read F v d) j)
   kind_out v a_data d b g = plan_out data_plan v d (two absent absent) (λ ts. Ok (data_of ts)) (λ ts. Ok (data_of ts)) refl g (λ us j. ok_err j)
-  kind_out v an_entry d b g = bind_err (record_read E service_data v d) (λ t. Ok (entry_of t)) f g (λ z. out_bind m Q f (record_read F service_data v d) (λ t. Ok (entry_of t)) (record_out service_data v d z)) (λ t i j. ok_err j)
+  kind_out v an_entry d b g = bind_err (record_denoted E service_data v d) (λ t. Ok (entry_of t)) f g (λ z. out_bind m Q f (record_denoted F service_data v d) (λ t. Ok (entry_of t)) (record_out service_data v d z)) (λ t i j. ok_err j)
   kind_out v a_signature d b g = plan_out signature_plan v d (more absent (two absent absent)) (λ ts. signature_of E v ts) (λ ts. signature_of F v ts) refl g (λ us j. signature_out v us (field 0 us) (signature_read F v d) j)
   kind_out v a_bill d b g = absurd (true≢false (sym b))
 
@@ -340,7 +340,7 @@ unknown_place strict around p ts f h = ap fault_place (sym (err_same h))
 
 -- A node's fault stands at its place, or is the fault of the child that it is read as.
 child_fault : {Q : Type 0} (o : Option Child) (r : Rule) (read : ElementReading) (around : List ℕ) (v : SpecVersion) (d : Depth) (p : ℕ) (ts : Trees) (f : XmlReadError) → NoBillIn o → (fault_place f ≡ p → Q) → ((k : Kind) → no_bill k ≡ true → read v k p d ≡ Err f → Q)
-    → child_read o r read around v d p ts ≡ Err f → Q
+    → child_read_into o r read around v d p ts ≡ Err f → Q
 child_fault None r read around v d p ts f b here g h = here (unknown_place r around p ts f h)
 child_fault {Q} (Some c) r read around v d p ts f b here g h = by (is_second c.place (field c.field ts)) h
   where
@@ -398,7 +398,7 @@ root_within : (n : OwnedName) (as' : List OwnedAttribute) (c : Namespace) (xs : 
 unfolding xread
 root_within n as' c xs v f h = by (bytes_eq n.local_name (codes "bom")) (in_namespace c.default (namespace v)) h
   where
-    by : (b e : Bool) → (if b then (if e then record_read (elem n.local_name as' c.default 1 xs (λ plan w e' ts. nodes_read xs plan n.local_name w e' 2 ts)) bill v top else Err (namespaced (namespace v) c.default)) else Err (unexpected 1 (codes "bom") kinds.StartElement)) ≡ Err f
+    by : (b e : Bool) → (if b then (if e then record_denoted (elem n.local_name as' c.default 1 xs (λ plan w e' ts. nodes_read xs plan n.local_name w e' 2 ts)) bill v top else Err (namespaced (namespace v) c.default)) else Err (unexpected 1 (codes "bom") kinds.StartElement)) ≡ Err f
         → Within 1 (1 + suc (suc (places_of xs))) f
     by true true g = record_out false (Within 1 (1 + suc (suc (places_of xs))) f) f n.local_name as' c.default 1 xs xs (λ plan w e' ts. nodes_read xs plan n.local_name w e' 2 ts) (λ plan w e' ts. nodes_read xs plan n.local_name w e' 2 ts)
         (shows_within f n.local_name 1 xs (λ plan w e' ts. nodes_read xs plan n.local_name w e' 2 ts) (λ plan w e' ts i z. nodes_within xs plan n.local_name w e' 2 ts f i z)) bill v top g

@@ -20,7 +20,7 @@ use Rattle.cdx_schema.specs.Faults.{JsonFault, here, too_deep, wrong_kind, neste
 use Rattle.cdx_schema.specs.JsonReading.{jread, seen, rows_read, row_read, own_read, or_else, Object}
 use Rattle.cdx_schema.specs.JsonSpelling.{members_spelled, own_members, set_member, is_spelled, jspell}
 use Rattle.cdx_schema.specs.Keeping.{kept, rows_kept}
-use Rattle.cdx_schema.specs.XmlReading.{xread, nodes_read, node_read, attributes_read, Plan, plan_of_list, record_so_far, content_from, no_content, content_read, record_plan, in_force}
+use Rattle.cdx_schema.specs.XmlReading.{xread, nodes_read, node_read, attributes_read, Plan, plan_of_list, record_so_far, content_from, no_content, content_fields, record_plan, in_force}
 use Rattle.cdx_schema.specs.XmlSpelling.{nodes_of, fields_nodes, attributes_in, lone}
 use Rattle.cdx_schema.specs.RowLaws.{AreFor, ReadsRows, ReadsGroups, SpellsRows, SpellsGroups, SetsMembers, WritesRows, WritesGroups, KeepsRows, KeepsGroups, element_at, LastStepGivesItems, ListOneMore, ReadsRecord, RecordOneMore}
 use Rattle.cdx_events.specs.declared.name.OwnedName.{OwnedName}
@@ -245,10 +245,10 @@ record_more : (n : OwnedName) (as' : List OwnedAttribute) (space : Namespace) (x
     → record_so_far (element_at n as' space (xs ⊕ lone m) p) k v d
     ≡ (record_so_far (element_at n as' space xs p) k v d >>= λ us. node_read m (xread m) (record_plan k) n.local_name v d (suc p + places_of xs) us)
 record_more n as' space xs m k v p d plain =
-    ap (λ c. attributes_read (rows k) (in_force k as') v n.local_name p >>= (λ ts. content_read c (element_at n as' space (xs ⊕ lone m) p) k ts v d)) plain
+    ap (λ c. attributes_read (rows k) (in_force k as') v n.local_name p >>= (λ ts. content_fields c (element_at n as' space (xs ⊕ lone m) p) k ts v d)) plain
     ∙ (under_ok (attributes_read (rows k) (in_force k as') v n.local_name p) _ _ (λ ts. one_node_more xs m (record_plan k) n.local_name v d (suc p) ts)
     ∙ (after (attributes_read (rows k) (in_force k as') v n.local_name p) (λ ts. nodes_read xs (record_plan k) n.local_name v d (suc p) ts) (λ us. node_read m (xread m) (record_plan k) n.local_name v d (suc p + places_of xs) us)
-    ∙ ap (λ c. (attributes_read (rows k) (in_force k as') v n.local_name p >>= (λ ts. content_read c (element_at n as' space xs p) k ts v d)) >>= (λ us. node_read m (xread m) (record_plan k) n.local_name v d (suc p + places_of xs) us)) (sym plain)))
+    ∙ ap (λ c. (attributes_read (rows k) (in_force k as') v n.local_name p >>= (λ ts. content_fields c (element_at n as' space xs p) k ts v d)) >>= (λ us. node_read m (xread m) (record_plan k) n.local_name v d (suc p + places_of xs) us)) (sym plain)))
 
 deep_more : {F : Type 0} (b : Bool) (g : F) (a c : Result Trees F) (f : Trees → Result Trees F) → c ≡ (a >>= f) → (if b then Err g else c) ≡ ((if b then Err g else a) >>= f)
 deep_more true g a c f h = refl

@@ -21,7 +21,7 @@ use Rattle.cdx_schema.specs.Results.{◌>>=◌}
 use Rattle.cdx_models.specs.declared.errors.Step.{Step}
 use Rattle.cdx_schema.specs.Faults.{JsonFault, to_member, under}
 use Rattle.cdx_schema.specs.Depth.{Depth, inside, name_too_deep}
-use Rattle.cdx_schema.specs.JsonReading.{Found, nothing, found, Object, jread, items_read, seen, as_found, rows_read, row_read, member_read, named_read, member_name, first_or_old, found_read, when_nothing, own_read, record_read, identifier_read, id_read, name_read, no_own, is_lone_license, choice_read, signature_read, chain_read, format_read}
+use Rattle.cdx_schema.specs.JsonReading.{Found, nothing, found, Object, jread, items_read, seen, as_found, rows_read, row_read, member_read, named_read, member_name, first_or_old, found_read, when_nothing, own_read, record_denoted, identifier_read, id_read, name_read, no_own, is_lone_license, choice_read, signature_read, chain_read, format_read}
 use Rattle.cdx_schema.specs.JsonSpelling.{jspell, items_spelled, members_spelled, own_members, is_written, is_spelled, set_member, heading}
 use Rattle.cdx_schema.specs.RowLaws.{old_names}
 use Rattle.cdx_schema.specs.Membership.{Never, IsRecordOf, IsBooleanOf, IsListKind}
@@ -480,7 +480,7 @@ abbrev pub spelled : Name → Trees → SpecVersion → Members
 spelled n ts w = members_spelled ts w (rows n) (heading n)
 
 pub record_gets : (n : Name) (w : SpecVersion) (d : Depth) (ts : Trees) → AreOwn ts (rows n) → AreBack w d ts (rows n) → OwnBack (own_read (seen (spelled n ts w)) w d) w ts (rows n)
-    → record_read n (seen (spelled n ts w)) w d ≡ Ok (fields n ts)
+    → record_denoted n (seen (spelled n ts w)) w d ≡ Ok (fields n ts)
 record_gets n w d ts owns back ob =
     ap (λ x. x >>= (λ us. Ok (fields n us))) (rows_of (seen (spelled n ts w)) (own_read (seen (spelled n ts w)) w d) w d ts (rows n)
     (gets (own_read (seen (spelled n ts w)) w d) w d ts (rows n) (heading n) (spelled n ts w) (distinct_names n) (heading_clear n) owns back ob refl))
@@ -727,7 +727,7 @@ mutual
 
 -- what a record that is held in a place gives
 pub plain_back : (w : SpecVersion) (d : Depth) (n : Name) (ts : Trees) → FieldsHeld w (inside n d) ts (rows n) → AreOwn ts (rows n) → AreBack w (inside n d) ts (rows n)
-    → record_read n (seen (spelled n ts w)) w (inside n d) ≡ Ok (fields n ts)
+    → record_denoted n (seen (spelled n ts w)) w (inside n d) ≡ Ok (fields n ts)
 plain_back w d n ts h o b = record_gets n w (inside n d) ts o b (own_back n w (inside n d) (inside n d) ts h o)
 
 pub record_back : (w : SpecVersion) (d : Depth) (n : Name) (ts : Trees) → name_too_deep n d ≡ false
@@ -844,7 +844,7 @@ pub bill_back : (w : SpecVersion) (d : Depth) (ts : Trees) → FieldsHeld w d ts
 unfolding jspell jread rows
 bill_back w d ts h o b = (
   refl,
-  ap (λ f. under (to_member (codes "bomFormat")) (format_read f w d) >>= (λ t. record_read bill (seen (spelled bill ts w)) w d))
+  ap (λ f. under (to_member (codes "bomFormat")) (format_read f w d) >>= (λ t. record_denoted bill (seen (spelled bill ts w)) w d))
       (seen_is (spelled bill ts w) (codes "bomFormat") ∙ ap as_seen (other (codes "bomFormat") ts w (rows bill) (heading bill) o refl))
       ∙ plain_back w d bill ts h o b,
 )

@@ -13,7 +13,7 @@ use Rattle.cdx_models.specs.declared.errors.XmlReadError.{XmlReadError}
 use Rattle.cdx_schema.specs.Faults.{unexpected, namespaced}
 use Rattle.cdx_schema.specs.Depth.{Depth, top}
 use Rattle.cdx_schema.specs.XmlTexts.{number_of}
-use Rattle.cdx_schema.specs.XmlReading.{ElementReading, Child, Plan, find_child, stored, is_second, child_read, node_read, after_text, text_in, number_alone, number_in, record_read, in_namespace, xread, nodes_read, xml_denotes}
+use Rattle.cdx_schema.specs.XmlReading.{ElementReading, Child, Plan, find_child, stored, is_second, child_read_into, node_read, after_text, text_in, number_alone, number_in, record_denoted, in_namespace, xread, nodes_read, xml_denotes}
 use Rattle.cdx_schema.specs.Membership.{Never}
 use Rattle.cdx_schema.specs.Locality.{fault_place, balanced_root, IsLocal, StandsInside}
 use Rattle.cdx_schema.proofs.FaultPlaces.{ok_err, err_same, bind_err, err_bind, no_bill, no_bills, elem, kind_out, record_out, after_place, text_within, number_within, NoBillIn, find_no_bill, nodes_within, xread_within, denoted_within}
@@ -151,7 +151,7 @@ if_agree true e r r' f h g = ap (λ z. Err z) (err_same h)
 if_agree false e r r' f h g = g h
 
 child_agree : (o : Option Child) (r : Rule) (read read' : ElementReading) (around : List ℕ) (v : SpecVersion) (d : Depth) (p : ℕ) (ts : Trees) (f : XmlReadError) → NoBillIn o → ((k : Kind) → no_bill k ≡ true → read v k p d ≡ Err f → read' v k p d ≡ Err f)
-    → child_read o r read around v d p ts ≡ Err f → child_read o r read' around v d p ts ≡ Err f
+    → child_read_into o r read around v d p ts ≡ Err f → child_read_into o r read' around v d p ts ≡ Err f
 child_agree None r read read' around v d p ts f b g h = h
 child_agree (Some c) r read read' around v d p ts f b g h =
     if_agree (is_second c.place (field c.field ts)) (unexpected p around kinds.StartElement) (read v c.kind p d >>= (λ t. Ok (stored c.place c.field t ts))) (read' v c.kind p d >>= (λ t. Ok (stored c.place c.field t ts))) f h
@@ -162,7 +162,7 @@ node_agree : (x y : Node) (q : ℕ) (read read' : ElementReading) (plan : Plan) 
 node_agree (characters t) (characters u) q read read' plan around v d p ts f b a g h = h
 node_agree (cdata t) (cdata u) q read read' plan around v d p ts f b a g h = h
 node_agree (element n as' c xs) (element m bs e ys) q read read' plan around v d p ts f b a g h =
-    subst (λ (i : OwnedName). child_read (find_child v i.local_name plan.children) plan.rule read' around v d p ts ≡ Err f) a.0
+    subst (λ (i : OwnedName). child_read_into (find_child v i.local_name plan.children) plan.rule read' around v d p ts ≡ Err f) a.0
     (child_agree (find_child v n.local_name plan.children) plan.rule read read' around v d p ts f (find_no_bill v n.local_name plan.children b) g h)
 node_agree (characters t) (cdata u) q read read' plan around v d p ts f b a g h = absurd (true≢false a)
 node_agree (characters t) (element m bs e ys) q read read' plan around v d p ts f b a g h = absurd (true≢false a)
@@ -236,7 +236,7 @@ root_agree : (n : OwnedName) (as' : List OwnedAttribute) (c : Namespace) (xs ys 
 unfolding xread
 root_agree n as' c xs ys p v f l a i h =
     root_out (bytes_eq n.local_name (codes "bom")) (in_namespace c.default (namespace v)) (namespaced (namespace v) c.default) (unexpected 1 (codes "bom") kinds.StartElement)
-    (record_read (elem n.local_name as' c.default 1 xs (λ plan w e' ts. nodes_read xs plan n.local_name w e' 2 ts)) bill v top) (record_read (elem n.local_name as' c.default 1 ys (λ plan w e' ts. nodes_read ys plan n.local_name w e' 2 ts)) bill v top) f h
+    (record_denoted (elem n.local_name as' c.default 1 xs (λ plan w e' ts. nodes_read xs plan n.local_name w e' 2 ts)) bill v top) (record_denoted (elem n.local_name as' c.default 1 ys (λ plan w e' ts. nodes_read ys plan n.local_name w e' 2 ts)) bill v top) f h
     (record_out true Never f n.local_name as' c.default 1 xs ys (λ plan w e' ts. nodes_read xs plan n.local_name w e' 2 ts) (λ plan w e' ts. nodes_read ys plan n.local_name w e' 2 ts) (
       λ plan w e' ts g z. nodes_agree xs ys plan n.local_name p w e' 2 ts f g l a z,
       λ o g z. text_agree o xs ys n.local_name p 2 f g a l z,

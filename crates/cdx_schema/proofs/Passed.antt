@@ -15,7 +15,7 @@ use Rattle.cdx_schema.specs.Table.{rows}
 use Rattle.cdx_schema.specs.Results.{◌>>=◌}
 use Rattle.cdx_schema.specs.Faults.{JsonFault, under, to_member}
 use Rattle.cdx_schema.specs.Depth.{Depth, inside}
-use Rattle.cdx_schema.specs.JsonReading.{jread, rows_read, row_read, member_read, named_read, member_name, first_or_old, found_read, Object, seen, own_read, record_read, under_name, no_own, id_read, name_read, format_read, object_read, at_depth, Found, nothing, a_null, found}
+use Rattle.cdx_schema.specs.JsonReading.{jread, rows_read, row_read, member_read, named_read, member_name, first_or_old, found_read, Object, seen, own_read, record_denoted, under_name, no_own, id_read, name_read, format_read, object_read, at_depth, Found, nothing, a_null, found}
 use Rattle.cdx_schema.specs.RowLaws.{is_among, old_names, row_names, plain_names, merged_names, known_names, IsUnknown, AreAlikeBut, PassesMembers, PassesPut}
 use Rattle.cdx_schema.proofs.JsonBack.{seen_is, as_seen, or_false, other_name}
 
@@ -100,14 +100,14 @@ rows_alike q o p (r ∷ rs) v d alike h =
     (row_alike q o p (own_read o v d) (own_read p v d) r v d (merged_names v r.kind) alike (own_alike q o p v d alike r.kind) e.0) (rows_alike q o p rs v d alike e.1)
 
 -- A record is read alike from objects that are alike outside a name of no row.
-record_alike : (q : List ℕ) (o p : Object) (n : Name) (v : SpecVersion) (d : Depth) → AlikeBut q o p → is_among q (known_names v (rows n)) ≡ false → record_read n o v d ≡ record_read n p v d
+record_alike : (q : List ℕ) (o p : Object) (n : Name) (v : SpecVersion) (d : Depth) → AlikeBut q o p → is_among q (known_names v (rows n)) ≡ false → record_denoted n o v d ≡ record_denoted n p v d
 record_alike q o p n v d alike h = ap (under_name n) (rows_alike q o p (rows n) v d alike h)
 
 kind_alike : (q : List ℕ) (ms ns : Members) (o p : Object) (k : Kind) (v : SpecVersion) (d : Depth) → IsUnknown q k v → AlikeBut q o p → object_read ms o v k d ≡ object_read ns p v k d
 kind_alike q ms ns o p (a_record n) v d h alike = record_alike q o p n v (inside n d) alike h
 kind_alike q ms ns o p a_bill v d h alike =
     let e : (bytes_eq q (codes "bomFormat") ≡ false) × (is_among q (known_names v (rows bill)) ≡ false) = first_none q (codes "bomFormat") (known_names v (rows bill)) h in
-    ap (λ f. under (to_member (codes "bomFormat")) (format_read f v d) >>= λ t. record_read bill o v d) (alike (codes "bomFormat") e.0)
+    ap (λ f. under (to_member (codes "bomFormat")) (format_read f v d) >>= λ t. record_denoted bill o v d) (alike (codes "bomFormat") e.0)
     ∙ ap (λ r. under (to_member (codes "bomFormat")) (format_read (p (codes "bomFormat")) v d) >>= λ t. r) (record_alike q o p bill v d alike e.1)
 kind_alike q ms ns o p a_tools V1_3 d h alike = refl
 kind_alike q ms ns o p a_tools V1_4 d h alike = refl

@@ -18,7 +18,7 @@ use Rattle.cdx_models.specs.declared.errors.Step.{Step}
 use Rattle.cdx_schema.specs.Faults.{JsonFault, to_member, to_item, under, here, wrong_kind, out_of_range, bad_spec_version, too_deep}
 use Rattle.cdx_schema.specs.Depth.{Depth, top, inside, name_too_deep, is_too_deep}
 use Rattle.cdx_models.specs.Entries.{is_flow, entry_of}
-use Rattle.cdx_schema.specs.JsonReading.{ValueReading, Found, nothing, a_null, found, Object, jread, items_read, seen, as_found, rows_read, row_read, member_read, member_name, found_read, when_nothing, when_null, own_read, no_own, record_read, under_name, id_read, name_read, is_lone_license, choice_read, license_read, signature_read, chain_read, tools_read, entry_read, bill_read, format_read, object_read, text_read, boolean_read, integer_read, number_read, version_read, item_kind, array_read, json_denotes, first_float}
+use Rattle.cdx_schema.specs.JsonReading.{ValueReading, Found, nothing, a_null, found, Object, jread, items_read, seen, as_found, rows_read, row_read, member_read, member_name, found_read, when_nothing, when_null, own_read, no_own, record_denoted, under_name, id_read, name_read, is_lone_license, choice_read, license_read, signature_read, chain_read, tools_read, entry_read, bill_read, format_read, object_read, text_read, boolean_read, integer_read, number_read, version_read, item_kind, array_read, json_denotes, first_float}
 use Rattle.cdx_schema.specs.Keeping.{is_shallow, are_shallow}
 use Rattle.cdx_schema.specs.Membership.{IsOfAll, AreOfAll, AreFieldsAll, IsTextOf, may_lack}
 use Rattle.cdx_schema.specs.Texts.{AreTexts, AreTextsIn, AreTextsOf}
@@ -204,7 +204,7 @@ own_good Q o v d g a_license_identifier t c e = identifier_is Q d t (id_good Q (
 own_good Q o v d g (a_record classification) t c e = class_is Q d t (named_good Q classification (rows_read o no_own (rows classification) v d) d t e (λ ts h. rows_good Q o no_own (rows classification) v d ts g (no_own_good Q d) (reads_rows classification) h))
 own_good Q o v d g _ t c e = absurd (true≢false (sym c))
 
-record_good : (Q : List ℕ → Type 0) (n : Name) (o : Object) (v : SpecVersion) (d : Depth) (t : Tree) → GoodObject Q o → record_read n o v d ≡ Ok t → IsRecordRead Q n d t
+record_good : (Q : List ℕ → Type 0) (n : Name) (o : Object) (v : SpecVersion) (d : Depth) (t : Tree) → GoodObject Q o → record_denoted n o v d ≡ Ok t → IsRecordRead Q n d t
 record_good Q n o v d t g e = named_good Q n (rows_read o (own_read o v d) (rows n) v d) d t e (λ ts h. rows_good Q o (own_read o v d) (rows n) v d ts g (own_good Q o v d g) (reads_rows n) h)
 
 -- ---- objects
@@ -248,18 +248,18 @@ flow_entry Q ts d h = by (is_flow service_data ts) refl
     by true f = ((inr (refl, f), h.0), h.1)
     by false f = (class_entry Q (field 2 ts) (third_of Q ts h.0), field_shallow ts d h.1)
 
-class_entry_good : (Q : List ℕ → Type 0) (o : Object) (v : SpecVersion) (d : Depth) (t : Tree) → GoodObject Q o → record_read classification o v d ≡ Ok t → IsReadOf Q an_entry d t
+class_entry_good : (Q : List ℕ → Type 0) (o : Object) (v : SpecVersion) (d : Depth) (t : Tree) → GoodObject Q o → record_denoted classification o v d ≡ Ok t → IsReadOf Q an_entry d t
 class_entry_good Q o v d t g e = flat_is Q an_entry classification d t (record_good Q classification o v d t g e) refl (λ ts h. (inl refl, h))
 
 entry_good : (Q : List ℕ → Type 0) (v : SpecVersion) (o : Object) (d : Depth) (t : Tree) → GoodObject Q o → entry_read v o d ≡ Ok t → IsReadOf Q an_entry d t
 entry_good Q V1_3 o d t g e = class_entry_good Q o V1_3 d t g e
 entry_good Q V1_4 o d t g e = class_entry_good Q o V1_4 d t g e
 entry_good Q V1_5 o d t g e =
-    let x : (s : Tree) × (record_read service_data o V1_5 d ≡ Ok s) × (Ok (entry_of s) ≡ Ok t) = bind_ok (record_read service_data o V1_5 d) (λ s. Ok (entry_of s)) t e in
+    let x : (s : Tree) × (record_denoted service_data o V1_5 d ≡ Ok s) × (Ok (entry_of s) ≡ Ok t) = bind_ok (record_denoted service_data o V1_5 d) (λ s. Ok (entry_of s)) t e in
     let p : IsRecordRead Q service_data d x.0 = record_good Q service_data o V1_5 d x.0 g x.1 in
     subst (λ (y : Tree). IsReadOf Q an_entry d y) (ap entry_of (sym p.1) ∙ ok_same x.2) (flow_entry Q p.0 d p.2)
 
-signer_good : (Q : List ℕ → Type 0) (o : Object) (v : SpecVersion) (d : Depth) (t : Tree) → GoodObject Q o → record_read signer o v d ≡ Ok t → IsReadOf Q a_signature d t
+signer_good : (Q : List ℕ → Type 0) (o : Object) (v : SpecVersion) (d : Depth) (t : Tree) → GoodObject Q o → record_denoted signer o v d ≡ Ok t → IsReadOf Q a_signature d t
 signer_good Q o v d t g e = flat_is Q a_signature signer d t (record_good Q signer o v d t g e) refl (λ ts h. (inr (inr refl), h))
 
 pub chain_is : (Q : List ℕ → Type 0) (d : Depth) (s : Tree) → IsReadOf Q (a_list chain_list) d s → IsReadOf Q a_signature d (fields chain (one s))
@@ -286,7 +286,7 @@ signature_good Q (found read) o v d t g h e =
 
 bill_good : (Q : List ℕ → Type 0) (o : Object) (v : SpecVersion) (d : Depth) (t : Tree) → GoodObject Q o → bill_read o v d ≡ Ok t → IsReadOf Q a_bill d t
 bill_good Q o v d t g e =
-    let x : (s : Tree) × (under (to_member (codes "bomFormat")) (format_read (o (codes "bomFormat")) v d) ≡ Ok s) × (record_read bill o v d ≡ Ok t) = bind_ok (under (to_member (codes "bomFormat")) (format_read (o (codes "bomFormat")) v d)) (λ s. record_read bill o v d) t e in
+    let x : (s : Tree) × (under (to_member (codes "bomFormat")) (format_read (o (codes "bomFormat")) v d) ≡ Ok s) × (record_denoted bill o v d ≡ Ok t) = bind_ok (under (to_member (codes "bomFormat")) (format_read (o (codes "bomFormat")) v d)) (λ s. record_denoted bill o v d) t e in
     flat_is Q a_bill bill d t (record_good Q bill o v d t g x.2) refl (λ ts h. (refl, h))
 
 object_good : (Q : List ℕ → Type 0) (ms : Members) (o : Object) (v : SpecVersion) (k : Kind) (d : Depth) (t : Tree) → GoodObject Q o → is_too_deep k d ≡ false → object_read ms o v k d ≡ Ok t → IsReadOf Q k d t

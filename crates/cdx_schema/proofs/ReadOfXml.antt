@@ -18,8 +18,8 @@ use Rattle.cdx_schema.specs.Faults.{unexpected, lacking, namespaced, nested}
 use Rattle.cdx_schema.specs.Depth.{Depth, top, inside, name_too_deep}
 use Rattle.cdx_models.specs.Entries.{entry_of}
 use Rattle.cdx_schema.specs.JsonReading.{is_required}
-use Rattle.cdx_schema.specs.XmlTexts.{boolean_of, number_of, boolean_tree, number_tree, of_text, below_2_32, digits_of}
-use Rattle.cdx_schema.specs.XmlReading.{ElementReading, Place, last, once, all, Child, Plan, row_children, children_from, record_plan, plan_of_list, tools_plan, data_plan, signature_plan, no_plan, find_child, appended, stored, stray, unknown, is_second, child_read, node_read, find_attribute, parsed, attribute_read, attribute_or_read, row_attribute, attributes_read, in_force, after_text, text_in, simple_text, exact_text, Content, no_content, any_text, one_text_alone, content_from, name_owed, lacks, lacking_row, filled, ended, Element, end_of, text_read, boolean_read, number_alone, number_in, list_of, list_read, content_read, record_so_far, record_read, reference_read, choice_read, identifier_read, tools_object_of, tools_of, data_of, signature_of, tools_read, data_read, signature_read, in_namespace, bill_read, kind_read, xread, nodes_read, xml_denotes}
+use Rattle.cdx_schema.specs.XmlTexts.{boolean_of, number_of, boolean_tree, number_tree, tree_of_text, below_2_32, digits_of}
+use Rattle.cdx_schema.specs.XmlReading.{ElementReading, Place, last, once, all, Child, Plan, row_children, children_from, record_plan, plan_of_list, tools_plan, data_plan, signature_plan, no_plan, find_child, appended, stored, stray, unknown, is_second, child_read_into, node_read, find_attribute, parsed, attribute_read, attribute_or_read, row_attribute, attributes_read, in_force, after_text, text_in, simple_text, exact_text, Content, no_content, any_text, one_text_alone, content_from, name_owed, lacks, lacking_row, filled, ended, Element, end_of, text_read, boolean_read, number_alone, number_in, list_of, list_read, content_fields, record_so_far, record_denoted, reference_read, choice_read, identifier_read, tools_object_of, tools_of, data_of, signature_of, tools_read, data_read, signature_read, in_namespace, bill_read, kind_read, xread, nodes_read, xml_denotes}
 use Rattle.cdx_schema.specs.Keeping.{is_shallow, are_shallow}
 use Rattle.cdx_schema.specs.Membership.{Never, IsOfAll, AreOfAll, IsListKind, may_lack}
 use Rattle.cdx_schema.specs.Texts.{AttributeTexts, NodeTexts, NodesTexts}
@@ -179,7 +179,7 @@ find_good Q v s (c ∷ cs) ks h = by (bytes_eq s c.name && knows c.since v) (fin
     by false g = g
 
 child_holds : (Q : List ℕ → Type 0) (o : Option Child) (r : Rule) (read : ElementReading) (around : List ℕ) (v : SpecVersion) (d : Depth) (p : ℕ) (ts us : Trees) (ks : List Kind) (bs : List Bool) → GoodSome Q o ks → Good Q read → Holds Q ts ks bs d
-    → child_read o r read around v d p ts ≡ Ok us → Holds Q us ks bs d
+    → child_read_into o r read around v d p ts ≡ Ok us → Holds Q us ks bs d
 child_holds Q None r read around v d p ts us ks bs g f h e = subst (λ (x : Trees). Holds Q x ks bs d) (unknown_holds r around p ts us e) h
 child_holds Q (Some c) r read around v d p ts us ks bs g f h e =
     let a : (is_second c.place (field c.field ts) ≡ false) × ((read v c.kind p d >>= (λ t. Ok (stored c.place c.field t ts))) ≡ Ok us) =
@@ -283,7 +283,7 @@ is_leaf a_boolean = true
 is_leaf a_number = true
 is_leaf _ = false
 
-leaf_good : (Q : List ℕ → Type 0) (k : Kind) (s : List ℕ) (d : Depth) (t : Tree) → is_leaf k ≡ true → Q s → of_text k s ≡ Some t → IsReadOf Q k d t
+leaf_good : (Q : List ℕ → Type 0) (k : Kind) (s : List ℕ) (d : Depth) (t : Tree) → is_leaf k ≡ true → Q s → tree_of_text k s ≡ Some t → IsReadOf Q k d t
 unfolding is_shallow
 leaf_good Q a_text s d t l u h = subst (λ (x : Tree). IsReadOf Q a_text d x) (some_same h) (u, refl)
 leaf_good Q a_boolean s d t l u h = boolean_leaf Q (boolean_of s) d t h
@@ -371,7 +371,7 @@ unfolding TextSome
 attribute_good Q None q r v around p d t u l e =
     let a : (is_required r.need v ≡ false) × (Ok absent ≡ Ok t) = if_was (is_required r.need v) (lacking p around q) (Ok absent) t e in
     absent_attributed Q r.kind d (is_required r.need v) t a.0 (ok_same a.1)
-attribute_good Q (Some s) q r v around p d t u l e = read_attributed Q r.kind d (is_required r.need v) t (leaf_good Q r.kind s d t l u (parsed_was (of_text r.kind s) p q s r.kind t e))
+attribute_good Q (Some s) q r v around p d t u l e = read_attributed Q r.kind d (is_required r.need v) t (leaf_good Q r.kind s d t l u (parsed_was (tree_of_text r.kind s) p q s r.kind t e))
 
 number_default : (Q : List ℕ → Type 0) (k : Kind) (m : ℕ) (d : Depth) (t : Tree) → nat_lt m (2 ^ 32) ≡ true → is_number_kind k ≡ true → number m ≡ t → IsReadOf Q k d t
 unfolding is_shallow
@@ -385,7 +385,7 @@ number_kind_leaf _ h = absurd (true≢false (sym h))
 attribute_or_good : (Q : List ℕ → Type 0) (o : Option (List ℕ)) (q : List ℕ) (m : ℕ) (r : Row) (p : ℕ) (d : Depth) (t : Tree) → TextSome Q o → nat_lt m (2 ^ 32) ≡ true → is_number_kind r.kind ≡ true → attribute_or_read o q m r p ≡ Ok t → IsReadOf Q r.kind d t
 unfolding TextSome
 attribute_or_good Q None q m r p d t u lt l e = number_default Q r.kind m d t lt l (ok_same e)
-attribute_or_good Q (Some s) q m r p d t u lt l e = leaf_good Q r.kind s d t (number_kind_leaf r.kind l) u (parsed_was (of_text r.kind s) p q s r.kind t e)
+attribute_or_good Q (Some s) q m r p d t u lt l e = leaf_good Q r.kind s d t (number_kind_leaf r.kind l) u (parsed_was (tree_of_text r.kind s) p q s r.kind t e)
 
 version_good : (Q : List ℕ → Type 0) (k : Kind) (v : SpecVersion) (d : Depth) (t : Tree) → is_version_kind k ≡ true → text (label v) ≡ t → IsReadOf Q k d t
 unfolding is_shallow
@@ -613,7 +613,7 @@ text_set Q i s ts us ks bs d h u holds e = subst (λ (x : Trees). Holds Q x ks (
     (with_slot Q i (text s) ts ks d holds.0 (slot_of Q (kind_at i ks) d (text s) (text_kind_read Q (kind_at i ks) s d h u)), now_present i (text s) ts bs refl holds.1)
 
 content_good : (Q : List ℕ → Type 0) (c : Content) (e : Element) (n : Name) (ts us : Trees) (v : SpecVersion) (bs : List Bool) (d : Depth) → GoodElement Q e → is_text_at c (row_kinds (rows n)) ≡ true → Holds Q ts (row_kinds (rows n)) bs d
-    → content_read c e n ts v d ≡ Ok us → Holds Q us (row_kinds (rows n)) (at_end c bs) d
+    → content_fields c e n ts v d ≡ Ok us → Holds Q us (row_kinds (rows n)) (at_end c bs) d
 content_good Q no_content e n ts us v bs d g h holds o = g.0 (record_plan n) (row_kinds (rows n)) bs v d ts us (plan_good Q n) holds o
 content_good Q (any_text i) e n ts us v bs d g h holds o =
     let x : (s : List ℕ) × (text_read e ≡ Ok s) × (Ok (with_field i (text s) ts) ≡ Ok us) = bind_ok (text_read e) (λ s. Ok (with_field i (text s) ts)) us o in
@@ -622,11 +622,11 @@ content_good Q (one_text_alone i) e n ts us v bs d g h holds o =
     let x : (s : List ℕ) × (exact_text e.nodes e.name (suc e.start) ≡ Ok s) × (Ok (with_field i (text s) ts) ≡ Ok us) = bind_ok (exact_text e.nodes e.name (suc e.start)) (λ s. Ok (with_field i (text s) ts)) us o in
     text_set Q i x.0 ts us (row_kinds (rows n)) bs d h (exact_good Q e.nodes e.name (suc e.start) x.0 g.2 x.1) holds (ok_same x.2)
 
-record_good : (Q : List ℕ → Type 0) (e : Element) (n : Name) (v : SpecVersion) (d : Depth) (t : Tree) → GoodElement Q e → record_read e n v d ≡ Ok t → IsRecordRead Q n (inside n d) t
+record_good : (Q : List ℕ → Type 0) (e : Element) (n : Name) (v : SpecVersion) (d : Depth) (t : Tree) → GoodElement Q e → record_denoted e n v d ≡ Ok t → IsRecordRead Q n (inside n d) t
 record_good Q e n v d t g o =
     let x : (us : Trees) × (record_so_far e n v (inside n d) ≡ Ok us) × ((ended (rows n) us v e.name (end_of e) >>= (λ zs. Ok (fields n zs))) ≡ Ok t) = bind_ok (record_so_far e n v (inside n d)) (λ us. ended (rows n) us v e.name (end_of e) >>= (λ zs. Ok (fields n zs))) t o in
     let y : (zs : Trees) × (ended (rows n) x.0 v e.name (end_of e) ≡ Ok zs) × (Ok (fields n zs) ≡ Ok t) = bind_ok (ended (rows n) x.0 v e.name (end_of e)) (λ zs. Ok (fields n zs)) t x.2 in
-    let z : (ts : Trees) × (attributes_read (rows n) (in_force n e.attributes) v e.name e.start ≡ Ok ts) × (content_read (content_from 0 (rows n)) e n ts v (inside n d) ≡ Ok x.0) = bind_ok (attributes_read (rows n) (in_force n e.attributes) v e.name e.start) (λ ts. content_read (content_from 0 (rows n)) e n ts v (inside n d)) x.0 x.1 in
+    let z : (ts : Trees) × (attributes_read (rows n) (in_force n e.attributes) v e.name e.start ≡ Ok ts) × (content_fields (content_from 0 (rows n)) e n ts v (inside n d) ≡ Ok x.0) = bind_ok (attributes_read (rows n) (in_force n e.attributes) v e.name e.start) (λ ts. content_fields (content_from 0 (rows n)) e n ts v (inside n d)) x.0 x.1 in
     let a : Holds Q z.0 (row_kinds (rows n)) (flags (rows n) v) (inside n d) = attributes_hold Q (rows n) (in_force n e.attributes) v e.name e.start (inside n d) z.0 (force_texts Q n e.attributes g.1) (reads_rows n) z.1 in
     let b : Holds Q x.0 (row_kinds (rows n)) (at_end (content_from 0 (rows n)) (flags (rows n) v)) (inside n d) = content_good Q (content_from 0 (rows n)) e n z.0 x.0 v (flags (rows n) v) (inside n d) g (texts_at n) a z.2 in
     (y.0, sym (ok_same y.2), ended_good Q (rows n) x.0 v e.name (end_of e) (inside n d) y.0 (reads_rows n) (subst (λ (bs : List Bool). Holds Q x.0 (row_kinds (rows n)) bs (inside n d)) (flags_end n v) b) y.1)
@@ -676,16 +676,16 @@ either_was false true r s f t h = inr h
 either_was false false r s f t h = absurd (err_ok h)
 
 choice_good : (Q : List ℕ → Type 0) (e : Element) (v : SpecVersion) (d : Depth) (t : Tree) → GoodElement Q e → choice_read e v d ≡ Ok t → IsReadOf Q a_license_choice d t
-choice_good Q e v d t g o = by (either_was (bytes_eq e.name (codes "license")) (bytes_eq e.name (codes "expression")) (record_read e license v d) (record_read e expression v d) (lacking e.start e.name (codes "license or expression")) t o)
+choice_good Q e v d t g o = by (either_was (bytes_eq e.name (codes "license")) (bytes_eq e.name (codes "expression")) (record_denoted e license v d) (record_denoted e expression v d) (lacking e.start e.name (codes "license or expression")) t o)
   where
-    by : (record_read e license v d ≡ Ok t) ⊎ (record_read e expression v d ≡ Ok t) → IsReadOf Q a_license_choice d t
+    by : (record_denoted e license v d ≡ Ok t) ⊎ (record_denoted e expression v d ≡ Ok t) → IsReadOf Q a_license_choice d t
     by (inl h) = flat_is Q a_license_choice license d t (record_good Q e license v d t g h) refl (λ ts f. (inl refl, f))
     by (inr h) = flat_is Q a_license_choice expression d t (record_good Q e expression v d t g h) refl (λ ts f. (inr refl, f))
 
 identifier_good : (Q : List ℕ → Type 0) (e : Element) (v : SpecVersion) (d : Depth) (t : Tree) → GoodElement Q e → identifier_read e v d ≡ Ok t → IsReadOf Q a_license_identifier d t
-identifier_good Q e v d t g o = by (either_was (bytes_eq e.name (codes "id")) (bytes_eq e.name (codes "name")) (record_read e spdx_id v d) (record_read e license_name v d) (lacking e.start e.name (codes "id or name")) t o)
+identifier_good Q e v d t g o = by (either_was (bytes_eq e.name (codes "id")) (bytes_eq e.name (codes "name")) (record_denoted e spdx_id v d) (record_denoted e license_name v d) (lacking e.start e.name (codes "id or name")) t o)
   where
-    by : (record_read e spdx_id v d ≡ Ok t) ⊎ (record_read e license_name v d ≡ Ok t) → IsReadOf Q a_license_identifier d t
+    by : (record_denoted e spdx_id v d ≡ Ok t) ⊎ (record_denoted e license_name v d ≡ Ok t) → IsReadOf Q a_license_identifier d t
     by (inl h) = flat_is Q a_license_identifier spdx_id d t (record_good Q e spdx_id v d t g h) refl (λ ts f. (inl refl, f))
     by (inr h) = flat_is Q a_license_identifier license_name d t (record_good Q e license_name v d t g h) refl (λ ts f. (inr refl, f))
 
@@ -833,7 +833,7 @@ signature_good Q e v d t g o =
 bill_good : (Q : List ℕ → Type 0) (e : Element) (v : SpecVersion) (d : Depth) (t : Tree) → GoodElement Q e → bill_read e v d ≡ Ok t → IsReadOf Q a_bill d t
 bill_good Q e v d t g o = by (bytes_eq e.name (codes "bom")) (in_namespace e.namespace (namespace v)) o
   where
-    by : (b c : Bool) → (if b then (if c then record_read e bill v d else Err (namespaced (namespace v) e.namespace)) else Err (unexpected e.start (codes "bom") kinds.StartElement)) ≡ Ok t → IsReadOf Q a_bill d t
+    by : (b c : Bool) → (if b then (if c then record_denoted e bill v d else Err (namespaced (namespace v) e.namespace)) else Err (unexpected e.start (codes "bom") kinds.StartElement)) ≡ Ok t → IsReadOf Q a_bill d t
     by true true h = flat_is Q a_bill bill d t (record_good Q e bill v d t g h) refl (λ ts f. (refl, f))
     by true false h = absurd (err_ok h)
     by false c h = absurd (err_ok h)
@@ -862,9 +862,9 @@ number_in_good Q (node (characters s) xs) around p d t h = number_alone_good Q (
 number_in_good Q (node (cdata s) xs) around p d t h = number_alone_good Q (number_of (trim s)) s xs around p d t (number_below (trim s)) h
 number_in_good Q (node (element n as' default ys) xs) around p d t h = absurd (err_ok h)
 
-entry_element : (Q : List ℕ → Type 0) (e : Element) (v : SpecVersion) (d : Depth) (t : Tree) → GoodElement Q e → (record_read e service_data v d >>= (λ s. Ok (entry_of s))) ≡ Ok t → IsReadOf Q an_entry d t
+entry_element : (Q : List ℕ → Type 0) (e : Element) (v : SpecVersion) (d : Depth) (t : Tree) → GoodElement Q e → (record_denoted e service_data v d >>= (λ s. Ok (entry_of s))) ≡ Ok t → IsReadOf Q an_entry d t
 entry_element Q e v d t g o =
-    let x : (s : Tree) × (record_read e service_data v d ≡ Ok s) × (Ok (entry_of s) ≡ Ok t) = bind_ok (record_read e service_data v d) (λ s. Ok (entry_of s)) t o in
+    let x : (s : Tree) × (record_denoted e service_data v d ≡ Ok s) × (Ok (entry_of s) ≡ Ok t) = bind_ok (record_denoted e service_data v d) (λ s. Ok (entry_of s)) t o in
     let p : IsRecordRead Q service_data d x.0 = record_good Q e service_data v d x.0 g x.1 in
     subst (λ (y : Tree). IsReadOf Q an_entry d y) (ap entry_of (sym p.1) ∙ ok_same x.2) (flow_entry Q p.0 d p.2)
 
@@ -875,7 +875,7 @@ kind_good Q e v a_number d t g o = number_in_good Q e.nodes e.name (suc e.start)
 kind_good Q e v a_version d t g o = absurd (err_ok o)
 kind_good Q e v (a_list l) d t g o = list_good Q e l v d t g o
 kind_good Q e v (a_record n) d t g o =
-    let a : (name_too_deep n d ≡ false) × (record_read e n v d ≡ Ok t) = if_was (name_too_deep n d) (nested e.start) (record_read e n v d) t o in
+    let a : (name_too_deep n d ≡ false) × (record_denoted e n v d ≡ Ok t) = if_was (name_too_deep n d) (nested e.start) (record_denoted e n v d) t o in
     flat_is Q (a_record n) n d t (record_good Q e n v d t g a.1) a.0 (λ ts f. (refl, f))
 kind_good Q e v a_reference d t g o = reference_good Q e v d t g o
 kind_good Q e v a_license_choice d t g o = choice_good Q e v d t g o

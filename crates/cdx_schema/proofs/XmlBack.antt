@@ -12,7 +12,7 @@ use Rattle.cdx_schema.specs.Table.{rows, rule}
 use Rattle.cdx_schema.specs.Results.{◌>>=◌}
 use Rattle.cdx_schema.specs.Depth.{Depth, inside, name_too_deep}
 use Rattle.cdx_schema.specs.Held.{held_kind}
-use Rattle.cdx_schema.specs.XmlReading.{xread, nodes_read, node_read, Plan, Child, Place, last, once, all, find_child, row_children, children_from, stored, appended, is_second, plan_of_list, list_of, lacks, name_owed, filled, ended, attributes_read, in_force, content_from, no_content, content_read, Element, end_of}
+use Rattle.cdx_schema.specs.XmlReading.{xread, nodes_read, node_read, Plan, Child, Place, last, once, all, find_child, row_children, children_from, stored, appended, is_second, plan_of_list, list_of, lacks, name_owed, filled, ended, attributes_read, in_force, content_from, no_content, content_fields, Element, end_of}
 use Rattle.cdx_schema.specs.XmlSpelling.{nodes_of, fields_nodes, row_nodes, wrapped, lone, attributes_of}
 use Rattle.cdx_schema.proofs.JsonBack.{is_in, distinct, same_itself, or_false, if_true, if_false, not_in_append, apart_first, is_in_first}
 use Rattle.cdx_schema.proofs.Groups.{nodes_in_groups, count}
@@ -271,8 +271,8 @@ pub record_xread : (w : SpecVersion) (d : Depth) (n : Name) (ts cs us vs : Trees
 unfolding xread nodes_of
 record_xread w d n ts cs us vs deep plain names' atts reads ends tag p =
     if_false (name_too_deep n d) _ _ deep
-    ∙ (ap (λ x. (x >>= (λ xs. content_read (content_from 0 (rows n)) E n xs w (inside n d))) >>= (λ ys. ended (rows n) ys w tag (end_of E) >>= (λ zs. Ok (fields n zs)))) (atts tag p)
-    ∙ (ap (λ c. content_read c E n cs w (inside n d) >>= (λ ys. ended (rows n) ys w tag (end_of E) >>= (λ zs. Ok (fields n zs)))) plain
+    ∙ (ap (λ x. (x >>= (λ xs. content_fields (content_from 0 (rows n)) E n xs w (inside n d))) >>= (λ ys. ended (rows n) ys w tag (end_of E) >>= (λ zs. Ok (fields n zs)))) (atts tag p)
+    ∙ (ap (λ c. content_fields c E n cs w (inside n d) >>= (λ ys. ended (rows n) ys w tag (end_of E) >>= (λ zs. Ok (fields n zs)))) plain
     ∙ (ap (λ x. x >>= (λ ys. ended (rows n) ys w tag (end_of E) >>= (λ zs. Ok (fields n zs)))) (rows_read w (inside n d) ts (rows n) cs us [] (rule n) tag none (suc p) refl names' reads)
     ∙ ap (λ x. x >>= (λ zs. Ok (fields n zs))) (ended_is w us (rows n) vs tag (end_of E) ends))))
   where

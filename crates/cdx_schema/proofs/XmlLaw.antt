@@ -15,7 +15,7 @@ use Rattle.cdx_schema.specs.Faults.{lacking}
 use Rattle.cdx_schema.specs.Depth.{Depth, inside, name_too_deep}
 use Rattle.cdx_schema.specs.Held.{held_kind}
 use Rattle.cdx_models.specs.Entries.{is_flow}
-use Rattle.cdx_schema.specs.XmlTexts.{of_text, text_of, number_of, number_tree}
+use Rattle.cdx_schema.specs.XmlTexts.{tree_of_text, text_of, number_of, number_tree}
 use Rattle.cdx_schema.specs.XmlReading.{xread, nodes_read, Plan, Child, Place, last, once, all, stored, is_second, row_children, find_child, find_attribute, attributes_read, attribute_read, attribute_or_read, parsed, row_attribute, filled, lacks, name_owed, ended, in_force, content_from, no_content, plan_of_list, tools_plan, tools_of, signature_plan, signature_of, data_plan, data_of, Element}
 use Rattle.cdx_schema.specs.XmlSpelling.{nodes_of, fields_nodes, row_nodes, wrapped, attributes_in, row_attributes, attribute_of, tag_of, plain_element, attributes_of, lone, items_nodes, each_under, as_flows, any_flow, flow_of, name_in, plain_name}
 use Rattle.cdx_schema.specs.Trips.{is_hollow, is_passed_over, field_after, none_is_absent}
@@ -116,11 +116,11 @@ first_fields w (more t ts) (r ∷ rs) = more (first_field w r t) (first_fields w
 
 -- An attribute is its tree's text, or it isn't there and needn't be.
 abbrev pub IsAttribute : SpecVersion → Row → Tree → Type 0
-IsAttribute w r t = ((t ≡ absent) × ((knows r.since w ≡ false) ⊎ (is_required r.need w ≡ false))) ⊎ ((knows r.since w ≡ true) × (is_absent t ≡ false) × (of_text r.kind (text_of t) ≡ Some t))
+IsAttribute w r t = ((t ≡ absent) × ((knows r.since w ≡ false) ⊎ (is_required r.need w ≡ false))) ⊎ ((knows r.since w ≡ true) × (is_absent t ≡ false) × (tree_of_text r.kind (text_of t) ≡ Some t))
 
 abbrev pub AttributeHeld : SpecVersion → Row → Tree → Spelled → Type 0
 AttributeHeld w r t (attribute n) = IsAttribute w r t
-AttributeHeld w r t (attribute_or n m) = (knows r.since w ≡ true) × (is_absent t ≡ false) × (of_text r.kind (text_of t) ≡ Some t)
+AttributeHeld w r t (attribute_or n m) = (knows r.since w ≡ true) × (is_absent t ≡ false) × (tree_of_text r.kind (text_of t) ≡ Some t)
 AttributeHeld w r t the_version = knows r.since w ≡ true
 AttributeHeld w r t _ = Unit {0}
 
@@ -691,23 +691,23 @@ rows_end w d (more t ts) (r ∷ rs) v h =
 abbrev pub Decimals : Type 0
 Decimals = (n : ℕ) → nat_lt n (2 ^ 32) ≡ true → number_of (text_of (number n)) ≡ Some n
 
-pub text_leaf : (w : SpecVersion) (d : Depth) (t : Tree) → Held w d t a_text → of_text a_text (text_of t) ≡ Some t
-text_leaf w d t h = let e : (s : List ℕ) × (t ≡ text s) = held_text w d t h in subst (λ (x : Tree). of_text a_text (text_of x) ≡ Some x) (sym e.1) refl
+pub text_leaf : (w : SpecVersion) (d : Depth) (t : Tree) → Held w d t a_text → tree_of_text a_text (text_of t) ≡ Some t
+text_leaf w d t h = let e : (s : List ℕ) × (t ≡ text s) = held_text w d t h in subst (λ (x : Tree). tree_of_text a_text (text_of x) ≡ Some x) (sym e.1) refl
 
-pub boolean_leaf : (w : SpecVersion) (d : Depth) (t : Tree) → Held w d t a_boolean → of_text a_boolean (text_of t) ≡ Some t
+pub boolean_leaf : (w : SpecVersion) (d : Depth) (t : Tree) → Held w d t a_boolean → tree_of_text a_boolean (text_of t) ≡ Some t
 boolean_leaf w d (boolean true) h = refl
 boolean_leaf w d (boolean false) h = refl
 boolean_leaf w d (items s) h = absurd (true≢false h.0)
 boolean_leaf w d (fields n s) h = absurd (true≢false h.0)
 boolean_leaf w d _ h = absurd (true≢false h)
 
-pub number_leaf : Decimals → (w : SpecVersion) (d : Depth) (t : Tree) → Held w d t a_number → of_text a_number (text_of t) ≡ Some t
+pub number_leaf : Decimals → (w : SpecVersion) (d : Depth) (t : Tree) → Held w d t a_number → tree_of_text a_number (text_of t) ≡ Some t
 number_leaf dec w d (number n) h = ap number_tree (dec n h)
 number_leaf dec w d (items s) h = absurd (true≢false h.0)
 number_leaf dec w d (fields n s) h = absurd (true≢false h.0)
 number_leaf dec w d _ h = absurd (true≢false h)
 
-pub leaf_text : Decimals → (w : SpecVersion) (d : Depth) (t : Tree) (k : Kind) → is_leaf k ≡ true → Held w d t k → of_text k (text_of t) ≡ Some t
+pub leaf_text : Decimals → (w : SpecVersion) (d : Depth) (t : Tree) (k : Kind) → is_leaf k ≡ true → Held w d t k → tree_of_text k (text_of t) ≡ Some t
 leaf_text dec w d t a_text l h = text_leaf w d t h
 leaf_text dec w d t a_boolean l h = boolean_leaf w d t h
 leaf_text dec w d t a_number l h = number_leaf dec w d t h

@@ -129,8 +129,8 @@ own_read o v d a_license_identifier = identifier_read o v d
 own_read o v d (a_record n) = under_name n (rows_read o no_own (rows n) v d)
 own_read o v d k = here wrong_kind
 
-abbrev pub record_read : Name → Object → SpecVersion → Depth → Result Tree JsonFault
-record_read n o v d = under_name n (rows_read o (own_read o v d) (rows n) v d)
+abbrev pub record_denoted : Name → Object → SpecVersion → Depth → Result Tree JsonFault
+record_denoted n o v d = under_name n (rows_read o (own_read o v d) (rows n) v d)
 
 -- ---- the other objects
 
@@ -139,8 +139,8 @@ abbrev pub chain_read : Found → Object → SpecVersion → Depth → Result Tr
 chain_read (found read) o v d = do
   t ← under (to_member (codes "chain")) (read v (a_list chain_list) d)
   Ok (fields chain (one t))
-chain_read nothing o v d = record_read signer o v d
-chain_read a_null o v d = record_read signer o v d
+chain_read nothing o v d = record_denoted signer o v d
+chain_read a_null o v d = record_denoted signer o v d
 
 abbrev pub signature_read : Found → Object → SpecVersion → Depth → Result Tree JsonFault
 signature_read (found read) o v d = do
@@ -162,20 +162,20 @@ license_read a_null v d = under (to_member (codes "license")) (here wrong_kind)
 
 abbrev pub choice_read : Bool → Object → SpecVersion → Depth → Result Tree JsonFault
 choice_read true o v d = license_read (o (codes "license")) v d
-choice_read false o v d = record_read expression o v d
+choice_read false o v d = record_denoted expression o v d
 
 -- Only from 1.5 on tools may be an object.
 abbrev pub tools_read : SpecVersion → Object → Depth → Result Tree JsonFault
 tools_read V1_3 o d = here wrong_kind
 tools_read V1_4 o d = here wrong_kind
-tools_read V1_5 o d = record_read tools_object o V1_5 d
+tools_read V1_5 o d = record_denoted tools_object o V1_5 d
 
 -- Only from 1.5 on an entry may be a flow.
 abbrev pub entry_read : SpecVersion → Object → Depth → Result Tree JsonFault
-entry_read V1_3 o d = record_read classification o V1_3 d
-entry_read V1_4 o d = record_read classification o V1_4 d
+entry_read V1_3 o d = record_denoted classification o V1_3 d
+entry_read V1_4 o d = record_denoted classification o V1_4 d
 entry_read V1_5 o d = do
-  t ← record_read service_data o V1_5 d
+  t ← record_denoted service_data o V1_5 d
   Ok (entry_of t)
 
 -- `bomFormat` is read before the rows.
@@ -193,7 +193,7 @@ format_read (found read) v d = do
 abbrev pub bill_read : Object → SpecVersion → Depth → Result Tree JsonFault
 bill_read o v d = do
   t ← under (to_member (codes "bomFormat")) (format_read (o (codes "bomFormat")) v d)
-  record_read bill o v d
+  record_denoted bill o v d
 
 abbrev pub object_read : Members → Object → SpecVersion → Kind → Depth → Result Tree JsonFault
 object_read ms o v a_text d = here wrong_kind
@@ -201,7 +201,7 @@ object_read ms o v a_boolean d = here wrong_kind
 object_read ms o v a_number d = here wrong_kind
 object_read ms o v a_version d = here wrong_kind
 object_read ms o v (a_list l) d = here wrong_kind
-object_read ms o v (a_record n) d = record_read n o v (inside n d)
+object_read ms o v (a_record n) d = record_denoted n o v (inside n d)
 object_read ms o v a_reference d = here wrong_kind
 object_read ms o v a_license_choice d = choice_read (is_lone_license ms) o v d
 object_read ms o v a_license_identifier d = identifier_read o v d

@@ -19,7 +19,7 @@ use Rattle.cdx_schema.specs.JsonReading.{is_required}
 use Rattle.cdx_events.specs.declared.name.OwnedAttribute.{OwnedAttribute}
 use Rattle.cdx_events.specs.Nodes.{Node, characters, cdata, element, Nodes, no_nodes, node}
 use Rattle.cdx_schema.specs.Nodes.{places, places_of}
-use Rattle.cdx_schema.specs.XmlTexts.{boolean_of, number_of, boolean_tree, of_text, type_name}
+use Rattle.cdx_schema.specs.XmlTexts.{boolean_of, number_of, boolean_tree, tree_of_text, type_name}
 
 -- How an element is read: in a version, as a kind, at a place, at a depth.
 abbrev pub ElementReading : Type 0
@@ -121,9 +121,9 @@ is_second once t = not (is_absent t)
 is_second last t = false
 is_second all t = false
 
-abbrev pub child_read : Option Child → Rule → ElementReading → List ℕ → SpecVersion → Depth → ℕ → Trees → Result Trees XmlReadError
-child_read None r read around v d p ts = unknown r around p ts
-child_read (Some c) r read around v d p ts = if is_second c.place (field c.field ts) then Err (unexpected p around kinds.StartElement) else (do
+abbrev pub child_read_into : Option Child → Rule → ElementReading → List ℕ → SpecVersion → Depth → ℕ → Trees → Result Trees XmlReadError
+child_read_into None r read around v d p ts = unknown r around p ts
+child_read_into (Some c) r read around v d p ts = if is_second c.place (field c.field ts) then Err (unexpected p around kinds.StartElement) else (do
   t ← read v c.kind p d
   Ok (stored c.place c.field t ts))
 
@@ -131,7 +131,7 @@ child_read (Some c) r read around v d p ts = if is_second c.place (field c.field
 abbrev pub node_read : Node → ElementReading → Plan → List ℕ → SpecVersion → Depth → ℕ → Trees → Result Trees XmlReadError
 node_read (characters s) read plan around v d p ts = stray plan.rule kinds.Characters around p ts
 node_read (cdata s) read plan around v d p ts = stray plan.rule kinds.CData around p ts
-node_read (element n as' default xs) read plan around v d p ts = child_read (find_child v n.local_name plan.children) plan.rule read around v d p ts
+node_read (element n as' default xs) read plan around v d p ts = child_read_into (find_child v n.local_name plan.children) plan.rule read around v d p ts
 
 -- ---- attributes
 
@@ -145,11 +145,11 @@ parsed (Some t) p name s k = Ok t
 
 abbrev pub attribute_read : Option (List ℕ) → List ℕ → Row → SpecVersion → List ℕ → ℕ → Result Tree XmlReadError
 attribute_read None name r v around p = if is_required r.need v then Err (lacking p around name) else Ok absent
-attribute_read (Some s) name r v around p = parsed (of_text r.kind s) p name s r.kind
+attribute_read (Some s) name r v around p = parsed (tree_of_text r.kind s) p name s r.kind
 
 abbrev pub attribute_or_read : Option (List ℕ) → List ℕ → ℕ → Row → ℕ → Result Tree XmlReadError
 attribute_or_read None name n r p = Ok (number n)
-attribute_or_read (Some s) name n r p = parsed (of_text r.kind s) p name s r.kind
+attribute_or_read (Some s) name n r p = parsed (tree_of_text r.kind s) p name s r.kind
 
 abbrev pub row_attribute : Row → List OwnedAttribute → SpecVersion → List ℕ → ℕ → Result Tree XmlReadError
 row_attribute r as' v around p = by r.xml
@@ -291,12 +291,12 @@ list_read e l v d = do
   Ok (list_of (field 0 ts))
 
 -- The fields after the element's content.
-abbrev pub content_read : Content → Element → Name → Trees → SpecVersion → Depth → Result Trees XmlReadError
-content_read no_content e n ts v d = e.read (record_plan n) v d ts
-content_read (any_text i) e n ts v d = do
+abbrev pub content_fields : Content → Element → Name → Trees → SpecVersion → Depth → Result Trees XmlReadError
+content_fields no_content e n ts v d = e.read (record_plan n) v d ts
+content_fields (any_text i) e n ts v d = do
   s ← text_read e
   Ok (with_field i (text s) ts)
-content_read (one_text_alone i) e n ts v d = do
+content_fields (one_text_alone i) e n ts v d = do
   s ← exact_text e.nodes e.name (suc e.start)
   Ok (with_field i (text s) ts)
 
@@ -304,10 +304,10 @@ content_read (one_text_alone i) e n ts v d = do
 abbrev pub record_so_far : Element → Name → SpecVersion → Depth → Result Trees XmlReadError
 record_so_far e n v d = do
   ts ← attributes_read (rows n) (in_force n e.attributes) v e.name e.start
-  content_read (content_from 0 (rows n)) e n ts v d
+  content_fields (content_from 0 (rows n)) e n ts v d
 
-abbrev pub record_read : Element → Name → SpecVersion → Depth → Result Tree XmlReadError
-record_read e n v d = do
+abbrev pub record_denoted : Element → Name → SpecVersion → Depth → Result Tree XmlReadError
+record_denoted e n v d = do
   ts ← record_so_far e n v (inside n d)
   us ← ended (rows n) ts v e.name (end_of e)
   Ok (fields n us)
@@ -324,10 +324,10 @@ reference_read e v d = by (find_attribute (codes "ref") e.attributes)
       Ok (text s)
 
 abbrev pub choice_read : Element → SpecVersion → Depth → Result Tree XmlReadError
-choice_read e v d = if bytes_eq e.name (codes "license") then record_read e license v d else (if bytes_eq e.name (codes "expression") then record_read e expression v d else Err (lacking e.start e.name (codes "license or expression")))
+choice_read e v d = if bytes_eq e.name (codes "license") then record_denoted e license v d else (if bytes_eq e.name (codes "expression") then record_denoted e expression v d else Err (lacking e.start e.name (codes "license or expression")))
 
 abbrev pub identifier_read : Element → SpecVersion → Depth → Result Tree XmlReadError
-identifier_read e v d = if bytes_eq e.name (codes "id") then record_read e spdx_id v d else (if bytes_eq e.name (codes "name") then record_read e license_name v d else Err (lacking e.start e.name (codes "id or name")))
+identifier_read e v d = if bytes_eq e.name (codes "id") then record_denoted e spdx_id v d else (if bytes_eq e.name (codes "name") then record_denoted e license_name v d else Err (lacking e.start e.name (codes "id or name")))
 
 abbrev pub tools_object_of : SpecVersion → Trees → Tree
 tools_object_of V1_3 ts = items none
@@ -380,7 +380,7 @@ in_namespace (Some t) s = bytes_eq t s
 
 -- The root's name, then its namespace, then its content.
 abbrev pub bill_read : Element → SpecVersion → Depth → Result Tree XmlReadError
-bill_read e v d = if bytes_eq e.name (codes "bom") then (if in_namespace e.namespace (namespace v) then record_read e bill v d else Err (namespaced (namespace v) e.namespace)) else Err (unexpected e.start (codes "bom") kinds.StartElement)
+bill_read e v d = if bytes_eq e.name (codes "bom") then (if in_namespace e.namespace (namespace v) then record_denoted e bill v d else Err (namespaced (namespace v) e.namespace)) else Err (unexpected e.start (codes "bom") kinds.StartElement)
 
 abbrev pub kind_read : Element → SpecVersion → Kind → Depth → Result Tree XmlReadError
 kind_read e v a_text d = do
@@ -390,14 +390,14 @@ kind_read e v a_boolean d = boolean_read e
 kind_read e v a_number d = number_in e.nodes e.name (suc e.start)
 kind_read e v a_version d = Err (unexpected e.start e.name kinds.StartElement)
 kind_read e v (a_list l) d = list_read e l v d
-kind_read e v (a_record n) d = if is_too_deep (a_record n) d then Err (nested e.start) else record_read e n v d
+kind_read e v (a_record n) d = if is_too_deep (a_record n) d then Err (nested e.start) else record_denoted e n v d
 kind_read e v a_reference d = reference_read e v d
 kind_read e v a_license_choice d = choice_read e v d
 kind_read e v a_license_identifier d = identifier_read e v d
 kind_read e v a_tools d = tools_read e v d
 kind_read e v a_data d = data_read e v d
 kind_read e v an_entry d = do
-  t ← record_read e service_data v d
+  t ← record_denoted e service_data v d
   Ok (entry_of t)
 kind_read e v a_signature d = signature_read e v d
 kind_read e v a_bill d = bill_read e v d

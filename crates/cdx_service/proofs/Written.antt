@@ -12,7 +12,7 @@ use Rattle.cdx_json.specs.Groups.{group}
 use Rattle.cdx_write.specs.Listed.{item_put}
 use Rattle.cdx_write.specs.Spelling.{written, inner}
 use Rattle.cdx_write.specs.WillWrite.{will_write}
-use Rattle.cdx_write.specs.WrittenRows.{child_put, attributes_put, rows_written, are_rows_of}
+use Rattle.cdx_write.specs.WrittenRows.{child_written, attributes_written, rows_written, are_rows_of}
 use Rattle.cdx_write.specs.Writing.{opening, start_tag, end_tag}
 use Rattle.cdx_write.proofs.Lists.{items_put, item_there, list_inner, list_is}
 use Rattle.cdx_write.proofs.RowWords.{child_there}
@@ -56,26 +56,26 @@ service_in_groups x w =
 
 -- ---- the attributes, which stand in the first group alone
 
-access_attributes : (x : Service-F Service Services) (w : SpecVersion) → attributes_put (service_access x) w (group 1 service) ≡ []
-unfolding attributes_put rows
+access_attributes : (x : Service-F Service Services) (w : SpecVersion) → attributes_written (service_access x) w (group 1 service) ≡ []
+unfolding attributes_written rows
 access_attributes x w = refl
 
-contents_attributes : (x : Service-F Service Services) (w : SpecVersion) → attributes_put (service_contents services_tree x) w (group 2 service) ≡ []
-unfolding attributes_put rows
+contents_attributes : (x : Service-F Service Services) (w : SpecVersion) → attributes_written (service_contents services_tree x) w (group 2 service) ≡ []
+unfolding attributes_written rows
 contents_attributes x w = refl
 
-naming_attributes : (x : Service-F Service Services) (w : SpecVersion) → attributes_put (service_fields services_tree x) w (rows service) ≡ attributes_put (service_naming x) w (group 0 service)
+naming_attributes : (x : Service-F Service Services) (w : SpecVersion) → attributes_written (service_fields services_tree x) w (rows service) ≡ attributes_written (service_naming x) w (group 0 service)
 naming_attributes x w =
     let last = service_contents services_tree x in
-    let first = attributes_put (service_naming x) w (group 0 service) in
-    ap (attributes_put (service_fields services_tree x) w) service_rows
+    let first = attributes_written (service_naming x) w (group 0 service) in
+    ap (attributes_written (service_fields services_tree x) w) service_rows
     ∙ attributes_in_groups (service_naming x) (service_access x ⧺ last) w (group 0 service) (group 1 service ++ group 2 service) (naming_in_rows x)
     ∙ ap (λ s. first ++ s) (attributes_in_groups (service_access x) last w (group 1 service) (group 2 service) (access_in_rows x))
     ∙ rw (access_attributes x w, contents_attributes x w) (append-nil first)
 
 -- ---- a service under a name
 
-pub service_made : (x : Service) (w : SpecVersion) (tag : List ℕ) (as' : List OwnedAttribute) → as' ≡ attributes_put (service_naming (out-Service x)) w (group 0 service)
+pub service_made : (x : Service) (w : SpecVersion) (tag : List ℕ) (as' : List OwnedAttribute) → as' ≡ attributes_written (service_naming (out-Service x)) w (group 0 service)
     → opening tag as' ∷ rows_written (service_fields services_tree (out-Service x)) w (rows service) ++ end_tag tag ∷ [] ≡ written (service_tree x) w tag (a_record service)
 service_made x w tag as' is =
     let ts = service_fields services_tree (out-Service x) in
@@ -97,5 +97,5 @@ services_made tag w xs =
     ap (λ u. start_tag tag ∷ inner u w (a_list services) ++ end_tag tag ∷ []) (services_tree-out xs)
     ∙ list_is service_tree tag services w (services_listed xs) ∙ ap (λ u. written u w tag (a_list services)) (sym (services_tree-out xs))
 
-pub services_child : (name : List ℕ) (w : SpecVersion) (xs : Services) → written (services_tree xs) w name (a_list services) ≡ child_put name (a_list services) (services_tree xs) w
+pub services_child : (name : List ℕ) (w : SpecVersion) (xs : Services) → written (services_tree xs) w name (a_list services) ≡ child_written name (a_list services) (services_tree xs) w
 services_child name w xs = child_there name (a_list services) (services_tree xs) w refl (services_there xs)

@@ -11,10 +11,10 @@ use Rattle.cdx_service.specs.declared.frames.ServiceKind.{ServiceKind}
 use Rattle.cdx_service.specs.declared.frames.ServiceKind.TheVariants.{Service, Services}
 use Rattle.cdx_service.specs.Frames.{kind_of, service_readers, services_readers, reader_of}
 
-pub children_read : (s : ServiceKind) → ReadsEach leaf_kind_of kind_of (reader_of s) (plan_of (kind_of s)).children
+pub children_by_rows : (s : ServiceKind) → ReadsEach leaf_kind_of kind_of (reader_of s) (plan_of (kind_of s)).children
 unfolding rows list
-children_read Service = reads_listed leaf_kind_of kind_of service_readers (plan_of (kind_of Service)).children refl
-children_read Services = reads_listed leaf_kind_of kind_of services_readers (plan_of (kind_of Services)).children refl
+children_by_rows Service = reads_listed leaf_kind_of kind_of service_readers (plan_of (kind_of Service)).children refl
+children_by_rows Services = reads_listed leaf_kind_of kind_of services_readers (plan_of (kind_of Services)).children refl
 
 pub kinds_nested : (s : ServiceKind) → IsNested (kind_of s)
 unfolding rows

@@ -52,7 +52,7 @@ pub enum ServiceFrame {
 #[tactic(auto, unfolding(cdx_machine::proofs::OnRows::on_rows), using(cdx_machine::proofs::OnRows::by_rows))]
 impl Nested for ServiceFrame {
     ghost use Rattle.cdx_service.specs.Frames.{kind_of, frame_kind, frame_fields, value_kind, value_tree, reader_of};
-    ghost use Rattle.cdx_service.specs.FrameLaws.{children_read, kinds_nested, kinds_no_bill};
+    ghost use Rattle.cdx_service.specs.FrameLaws.{children_by_rows, kinds_nested, kinds_no_bill};
 
     type Sort = ServiceKind;
 
@@ -72,7 +72,7 @@ impl Nested for ServiceFrame {
 
     ghost child_of = { reader_of };
 
-    ghost children = { children_read };
+    ghost children = { children_by_rows };
 
     ghost nested = { kinds_nested };
 

@@ -9,11 +9,11 @@ use Rattle.cdx_schema.specs.Table.{rows, list}
 use Rattle.cdx_schema.specs.Depth.{Depth}
 use Rattle.cdx_schema.specs.Results.{◌>>=◌}
 use Rattle.cdx_schema.specs.Faults.{to_member, JsonFault, under}
-use Rattle.cdx_schema.specs.JsonReading.{Object, Found, nothing, a_null, found, signature_read, chain_read, record_read}
+use Rattle.cdx_schema.specs.JsonReading.{Object, Found, nothing, a_null, found, signature_read, chain_read, record_denoted}
 use Rattle.cdx_schema.specs.JsonSpelling.{jspell}
 use Rattle.cdx_schema.specs.Keeping.{kept, keep}
 use Rattle.cdx_json.specs.Gives.{is_found}
-use Rattle.cdx_json.specs.ByRows.{found_as, member_of, signature_of, by_rows}
+use Rattle.cdx_json.specs.ByRows.{read_if_found, member_of, signature_of, by_rows}
 use Rattle.cdx_json.specs.KeptRows.{put_kept}
 use Rattle.cdx_json.proofs.ByRowsLaws.{by_rows_are}
 
@@ -26,7 +26,7 @@ pub reads_signers : (o : Object) (b : Bool) (v : SpecVersion) (d : Depth) → b 
 unfolding signature_of member_of
 reads_signers o b v d is e = by (o (codes "signers")) (sym is ∙ e)
   where
-    by : (f : Found) → is_found f ≡ true → signature_read f o v d ≡ (under (to_member (codes "signers")) (found_as f else_empty (a_list signer_list) v d) >>= as_signers signers)
+    by : (f : Found) → is_found f ≡ true → signature_read f o v d ≡ (under (to_member (codes "signers")) (read_if_found f else_empty (a_list signer_list) v d) >>= as_signers signers)
     by nothing h = absurd cc
     by a_null h = absurd cc
     by (found read) h = refl
@@ -40,7 +40,7 @@ pub reads_chain : (o : Object) (b c : Bool) (v : SpecVersion) (d : Depth) → b 
 unfolding signature_of member_of
 reads_chain o b c v d is e at h = no_signers (o (codes "signers")) o v d (sym is ∙ e) ∙ by (o (codes "chain")) (sym at ∙ h)
   where
-    by : (f : Found) → is_found f ≡ true → chain_read f o v d ≡ (under (to_member (codes "chain")) (found_as f else_empty (a_list chain_list) v d) >>= as_signers chain)
+    by : (f : Found) → is_found f ≡ true → chain_read f o v d ≡ (under (to_member (codes "chain")) (read_if_found f else_empty (a_list chain_list) v d) >>= as_signers chain)
     by nothing h = absurd cc
     by a_null h = absurd cc
     by (found read) h = refl
@@ -49,7 +49,7 @@ pub reads_single : (o : Object) (b c : Bool) (v : SpecVersion) (d : Depth) → b
 unfolding signature_of
 reads_single o b c v d is e at h = no_signers (o (codes "signers")) o v d (sym is ∙ e) ∙ by (o (codes "chain")) (sym at ∙ h) ∙ sym (by_rows_are signer o v d)
   where
-    by : (f : Found) → is_found f ≡ false → chain_read f o v d ≡ record_read signer o v d
+    by : (f : Found) → is_found f ≡ false → chain_read f o v d ≡ record_denoted signer o v d
     by nothing h = refl
     by a_null h = refl
     by (found read) h = absurd cc

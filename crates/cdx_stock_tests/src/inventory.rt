@@ -1,7 +1,7 @@
 //! Questions about bills, and the components of a bill.
 
 use crate::expect::holds;
-use cdx_ask::{NoBill, read_bill, read_question};
+use cdx_ask::{NoBill, read_question, take_bill};
 use cdx_inventory::inventory;
 use cdx_models::SpecVersion;
 use cdx_tool::RequestError;
@@ -14,7 +14,7 @@ const QUESTION: &str =
 #[test]
 fn entries(rt: HostRuntime) -> Result<(), Fail> {
     let alloc = rt.alloc();
-    let bill = read_bill(alloc, Value::from_str(alloc, QUESTION)?).expect(&rt, "a bill");
+    let bill = take_bill(alloc, Value::from_str(alloc, QUESTION)?).expect(&rt, "a bill");
     let all = inventory(alloc, &bill, None)?;
     holds(&rt, all.len() == 2);
     let licensed = inventory(alloc, &bill, Some("E"))?;
@@ -42,7 +42,7 @@ fn questions(rt: HostRuntime) -> Result<(), Fail> {
     holds(
         &rt,
         matches!(
-            read_bill(alloc, Value::Null),
+            take_bill(alloc, Value::Null),
             Err(NoBill::Misread(RequestError::Shape))
         ),
     );

@@ -4,7 +4,7 @@ use cdx_models::{JsonReadError, XmlReadError};
 use std::alloc::{AllocError, Global};
 
 /// The cause, and the path where it isn't the whole value.
-pub fn of_json(alloc: Global, fault: &JsonReadError) -> Result<String, AllocError> {
+pub fn json_fault_line(alloc: Global, fault: &JsonReadError) -> Result<String, AllocError> {
     let JsonReadError::JsonElementReadError { path, kind } = fault else {
         return String::from_str(alloc, "another fault");
     };
@@ -16,7 +16,7 @@ pub fn of_json(alloc: Global, fault: &JsonReadError) -> Result<String, AllocErro
 }
 
 /// The cause, the place and the texts.
-pub fn of_xml(alloc: Global, fault: &XmlReadError) -> Result<String, AllocError> {
+pub fn xml_fault_line(alloc: Global, fault: &XmlReadError) -> Result<String, AllocError> {
     match fault {
         XmlReadError::ElementReadError { kind, place } => format!(in alloc; "{kind:?} {place}"),
         XmlReadError::UnexpectedElementReadError {
@@ -34,12 +34,12 @@ pub fn of_xml(alloc: Global, fault: &XmlReadError) -> Result<String, AllocError>
             required_field.as_str()
         ),
         XmlReadError::TooDeep { place } => format!(in alloc; "too deep {place}"),
-        _ => of_text(alloc, fault),
+        _ => fault_of_text(alloc, fault),
     }
 }
 
 // The fault of a text that is no value, or no namespace of the version.
-fn of_text(alloc: Global, fault: &XmlReadError) -> Result<String, AllocError> {
+fn fault_of_text(alloc: Global, fault: &XmlReadError) -> Result<String, AllocError> {
     match fault {
         XmlReadError::InvalidParseError {
             place,

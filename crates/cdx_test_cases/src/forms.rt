@@ -1,7 +1,7 @@
 //! What a text or a document denotes, kept and written, or its fault.
 
 use crate::documents::{document, line_of};
-use crate::faults::{of_json, of_xml};
+use crate::faults::{json_fault_line, xml_fault_line};
 use cdx_events::{EventWriter, Events, XmlEvent};
 use cdx_json::{FromJson, Kept, ToJson};
 use cdx_leaf::{FromXml, read_root};
@@ -62,7 +62,7 @@ pub fn again<T: FromJson + ToJson + Drop>(
     let value = Value::from_str(alloc, text)?;
     match T::from_json(alloc, &value, version) {
         Ok(held) => as_text(alloc, &held, version),
-        Err(error) => Ok(of_json(alloc, &error)?),
+        Err(error) => Ok(json_fault_line(alloc, &error)?),
     }
 }
 
@@ -99,7 +99,7 @@ pub fn read<T: FromXml + ToJson>(
 ) -> Result<String, Fail> {
     match read_root::<T>(alloc, &around(alloc, line)?, version) {
         Ok(held) => as_text(alloc, &held, V5),
-        Err(error) => Ok(of_xml(alloc, &error)?),
+        Err(error) => Ok(xml_fault_line(alloc, &error)?),
     }
 }
 

@@ -8,7 +8,7 @@ use Rattle.serde_json.proofs.OnLiterals.{serde_json_on_literals}
 use Rattle.cdx_events.specs.declared.event.XmlEvent.{XmlEvent}
 use Rattle.cdx_events.specs.declared.name.OwnedName.{OwnedName}
 use Rattle.cdx_events.specs.declared.name.OwnedAttribute.{OwnedAttribute}
-use Rattle.cdx_request.specs.EventValues.{text_put, with_name, attribute_value, with_attributes, one_text, event_value}
+use Rattle.cdx_request.specs.EventValues.{with_optional_text, with_name, attribute_value, with_attributes, one_text, event_value}
 use Rattle.cdx_request.specs.Refusals.{only}
 use Rattle.cdx_request.specs.Replies.{line_of}
 use Rattle.cdx_tool.specs.Prints.{then_text, then_text_if, then_name, then_default, then_attributes}
@@ -118,21 +118,21 @@ both_printed before as' (Some s) k d ms = default_printed (then_attributes as' b
 -- ---- where putting places them
 
 attribute_named : (l s : List ℕ) (u p : Option (List ℕ))
-    → text_put (codes "prefix") p (text_put (codes "uri") u (put (codes "name") (string l) (member (codes "value") (string s) no_members)))
+    → with_optional_text (codes "prefix") p (with_optional_text (codes "uri") u (put (codes "name") (string l) (member (codes "value") (string s) no_members)))
     ≡ member (codes "name") (string l) (member_if (codes "prefix") p (member_if (codes "uri") u (member (codes "value") (string s) no_members)))
 attribute_named l s None None = refl
 attribute_named l s None (Some p) = refl
 attribute_named l s (Some u) None = refl
 attribute_named l s (Some u) (Some p) = refl
 
-end_named : (l : List ℕ) (u p : Option (List ℕ)) → text_put (codes "prefix") p (text_put (codes "uri") u (put (codes "end") (string l) no_members))
+end_named : (l : List ℕ) (u p : Option (List ℕ)) → with_optional_text (codes "prefix") p (with_optional_text (codes "uri") u (put (codes "end") (string l) no_members))
     ≡ member (codes "end") (string l) (member_if (codes "prefix") p (member_if (codes "uri") u no_members))
 end_named l None None = refl
 end_named l None (Some p) = refl
 end_named l (Some u) None = refl
 end_named l (Some u) (Some p) = refl
 
-element_named : (l : List ℕ) (u p : Option (List ℕ)) → text_put (codes "prefix") p (text_put (codes "uri") u (put (codes "element") (string l) no_members))
+element_named : (l : List ℕ) (u p : Option (List ℕ)) → with_optional_text (codes "prefix") p (with_optional_text (codes "uri") u (put (codes "element") (string l) no_members))
     ≡ member (codes "element") (string l) (member_if (codes "prefix") p (member_if (codes "uri") u no_members))
 element_named l None None = refl
 element_named l None (Some p) = refl
@@ -140,7 +140,7 @@ element_named l (Some u) None = refl
 element_named l (Some u) (Some p) = refl
 
 both_first : (as' : List OwnedAttribute) (o : Option (List ℕ)) (d : Data) (ms : Members)
-    → with_attributes as' (text_put (codes "default") o (member (codes "element") d ms)) ≡ attributes_first as' (member_if (codes "default") o (member (codes "element") d ms))
+    → with_attributes as' (with_optional_text (codes "default") o (member (codes "element") d ms)) ≡ attributes_first as' (member_if (codes "default") o (member (codes "element") d ms))
 both_first [] None d ms = refl
 both_first [] (Some s) d ms = refl
 both_first (a ∷ more) None d ms = refl
@@ -159,7 +159,7 @@ attribute_printed before a =
 
 pub start_printed : (before : List ℕ) (n : OwnedName) (as' : List OwnedAttribute) (o : Option (List ℕ))
     → then_name (codes "\"element\":") n (then_default o (then_attributes as' (before ++ codes "{"))) ++ codes "}"
-    ≡ before ++ compact_text (object (with_attributes as' (text_put (codes "default") o (with_name (codes "element") n no_members))))
+    ≡ before ++ compact_text (object (with_attributes as' (with_optional_text (codes "default") o (with_name (codes "element") n no_members))))
 start_printed before n as' o =
     let first = then_default o (then_attributes as' (before ++ codes "{")) in
     let space = space_members n no_members in
@@ -168,7 +168,7 @@ start_printed before n as' o =
     ∙ member_printed first (codes "\"element\":") false (codes "element") (string n.local_name) space element_key
     ∙ both_printed (before ++ codes "{") as' o (codes "element") (string n.local_name) space
     ∙ append_assoc before (123 ∷ []) _
-    ∙ ap (λ ms. before ++ compact_text (object ms)) (sym (ap (λ ms. with_attributes as' (text_put (codes "default") o ms)) named_is ∙ both_first as' o (string n.local_name) space))
+    ∙ ap (λ ms. before ++ compact_text (object ms)) (sym (ap (λ ms. with_attributes as' (with_optional_text (codes "default") o ms)) named_is ∙ both_first as' o (string n.local_name) space))
 
 pub end_printed : (before : List ℕ) (n : OwnedName) → then_name (codes "{\"end\":") n before ++ codes "}" ≡ before ++ compact_text (object (with_name (codes "end") n no_members))
 end_printed before n =

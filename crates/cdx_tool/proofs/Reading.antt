@@ -18,11 +18,11 @@ use Rattle.cdx_bom.specs.Docs as shown
 use Rattle.cdx_request.specs.Parts.{member_count, text_at, version_at, all_in}
 use Rattle.cdx_request.specs.Breaks.{BreaksLaw}
 use Rattle.cdx_request.specs.Requests.{Misread, unbalanced, rooted, form_named, hop_meant, hops_at}
-use Rattle.cdx_tool.specs.Reads.{form_read, hop_read}
+use Rattle.cdx_tool.specs.Reads.{form_in, hop_in}
 
 -- ---- hops
 
-form_is : (s : List ℕ) → option_map shown.form_of (form_read s) ≡ form_named s
+form_is : (s : List ℕ) → option_map shown.form_of (form_in s) ≡ form_named s
 form_is s = by (bytes_eq s (codes "json")) (bytes_eq s (codes "xml"))
   where
     by : (a b : Bool) → option_map shown.form_of (cond a (Some Form.Json) (cond b (Some Form.Xml) None)) ≡ cond a (Some trips.in_json) (cond b (Some trips.in_xml) None)
@@ -37,22 +37,22 @@ parts_are None g v e = rw (sym e) refl
 parts_are (Some f) g None e = rw (sym e) refl
 parts_are (Some f) g (Some v) e = rw (sym e) refl
 
-forms_are : (o : Option (List ℕ)) → option_map shown.form_of (option_and_then form_read o) ≡ option_and_then form_named o
+forms_are : (o : Option (List ℕ)) → option_map shown.form_of (option_and_then form_in o) ≡ option_and_then form_named o
 forms_are None = refl
 forms_are (Some s) = form_is s
 
-hop_is : (d : Data) → option_map shown.hop_of (hop_read d) ≡ hop_meant d
+hop_is : (d : Data) → option_map shown.hop_of (hop_in d) ≡ hop_meant d
 hop_is d = by (eqb (member_count d) 2)
   where
     by : (b : Bool)
-        → option_map shown.hop_of (cond b (option_and_then (λ (form : Form). option_and_then (λ version. let h : Hop = record { form = form; version = version } in Some h) (version_at (codes "version") d)) (option_and_then form_read (text_at (codes "form") d))) None)
+        → option_map shown.hop_of (cond b (option_and_then (λ (form : Form). option_and_then (λ version. let h : Hop = record { form = form; version = version } in Some h) (version_at (codes "version") d)) (option_and_then form_in (text_at (codes "form") d))) None)
         ≡ cond b (option_and_then (λ (form : trips.Form). option_and_then (λ version. let h : trips.Hop = record { form = form; version = version } in Some h) (version_at (codes "version") d)) (option_and_then form_named (text_at (codes "form") d))) None
-    by true = parts_are (option_and_then form_read (text_at (codes "form") d)) (option_and_then form_named (text_at (codes "form") d)) (version_at (codes "version") d) (forms_are (text_at (codes "form") d))
+    by true = parts_are (option_and_then form_in (text_at (codes "form") d)) (option_and_then form_named (text_at (codes "form") d)) (version_at (codes "version") d) (forms_are (text_at (codes "form") d))
     by false = refl
 
-hops_are : (ds : Items) → option_map shown.hops_of (all_in hop_read ds) ≡ all_in hop_meant ds
+hops_are : (ds : Items) → option_map shown.hops_of (all_in hop_in ds) ≡ all_in hop_meant ds
 hops_are no_items = refl
-hops_are (item d ds) = more (hop_read d) (hop_meant d) (all_in hop_read ds) (all_in hop_meant ds) (hop_is d) (hops_are ds)
+hops_are (item d ds) = more (hop_in d) (hop_meant d) (all_in hop_in ds) (all_in hop_meant ds) (hop_is d) (hops_are ds)
   where
     more : (h : Option Hop) (g : Option trips.Hop) (hs : Option (List Hop)) (gs : Option (List trips.Hop)) → option_map shown.hop_of h ≡ g → option_map shown.hops_of hs ≡ gs
         → option_map shown.hops_of (option_and_then (λ x. option_and_then (λ xs. Some (x ∷ xs)) hs) h) ≡ option_and_then (λ x. option_and_then (λ xs. Some (x ∷ xs)) gs) g
@@ -61,7 +61,7 @@ hops_are (item d ds) = more (hop_read d) (hop_meant d) (all_in hop_read ds) (all
     more (Some h) g (Some hs) gs p q = rw (sym p, sym q) refl
 
 -- the hops of an array
-pub hops_read : {E : Type 0} (r : Result (Option (List Hop)) E) (d : Data) (ds : Items) → Some ds ≡ option_and_then as_array (get (codes "hops") d) → IfOk r (λ o. o ≡ all_in hop_read ds) → IfOk r (λ o. option_map shown.hops_of o ≡ hops_at d)
+pub hops_read : {E : Type 0} (r : Result (Option (List Hop)) E) (d : Data) (ds : Items) → Some ds ≡ option_and_then as_array (get (codes "hops") d) → IfOk r (λ o. o ≡ all_in hop_in ds) → IfOk r (λ o. option_map shown.hops_of o ≡ hops_at d)
 hops_read (Ok o) d ds is h = ap (option_map shown.hops_of) h ∙ hops_are ds ∙ ap (option_and_then (all_in hop_meant)) is
 hops_read (Err e) d ds is h = tt
 

@@ -4,8 +4,8 @@ use Rattle.std.specs.Io.KnownBytes.{Appends, IsAtEnd}
 use Rattle.serde_json.specs.Data.{Data, depth}
 use Rattle.cdx_schema.specs.Roads.{Doc}
 use Rattle.cdx_request.specs.Requests.{Request, request_in}
-use Rattle.cdx_request.specs.Replies.{Reply, reply, no_request, line_of, documents_answer, reply_to, limit}
-use Rattle.cdx_request.specs.Made.{made_answer, made_reply}
+use Rattle.cdx_request.specs.Replies.{Reply, reply, no_request, line_of, documents_value, reply_to, limit}
+use Rattle.cdx_request.specs.Made.{count_value, made_reply}
 use Rattle.cdx_request.specs.Served.{Serves, IsValid, IsMade, ReplyLaw, ValidLaw, AnswersNest, MadeLaw}
 use Rattle.cdx_tool.specs.Words.{Command, a_road, a_make, is_road_or_not}
 use Rattle.cdx_tool.specs.Run.{Tells, Ends, reply_if}
@@ -40,7 +40,7 @@ road_reply c r bytes road e = e ∙ ap (λ c. reply_if c bytes) (the_road c road
 
 -- a reply of status 0 that went out serves one request
 pub served : (o left before now : Option (List ℕ)) (c : Option Command) (r : Reply) (bytes : List ℕ) → ReplyLaw → Tells o bytes → r ≡ reply_if c bytes → (is_road_or_not c ≡ true → (r.status ≡ 6) ⊎ IsAtEnd left) → is_road_or_not c ≡ true → r.status ≡ 0 → Appends before now r.text
-    → (bytes : List ℕ) × (docs : List Doc) × Tells o bytes × IsAtEnd left × Serves bytes docs × Appends before now (line_of (documents_answer docs))
+    → (bytes : List ℕ) × (docs : List Doc) × Tells o bytes × IsAtEnd left × Serves bytes docs × Appends before now (line_of (documents_value docs))
 served o left before now c r bytes law told e end road zero_is put =
     let is = road_reply c r bytes road e in
     let l = law bytes (ap (λ (x : Reply). x.status) (sym is) ∙ zero_is) in
@@ -51,10 +51,10 @@ pub shallow : (before now : Option (List ℕ)) (c : Option Command) (r : Reply) 
 shallow before now c r bytes law nest e road zero_is put =
     let is = road_reply c r bytes road e in
     let l = law bytes (ap (λ (x : Reply). x.status) (sym is) ∙ zero_is) in
-    (documents_answer l.0, subst (Appends before now) (ap (λ (x : Reply). x.text) is ∙ l.2) put, nest l.1.request.doc l.1.request.from l.1.request.hops l.0 l.1.led)
+    (documents_value l.0, subst (Appends before now) (ap (λ (x : Reply). x.text) is ∙ l.2) put, nest l.1.request.doc l.1.request.from l.1.request.hops l.0 l.1.led)
 
 -- a reply to `make` that went out counts the made documents
-pub counted : (before now : Option (List ℕ)) (c : Option Command) (n : ℕ) (r : Reply) (bytes : List ℕ) → MadeLaw → r ≡ reply_if c bytes → c ≡ Some (a_make n) → Appends before now r.text → IsMade n × Appends before now (line_of (made_answer n))
+pub counted : (before now : Option (List ℕ)) (c : Option Command) (n : ℕ) (r : Reply) (bytes : List ℕ) → MadeLaw → r ≡ reply_if c bytes → c ≡ Some (a_make n) → Appends before now r.text → IsMade n × Appends before now (line_of (count_value n))
 counted before now c n r bytes law e is put = (law n, subst (Appends before now) (ap (λ (x : Reply). x.text) (e ∙ ap (λ c. reply_if c bytes) is)) put)
 
 -- a valid request is owed status 0

@@ -47,15 +47,15 @@ asked_in a = record { from = a.from; sent = sent_in a.sent; hops = hops_of a.hop
 
 -- ---- hops
 
-abbrev pub form_read : List ℕ → Option Form
-form_read s = if bytes_eq s (codes "json") then Some form.Json else (if bytes_eq s (codes "xml") then Some form.Xml else None)
+abbrev pub form_in : List ℕ → Option Form
+form_in s = if bytes_eq s (codes "json") then Some form.Json else (if bytes_eq s (codes "xml") then Some form.Xml else None)
 
-abbrev pub hop_parts_read : Data → Option Hop
-hop_parts_read d = do
-  form ← text_at (codes "form") d >>= form_read
+abbrev pub hop_parts_in : Data → Option Hop
+hop_parts_in d = do
+  form ← text_at (codes "form") d >>= form_in
   version ← version_at (codes "version") d
   Some (record { form = form; version = version })
 
 -- the hop of a value, whose like in the schema is the one that is asked (`Hops.hop_is`)
-abbrev pub hop_read : Data → Option Hop
-hop_read d = if member_count d == 2 then hop_parts_read d else None
+abbrev pub hop_in : Data → Option Hop
+hop_in d = if member_count d == 2 then hop_parts_in d else None

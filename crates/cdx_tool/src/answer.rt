@@ -19,7 +19,7 @@ mod make;
 mod refused;
 mod text;
 
-pub use documents::{documents_answer, only};
+pub use documents::{documents_value, only};
 pub(crate) use make::answer_within;
 pub use make::{answer_bytes, answer_value, read_json, refuse};
-pub use refused::{refused_answer, unbalanced_answer};
+pub use refused::{imbalance_value, refusal_value};

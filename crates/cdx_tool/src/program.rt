@@ -6,9 +6,9 @@ ghost use Rattle.serde_json.specs.Data.{Data, depth};
 ghost use Rattle.cdx_events.specs.Causes.{Rose};
 ghost use Rattle.cdx_schema.specs.Roads.{Doc};
 ghost use Rattle.cdx_request.specs.Requests.{Request, request_in};
-ghost use Rattle.cdx_request.specs.Replies.{line_of, documents_answer, limit, reply_to};
+ghost use Rattle.cdx_request.specs.Replies.{line_of, documents_value, limit, reply_to};
 ghost use Rattle.cdx_request.specs.Served.{Serves, IsValid, IsMade};
-ghost use Rattle.cdx_request.specs.Made.{made_answer};
+ghost use Rattle.cdx_request.specs.Made.{count_value};
 ghost use Rattle.cdx_tool.specs.Shows.{reply_of};
 ghost use Rattle.cdx_tool.specs.Words.{command_of, is_road, a_make};
 ghost use Rattle.cdx_tool.specs.Run.{reply_for, Tells, Ends};
@@ -76,7 +76,7 @@ fn owed<S: Source>(alloc: Global, words: &[String], source: &mut S) -> Result<An
 /// - 2, `{"request":"not JSON"}`: `serde_json` has no reading of the bytes.
 /// - 2, `{"request":"shape"}`: the value is no request by `read_request`.
 /// - 1, `{"refused":{"cause":"unbalanced","place":p}}`: its document's events break at p.
-/// - 1, `{"refused":{..}}` by `refused_answer`: its document has this first fault, or denotes a bill that lacks a version
+/// - 1, `{"refused":{..}}` by `refusal_value`: its document has this first fault, or denotes a bill that lacks a version
 ///   which a hop asks for.
 /// - 0: the source was read to its end and held a request; the documents of its road, one for each hop, were written as
 ///   `{"documents":[..]}`. For `make` it is `{"made":{"bytes":b,"components":n,"events":e}}`.
@@ -90,7 +90,7 @@ pub fn run<S: Source, K: Sink>(alloc: Global, words: &[String], source: &mut S, 
     // the bytes written are the line of its documents: one for each hop, each denoting the bill after the hops up to it.
     ensures headline { is_road words.now ≡ true → result ≡ 0 → (bytes : List ℕ) × (docs : List Doc)
         × Tells (S.left source.old) bytes × IsAtEnd (S.left source.new) × Serves bytes docs
-        × Appends (K.written sink.old) (K.written sink.new) (line_of (documents_answer docs)) }
+        × Appends (K.written sink.old) (K.written sink.new) (line_of (documents_value docs)) }
     // That line nests at most 107 arrays and objects, so that `serde_json` reads it again.
     ensures nests { is_road words.now ≡ true → result ≡ 0 → (d : Data)
         × Appends (K.written sink.old) (K.written sink.new) (line_of d) × (depth d ≤ 107) }
@@ -101,7 +101,7 @@ pub fn run<S: Source, K: Sink>(alloc: Global, words: &[String], source: &mut S, 
         → (Rose (K.faults sink.old) (K.faults sink.new) → ⊥) → (result ≡ 0) ⊎ (result ≡ 5) }
     // For `make` and a number, 0 says that the bytes written are the line that counts the documents of that bill's road.
     ensures made { (n : ℕ) → command_of words.now ≡ Some (a_make n) → result ≡ 0
-        → IsMade n × Appends (K.written sink.old) (K.written sink.new) (line_of (made_answer n)) }
+        → IsMade n × Appends (K.written sink.old) (K.written sink.new) (line_of (count_value n)) }
     // What is answered to which words and bytes, and what is written with which status.
     ensures table { (bytes : List ℕ) × Tells (S.left source.old) bytes
         × Ends (reply_for words.now bytes) result (K.written sink.old) (K.written sink.new)

@@ -30,11 +30,11 @@ library_tree component_type name version = fields component (trees (
     text component_type ∷ absent ∷ absent ∷ absent ∷ absent ∷ absent ∷ absent ∷ text name ∷ text version ∷ absent ∷ absent ∷ absent
     ∷ absent ∷ absent ∷ absent ∷ absent ∷ absent ∷ absent ∷ absent ∷ absent ∷ absent ∷ absent ∷ absent ∷ absent ∷ []))
 
-abbrev pub component_list : Tree → Tree
-component_list t = items (trees (t ∷ []))
+abbrev pub components_alone : Tree → Tree
+components_alone t = items (trees (t ∷ []))
 
 -- the bill of 1.5 with the library of this name and version, and nothing else
 abbrev pub bill_of_library : List ℕ → List ℕ → Tree
 bill_of_library name version = fields bill (trees (
-    text (label V1_5) ∷ number 1 ∷ absent ∷ absent ∷ component_list (library_tree (codes "library") name version)
+    text (label V1_5) ∷ number 1 ∷ absent ∷ absent ∷ components_alone (library_tree (codes "library") name version)
     ∷ absent ∷ absent ∷ absent ∷ absent ∷ absent ∷ absent ∷ []))

@@ -7,7 +7,7 @@ ghost use Rattle.cdx_component.specs.Trees.{component_tree, components_tree};
 ghost use Rattle.cdx_schema.specs.JsonReading.{json_denotes};
 ghost use Rattle.cdx_json.specs.Gives.{Makes};
 ghost use Rattle.cdx_bom.specs.Trees.{bom_tree};
-ghost use Rattle.cdx_uses.specs.Uses.{library_tree, component_list, bill_of_library};
+ghost use Rattle.cdx_uses.specs.Uses.{library_tree, components_alone, bill_of_library};
 
 use cdx_bom::Bom;
 use cdx_component::{Component, Components};
@@ -50,7 +50,7 @@ fn component(component_type: Text, name: Text, version: Text) -> Component
 
 // The list of one component.
 fn alone(alloc: Global, component: Component) -> Result<Components, AllocError>
-    ensures { IfOk result (λ cs. components_tree cs ≡ component_list (component_tree component)) }
+    ensures { IfOk result (λ cs. components_tree cs ≡ components_alone (component_tree component)) }
 {
     let mut components = Components::new(alloc);
     components.push(component)?;

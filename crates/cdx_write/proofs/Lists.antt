@@ -14,7 +14,7 @@ use Rattle.cdx_schema.specs.XmlSpelling.{each_under, nodes_of, items_nodes, lone
 use Rattle.cdx_write.specs.Listed.{IsListOf, item_put}
 use Rattle.cdx_write.specs.Spelling.{written, inner}
 use Rattle.cdx_write.specs.Stays.{keeps_presence, passed_kept}
-use Rattle.cdx_write.specs.WrittenRows.{child_put}
+use Rattle.cdx_write.specs.WrittenRows.{child_written}
 use Rattle.cdx_write.specs.Writing.{start_tag, end_tag}
 use Rattle.cdx_write.proofs.RowsLaws.{events_append}
 use Rattle.cdx_write.proofs.RowWords.{child_there}
@@ -58,5 +58,5 @@ pub list_is : {A : Type 0} (see : A → Tree) (tag : List ℕ) (l : Lists) (w : 
 unfolding written inner nodes_of kept
 list_is see tag l w xs = refl
 
-pub list_child : {A : Type 0} (see : A → Tree) (name : List ℕ) (l : Lists) (w : SpecVersion) (xs : List A) → written (list_tree see xs) w name (a_list l) ≡ child_put name (a_list l) (list_tree see xs) w
+pub list_child : {A : Type 0} (see : A → Tree) (name : List ℕ) (l : Lists) (w : SpecVersion) (xs : List A) → written (list_tree see xs) w name (a_list l) ≡ child_written name (a_list l) (list_tree see xs) w
 list_child see name l w xs = child_there name (a_list l) (list_tree see xs) w refl refl

@@ -19,7 +19,7 @@ use Rattle.cdx_schema.specs.XmlSpelling.{attribute_of, plain_element, tag_of, no
 use Rattle.cdx_write.specs.Lone.{IsLone}
 use Rattle.cdx_write.specs.Spelling.{written, inner, Tag, spelled_as, spelling}
 use Rattle.cdx_write.specs.Stays.{keeps_presence, presence_kept, KeepsHollow}
-use Rattle.cdx_write.specs.WrittenRows.{attribute_put, child_put, filled_put, cdata_put, late_put}
+use Rattle.cdx_write.specs.WrittenRows.{attribute_written, child_written, filled_written, cdata_written, late_written}
 use Rattle.cdx_write.specs.Writing.{Appends, simple_tag}
 
 if_is : {A : Type 0} (b c : Bool) (x y : A) → b ≡ c → (if b then x else y) ≡ (if c then x else y)
@@ -35,25 +35,25 @@ nothing_added old a e = sym (append-nil old) ∙ ap (λ s. old ++ s) (sym e)
 
 -- ---- rows known from a version on
 
-pub late_known : {A : Type 0} (since w : SpecVersion) (b : Bool) (xs : List A) → b ≡ knows since w → b ≡ true → xs ≡ late_put since w xs
-unfolding late_put
+pub late_known : {A : Type 0} (since w : SpecVersion) (b : Bool) (xs : List A) → b ≡ knows since w → b ≡ true → xs ≡ late_written since w xs
+unfolding late_written
 late_known since w b xs is e = if_is true (knows since w) xs [] (sym e ∙ is)
 
-pub late_unknown : {A : Type 0} (since w : SpecVersion) (b : Bool) (xs : List A) → b ≡ knows since w → b ≡ false → late_put since w xs ≡ []
-unfolding late_put
+pub late_unknown : {A : Type 0} (since w : SpecVersion) (b : Bool) (xs : List A) → b ≡ knows since w → b ≡ false → late_written since w xs ≡ []
+unfolding late_written
 late_unknown since w b xs is e = if_is (knows since w) false xs [] (sym is ∙ e)
 
 -- ---- attributes
 
 pub attribute_there : (name : List ℕ) (k : Kind) (t : Tree) (w : SpecVersion) (n : OwnedName) (v : List ℕ) → IsLone k t → is_absent t ≡ false → n ≡ local name → v ≡ text_of t
-    → record { name = n; value = v } ∷ [] ≡ attribute_put name k t w
-unfolding attribute_put
+    → record { name = n; value = v } ∷ [] ≡ attribute_written name k t w
+unfolding attribute_written
 attribute_there name k t w n v lone there is same =
     ap (λ m. record { name = m; value = v } ∷ []) is ∙ ap (λ s. record { name = local name; value = s } ∷ []) same
     ∙ if_is false (is_absent t) [] _ (sym there) ∙ ap (attribute_of name) (sym (lone.kept w))
 
-pub attribute_none : (name : List ℕ) (k : Kind) (w : SpecVersion) → attribute_put name k absent w ≡ []
-unfolding attribute_put kept
+pub attribute_none : (name : List ℕ) (k : Kind) (w : SpecVersion) → attribute_written name k absent w ≡ []
+unfolding attribute_written kept
 attribute_none name k w = refl
 
 pub no_attribute_added : (old new : List OwnedAttribute) → new ≡ [] → old ≡ old ++ new
@@ -61,24 +61,24 @@ no_attribute_added old new e = sym (append-nil old) ∙ ap (λ s. old ++ s) (sym
 
 -- ---- children
 
-pub child_there : (name : List ℕ) (k : Kind) (t : Tree) (w : SpecVersion) → keeps_presence k ≡ true → is_absent t ≡ false → written t w name k ≡ child_put name k t w
-unfolding child_put
+pub child_there : (name : List ℕ) (k : Kind) (t : Tree) (w : SpecVersion) → keeps_presence k ≡ true → is_absent t ≡ false → written t w name k ≡ child_written name k t w
+unfolding child_written
 child_there name k t w keeps there = if_is false (is_absent (keep w t k)) [] (written t w name k) (sym (presence_kept k keeps w w t ∙ there))
 
-pub child_none : (name : List ℕ) (k : Kind) (w : SpecVersion) → child_put name k absent w ≡ []
-unfolding child_put kept
+pub child_none : (name : List ℕ) (k : Kind) (w : SpecVersion) → child_written name k absent w ≡ []
+unfolding child_written kept
 child_none name k w = refl
 
-pub filled_hollow : (name : List ℕ) (k : Kind) (t : Tree) (w : SpecVersion) (b : Bool) → KeepsHollow k t → b ≡ is_hollow t → b ≡ true → filled_put name k t w ≡ []
-unfolding filled_put
-filled_hollow name k t w b keeps is e = if_is (is_hollow (keep w t k)) true [] (child_put name k t w) (keeps w ∙ sym is ∙ e)
+pub filled_hollow : (name : List ℕ) (k : Kind) (t : Tree) (w : SpecVersion) (b : Bool) → KeepsHollow k t → b ≡ is_hollow t → b ≡ true → filled_written name k t w ≡ []
+unfolding filled_written
+filled_hollow name k t w b keeps is e = if_is (is_hollow (keep w t k)) true [] (child_written name k t w) (keeps w ∙ sym is ∙ e)
 
-pub filled_there : (name : List ℕ) (k : Kind) (t : Tree) (w : SpecVersion) (b : Bool) → KeepsHollow k t → b ≡ is_hollow t → b ≡ false → child_put name k t w ≡ filled_put name k t w
-unfolding filled_put
-filled_there name k t w b keeps is e = if_is false (is_hollow (keep w t k)) [] (child_put name k t w) (sym (keeps w ∙ sym is ∙ e))
+pub filled_there : (name : List ℕ) (k : Kind) (t : Tree) (w : SpecVersion) (b : Bool) → KeepsHollow k t → b ≡ is_hollow t → b ≡ false → child_written name k t w ≡ filled_written name k t w
+unfolding filled_written
+filled_there name k t w b keeps is e = if_is false (is_hollow (keep w t k)) [] (child_written name k t w) (sym (keeps w ∙ sym is ∙ e))
 
-pub filled_none : (name : List ℕ) (k : Kind) (w : SpecVersion) → filled_put name k absent w ≡ []
-unfolding filled_put child_put kept is_hollow
+pub filled_none : (name : List ℕ) (k : Kind) (w : SpecVersion) → filled_written name k absent w ≡ []
+unfolding filled_written child_written kept is_hollow
 filled_none name k w = refl
 
 -- ---- contents
@@ -91,8 +91,8 @@ pub text_inner : (s : List ℕ) (w : SpecVersion) → Characters s ∷ [] ≡ in
 unfolding inner kept nodes_of
 text_inner s w = refl
 
-pub text_cdata : (s : List ℕ) (w : SpecVersion) → CData s ∷ [] ≡ cdata_put a_text (text s) w
-unfolding cdata_put kept
+pub text_cdata : (s : List ℕ) (w : SpecVersion) → CData s ∷ [] ≡ cdata_written a_text (text s) w
+unfolding cdata_written kept
 text_cdata s w = refl
 
 pub lone_written : (k : Kind) (t : Tree) (w : SpecVersion) (tag : List ℕ) (s : List ℕ) → IsLone k t → s ≡ text_of t → simple_tag tag s ≡ written t w tag k

@@ -16,27 +16,27 @@ use Rattle.cdx_write.specs.Spelling.{written, inner}
 
 -- ---- one row, as the version keeps it, where it is there
 
-unfoldable pub attribute_put : List ℕ → Kind → Tree → SpecVersion → List OwnedAttribute
-attribute_put name k t w = attribute_of name (keep w t k)
+unfoldable pub attribute_written : List ℕ → Kind → Tree → SpecVersion → List OwnedAttribute
+attribute_written name k t w = attribute_of name (keep w t k)
 
-unfoldable pub child_put : List ℕ → Kind → Tree → SpecVersion → List XmlEvent
-child_put name k t w = if is_absent (keep w t k) then [] else written t w name k
+unfoldable pub child_written : List ℕ → Kind → Tree → SpecVersion → List XmlEvent
+child_written name k t w = if is_absent (keep w t k) then [] else written t w name k
 
 -- the same for a child that isn't written where it is hollow
-unfoldable pub filled_put : List ℕ → Kind → Tree → SpecVersion → List XmlEvent
-filled_put name k t w = if is_hollow (keep w t k) then [] else child_put name k t w
+unfoldable pub filled_written : List ℕ → Kind → Tree → SpecVersion → List XmlEvent
+filled_written name k t w = if is_hollow (keep w t k) then [] else child_written name k t w
 
-unfoldable pub cdata_put : Kind → Tree → SpecVersion → List XmlEvent
-cdata_put k t w = if is_absent (keep w t k) then [] else CData (text_of (keep w t k)) ∷ []
+unfoldable pub cdata_written : Kind → Tree → SpecVersion → List XmlEvent
+cdata_written k t w = if is_absent (keep w t k) then [] else CData (text_of (keep w t k)) ∷ []
 
 -- nothing in a version before `since`
-unfoldable pub late_put : {A : Type 0} → SpecVersion → SpecVersion → List A → List A
-late_put since w xs = if knows since w then xs else []
+unfoldable pub late_written : {A : Type 0} → SpecVersion → SpecVersion → List A → List A
+late_written since w xs = if knows since w then xs else []
 
-abbrev pub since_put : {A : Type 0} → SpecVersion → SpecVersion → List A → List A
-since_put V1_3 w xs = xs
-since_put V1_4 w xs = late_put V1_4 w xs
-since_put V1_5 w xs = late_put V1_5 w xs
+abbrev pub since_written : {A : Type 0} → SpecVersion → SpecVersion → List A → List A
+since_written V1_3 w xs = xs
+since_written V1_4 w xs = late_written V1_4 w xs
+since_written V1_5 w xs = late_written V1_5 w xs
 
 -- ---- the rows of a record, or a group of them
 
@@ -45,14 +45,14 @@ abbrev pub attribute_then : Row → Tree → SpecVersion → List OwnedAttribute
 attribute_then r t w rest = by r.xml
   where
     by : Spelled → List OwnedAttribute
-    by (attribute name) = since_put r.since w (attribute_put name r.kind t w) ++ rest
-    by (attribute_or name n) = since_put r.since w (attribute_put name r.kind t w) ++ rest
+    by (attribute name) = since_written r.since w (attribute_written name r.kind t w) ++ rest
+    by (attribute_or name n) = since_written r.since w (attribute_written name r.kind t w) ++ rest
     by _ = rest
 
-unfoldable pub attributes_put : Trees → SpecVersion → List Row → List OwnedAttribute
-attributes_put none w rs = []
-attributes_put (more t ts) w [] = []
-attributes_put (more t ts) w (r ∷ rs) = attribute_then r t w (attributes_put ts w rs)
+unfoldable pub attributes_written : Trees → SpecVersion → List Row → List OwnedAttribute
+attributes_written none w rs = []
+attributes_written (more t ts) w [] = []
+attributes_written (more t ts) w (r ∷ rs) = attribute_then r t w (attributes_written ts w rs)
 
 -- the nodes from a row on
 abbrev pub row_then : Row → Tree → SpecVersion → List XmlEvent → List XmlEvent
@@ -61,13 +61,13 @@ row_then r t w rest = by r.xml
     by : Spelled → List XmlEvent
     by (attribute name) = rest
     by (attribute_or name n) = rest
-    by content = since_put r.since w (inner t w r.kind) ++ rest
-    by one_text = since_put r.since w (inner t w r.kind) ++ rest
-    by as_cdata = since_put r.since w (cdata_put r.kind t w) ++ rest
-    by (child name) = since_put r.since w (child_put name r.kind t w) ++ rest
-    by (filled_child name) = since_put r.since w (filled_put name r.kind t w) ++ rest
-    by (children name) = since_put r.since w (inner t w r.kind) ++ rest
-    by (either_child m n) = since_put r.since w (child_put m r.kind t w) ++ rest
+    by content = since_written r.since w (inner t w r.kind) ++ rest
+    by one_text = since_written r.since w (inner t w r.kind) ++ rest
+    by as_cdata = since_written r.since w (cdata_written r.kind t w) ++ rest
+    by (child name) = since_written r.since w (child_written name r.kind t w) ++ rest
+    by (filled_child name) = since_written r.since w (filled_written name r.kind t w) ++ rest
+    by (children name) = since_written r.since w (inner t w r.kind) ++ rest
+    by (either_child m n) = since_written r.since w (child_written m r.kind t w) ++ rest
     by the_version = rest
 
 unfoldable pub rows_written : Trees → SpecVersion → List Row → List XmlEvent

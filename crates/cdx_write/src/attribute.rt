@@ -2,7 +2,7 @@
 
 ghost use Rattle.std.specs.Prelude.{◌≡◌, ◌++◌, OnOk};
 ghost use Rattle.cdx_models.specs.Trees.{present};
-ghost use Rattle.cdx_write.specs.WrittenRows.{attribute_put, late_put};
+ghost use Rattle.cdx_write.specs.WrittenRows.{attribute_written, late_written};
 
 use crate::element::Lone;
 use cdx_events::{List, OwnedAttribute, OwnedName};
@@ -18,7 +18,7 @@ pub fn put_required_attribute<T: Lone>(
     target: Target,
 ) -> Result<(), AllocError>
     ensures { OnOk result (attributes.new
-        ≡ attributes.old ++ attribute_put name.now T.kind (T.tree held.now) target.version) }
+        ≡ attributes.old ++ attribute_written name.now T.kind (T.tree held.now) target.version) }
 {
     let name = OwnedName::local(target.alloc, name)?;
     let value = held.xml_text(target.alloc)?;
@@ -33,7 +33,7 @@ pub fn put_attribute<T: Lone>(
     target: Target,
 ) -> Result<(), AllocError>
     ensures { OnOk result (attributes.new
-        ≡ attributes.old ++ attribute_put name.now T.kind
+        ≡ attributes.old ++ attribute_written name.now T.kind
         (present T.tree held.now) target.version) }
 {
     match held {
@@ -51,8 +51,8 @@ pub fn put_attribute_since<T: Lone>(
     target: Target,
 ) -> Result<(), AllocError>
     ensures { OnOk result (attributes.new ≡ attributes.old
-        ++ late_put since target.version
-        (attribute_put name.now T.kind (present T.tree held.now) target.version)) }
+        ++ late_written since target.version
+        (attribute_written name.now T.kind (present T.tree held.now) target.version)) }
 {
     if since.is_known_to(target.version) {
         put_attribute(attributes, name, held, target)

@@ -4,7 +4,7 @@ ghost use Rattle.cdx_models.specs.Trees.{present, list_tree};
 ghost use Rattle.cdx_schema.specs.Kinds.{Lists, a_list};
 ghost use Rattle.cdx_write.specs.Listed.{IsListOf, item_put};
 ghost use Rattle.cdx_write.specs.Spelling.{written, inner};
-ghost use Rattle.cdx_write.specs.WrittenRows.{child_put, late_put};
+ghost use Rattle.cdx_write.specs.WrittenRows.{child_written, late_written};
 ghost use Rattle.cdx_write.specs.Writing.{Appends};
 
 use crate::element::Item;
@@ -87,7 +87,7 @@ pub fn put_list<T: Item>(
 ) -> WriteResult
     ensures { (l : Lists) → IsListOf T.kind item_tag.now l
         → Appends writer.old writer.new
-        (child_put name.now (a_list l) (present (list_tree T.tree) held.now) target.version)
+        (child_written name.now (a_list l) (present (list_tree T.tree) held.now) target.version)
         result }
 {
     match held {
@@ -107,8 +107,8 @@ pub fn put_list_since<T: Item>(
 ) -> WriteResult
     ensures { (l : Lists) → IsListOf T.kind item_tag.now l
         → Appends writer.old writer.new
-        (late_put since target.version
-        (child_put name.now (a_list l) (present (list_tree T.tree) held.now) target.version))
+        (late_written since target.version
+        (child_written name.now (a_list l) (present (list_tree T.tree) held.now) target.version))
         result }
 {
     if since.is_known_to(target.version) {

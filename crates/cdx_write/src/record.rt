@@ -5,7 +5,7 @@ ghost use Rattle.cdx_models.specs.Trees.{fields_of};
 ghost use Rattle.cdx_schema.specs.Kinds.{a_record};
 ghost use Rattle.cdx_schema.specs.Table.{rows};
 ghost use Rattle.cdx_write.specs.Spelling.{written};
-ghost use Rattle.cdx_write.specs.WrittenRows.{attributes_put, rows_written};
+ghost use Rattle.cdx_write.specs.WrittenRows.{attributes_written, rows_written};
 ghost use Rattle.cdx_write.specs.Writing.{Appends};
 
 use crate::element::Element;
@@ -19,7 +19,7 @@ pub trait WrittenRecord: Record {
     /// The attributes of what a version keeps. Only want of memory is refused.
     fn attributes(&self, target: Target) -> Result<List<OwnedAttribute>, AllocError>
         ensures { IfOk result (λ r.
-            r ≡ attributes_put (fields_of (Self.tree self.now)) target.version
+            r ≡ attributes_written (fields_of (Self.tree self.now)) target.version
             (rows Self.name)) };
 
     /// Appends the content of what a version keeps. Only want of memory is refused; the writer then has a prefix of

@@ -5,7 +5,7 @@ ghost use Rattle.std.specs.Prelude.{◌≡◌, not};
 ghost use Rattle.cdx_models.specs.Trees.{text, present, is_absent};
 ghost use Rattle.cdx_schema.specs.Kinds.{a_text};
 ghost use Rattle.cdx_write.specs.Spelling.{inner};
-ghost use Rattle.cdx_write.specs.WrittenRows.{child_put, filled_put, cdata_put, late_put};
+ghost use Rattle.cdx_write.specs.WrittenRows.{child_written, filled_written, cdata_written, late_written};
 ghost use Rattle.cdx_write.specs.Writing.{Appends};
 
 use crate::element::{Element, Filled};
@@ -30,7 +30,7 @@ pub fn put_required_child<T: Element>(
     target: Target,
 ) -> WriteResult
     ensures { Appends writer.old writer.new
-        (child_put name.now T.kind (T.tree held.now) target.version) result }
+        (child_written name.now T.kind (T.tree held.now) target.version) result }
 {
     held.write_as(writer, name, target)
 }
@@ -43,7 +43,7 @@ pub fn put_child<T: Element>(
     target: Target,
 ) -> WriteResult
     ensures { Appends writer.old writer.new
-        (child_put name.now T.kind (present T.tree held.now) target.version) result }
+        (child_written name.now T.kind (present T.tree held.now) target.version) result }
 {
     match held {
         None => Ok(()),
@@ -60,8 +60,8 @@ pub fn put_child_since<T: Element>(
     target: Target,
 ) -> WriteResult
     ensures { Appends writer.old writer.new
-        (late_put since target.version
-        (child_put name.now T.kind (present T.tree held.now) target.version)) result }
+        (late_written since target.version
+        (child_written name.now T.kind (present T.tree held.now) target.version)) result }
 {
     if since.is_known_to(target.version) {
         put_child(writer, name, held, target)
@@ -78,7 +78,7 @@ pub fn put_filled_child<T: Filled>(
     target: Target,
 ) -> WriteResult
     ensures { Appends writer.old writer.new
-        (filled_put name.now T.kind (present T.tree held.now) target.version) result }
+        (filled_written name.now T.kind (present T.tree held.now) target.version) result }
 {
     match held {
         None => Ok(()),
@@ -103,7 +103,7 @@ pub fn put_content(alloc: Global, writer: &mut EventWriter, held: &Text) -> Writ
 /// The same as CDATA.
 pub fn put_cdata(alloc: Global, writer: &mut EventWriter, held: &Text) -> WriteResult
     ensures { (w : SpecVersion)
-        → Appends writer.old writer.new (cdata_put a_text (text held.now) w) result }
+        → Appends writer.old writer.new (cdata_written a_text (text held.now) w) result }
 {
     writer.write(XmlEvent::CData(held.copy(alloc)?))?;
     Ok(())

@@ -68,7 +68,7 @@ fn bom_from_members(map: &Members, context: Context) -> Result<Bom, JsonReadErro
         (bill_by_groups (seen (members_view map.now.entries)) context.version
         (depth_of context.depth)) }
 {
-    read_format(map, context)?;
+    check_format(map, context)?;
     let inventory = read_inventory(map, context)?;
     match read_relations(map, context) {
         Ok(relations) => Ok(assemble(inventory, relations)),
@@ -82,7 +82,7 @@ fn bom_from_members(map: &Members, context: Context) -> Result<Bom, JsonReadErro
 // The format's name, which each bill in JSON tells.
 const FORMAT: &str = "CycloneDX";
 
-fn read_format(map: &Members, context: Context) -> Result<(), JsonReadError>
+fn check_format(map: &Members, context: Context) -> Result<(), JsonReadError>
     ensures { Gives format_text result
         (format_of (seen (members_view map.now.entries)) context.version (depth_of context.depth)) }
 {

@@ -72,7 +72,7 @@ fn nest_of(value: BillValue) -> NestValue
 
 impl Nested for BillFrame {
     ghost use Rattle.cdx_bom.specs.Frames.{kind_of, frame_kind, frame_fields, value_kind, value_tree, reader_of};
-    ghost use Rattle.cdx_bom.specs.FrameLaws.{children_read, kinds_nested, kinds_no_bill};
+    ghost use Rattle.cdx_bom.specs.FrameLaws.{children_by_rows, kinds_nested, kinds_no_bill};
 
     type Sort = BillKind;
 
@@ -169,7 +169,7 @@ impl Nested for BillFrame {
         }
     }
 
-    ghost children = { children_read };
+    ghost children = { children_by_rows };
 
     ghost nested = { kinds_nested };
 

@@ -6,7 +6,7 @@ ghost use Rattle.cdx_schema.specs.Kinds.{components, a_list, a_record};
 ghost use Rattle.cdx_schema.specs.Table.{rows};
 ghost use Rattle.cdx_json.specs.Groups.{group};
 ghost use Rattle.cdx_write.specs.Spelling.{written, inner};
-ghost use Rattle.cdx_write.specs.WrittenRows.{child_put, rows_written};
+ghost use Rattle.cdx_write.specs.WrittenRows.{child_written, rows_written};
 ghost use Rattle.cdx_write.specs.Writing.{Appends};
 ghost use Rattle.cdx_component.specs.declared.component.Component.{out-Component};
 ghost use Rattle.cdx_component.specs.declared.component.Pedigree.{out-Pedigree};
@@ -150,7 +150,7 @@ fn put_pedigree(
     target: Target,
 ) -> WriteResult
     ensures { Appends writer.old writer.new
-        (child_put name.now (a_record pedigree) (present pedigree_tree held.now) target.version)
+        (child_written name.now (a_record pedigree) (present pedigree_tree held.now) target.version)
         result }
 {
     match held {
@@ -167,7 +167,7 @@ fn put_components(
     target: Target,
 ) -> WriteResult
     ensures { Appends writer.old writer.new
-        (child_put name.now (a_list components) (present components_tree held.now) target.version)
+        (child_written name.now (a_list components) (present components_tree held.now) target.version)
         result }
 {
     match held {

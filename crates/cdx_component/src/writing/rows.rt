@@ -4,7 +4,7 @@
 ghost use Rattle.std.specs.Prelude.{◌≡◌, IfOk};
 ghost use Rattle.cdx_models.specs.Trees.{component};
 ghost use Rattle.cdx_json.specs.Groups.{group};
-ghost use Rattle.cdx_write.specs.WrittenRows.{attributes_put, rows_written};
+ghost use Rattle.cdx_write.specs.WrittenRows.{attributes_written, rows_written};
 ghost use Rattle.cdx_write.specs.Writing.{Appends};
 ghost use Rattle.cdx_component.specs.declared.component.Component.{out-Component};
 ghost use Rattle.cdx_component.specs.Trees.{origin, naming, marks};
@@ -25,7 +25,7 @@ pub(crate) fn component_attributes(
     target: Target,
 ) -> Result<List<OwnedAttribute>, AllocError>
     ensures { IfOk result
-        (λ r. r ≡ attributes_put (origin (out-Component held.now)) target.version
+        (λ r. r ≡ attributes_written (origin (out-Component held.now)) target.version
         (group 0 component)) }
 {
     let mut attributes = List::new(target.alloc);

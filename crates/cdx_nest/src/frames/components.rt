@@ -8,7 +8,7 @@ ghost use Rattle.cdx_nest_machine.specs.Children.{HasReader};
 ghost use Rattle.cdx_nest_machine.specs.Forms.{plan_of, first_of, last_step};
 ghost use Rattle.cdx_component.specs.declared.frames.ComponentKind.{ComponentKind as Kinds};
 ghost use Rattle.cdx_component.specs.Frames.{kind_of, frame_kind as component_frame_kind, frame_fields as component_fields, value_kind as component_value_kind, value_tree as component_value_tree};
-ghost use Rattle.cdx_nest.specs.Frames.{of_component, nest_kind, frame_kind, frame_fields, value_kind, value_tree, reader_of};
+ghost use Rattle.cdx_nest.specs.Frames.{among_components, nest_kind, frame_kind, frame_fields, value_kind, value_tree, reader_of};
 
 use crate::frames::{NestFrame, NestKind, NestValue};
 use cdx_component::{ComponentFrame, ComponentKind, ComponentValue};
@@ -23,7 +23,7 @@ pub(crate) fn begin_in_components(
     kind: ComponentKind,
     opened: &Start<'_>,
 ) -> Result<NestFrame, XmlReadError>
-    ensures sort { IfOk result (λ x. frame_kind x ≡ of_component kind) }
+    ensures sort { IfOk result (λ x. frame_kind x ≡ among_components kind) }
     ensures gives { GivesAt frame_fields (opened.now.place + 1)
         (first_of (kind_of kind) opened.now.element.now.local_name opened.now.attributes.now
         opened.now.version opened.now.place) result }
@@ -33,7 +33,7 @@ pub(crate) fn begin_in_components(
 }
 
 fn kind_among(kind: ComponentKind) -> NestKind
-    ensures { result ≡ of_component kind }
+    ensures { result ≡ among_components kind }
 {
     match kind {
         ComponentKind::Component => NestKind::Component,
@@ -47,8 +47,8 @@ pub(crate) fn child_in_components(
     frame: &ComponentFrame,
     position: usize,
 ) -> Reads<LeafKind, NestKind>
-    requires { HasReader (reader_of (of_component (component_frame_kind frame.now))) position }
-    ensures { reader_of (of_component (component_frame_kind frame.now)) position ≡ Some result }
+    requires { HasReader (reader_of (among_components (component_frame_kind frame.now))) position }
+    ensures { reader_of (among_components (component_frame_kind frame.now)) position ≡ Some result }
 {
     match frame.child(position) {
         Reads::Leaf(kind) => Reads::Leaf(kind),
@@ -58,8 +58,8 @@ pub(crate) fn child_in_components(
 
 // The value, where it is read by the frames of components.
 fn value_within(value: NestValue) -> ComponentValue
-    requires { (k : Kinds) × (value_kind value ≡ of_component k) }
-    ensures sort { of_component (component_value_kind result) ≡ value_kind value }
+    requires { (k : Kinds) × (value_kind value ≡ among_components k) }
+    ensures sort { among_components (component_value_kind result) ≡ value_kind value }
     ensures tree { component_value_tree result ≡ value_tree value }
 {
     match value {
@@ -77,11 +77,11 @@ pub(crate) fn put_in_components(
     alloc: Global,
     value: NestValue,
 ) -> Result<(), AllocError>
-    requires { reader_of (of_component (component_frame_kind frame.old)) position
+    requires { reader_of (among_components (component_frame_kind frame.old)) position
         ≡ Some (Nested (value_kind value)) }
     ensures sort { component_frame_kind frame.new ≡ component_frame_kind frame.old }
     ensures puts { OnOk result (Puts
-        (plan_of (nest_kind (of_component (component_frame_kind frame.old)))).children position
+        (plan_of (nest_kind (among_components (component_frame_kind frame.old)))).children position
         (value_tree value) (component_fields frame.old) (component_fields frame.new)) }
 {
     frame.put(position, alloc, value_within(value))
@@ -92,9 +92,9 @@ pub(crate) fn finish_in_components(
     frame: ComponentFrame,
     closed: &End<'_>,
 ) -> Result<NestValue, XmlReadError>
-    ensures sort { IfOk result (λ x. value_kind x ≡ of_component (component_frame_kind frame)) }
+    ensures sort { IfOk result (λ x. value_kind x ≡ among_components (component_frame_kind frame)) }
     ensures gives { GivesAt value_tree (closed.now.place + 1)
-        (last_step (nest_kind (of_component (component_frame_kind frame)))
+        (last_step (nest_kind (among_components (component_frame_kind frame)))
         closed.now.element.now.local_name closed.now.version closed.now.place
         (component_fields frame)) result }
 {

@@ -8,7 +8,7 @@ ghost use Rattle.cdx_nest_machine.specs.Children.{HasReader};
 ghost use Rattle.cdx_nest_machine.specs.Forms.{plan_of, first_of, last_step};
 ghost use Rattle.cdx_service.specs.declared.frames.ServiceKind.{ServiceKind as Kinds};
 ghost use Rattle.cdx_service.specs.Frames.{kind_of, frame_kind as service_frame_kind, frame_fields as service_fields, value_kind as service_value_kind, value_tree as service_value_tree};
-ghost use Rattle.cdx_nest.specs.Frames.{of_service, nest_kind, frame_kind, frame_fields, value_kind, value_tree, reader_of};
+ghost use Rattle.cdx_nest.specs.Frames.{among_services, nest_kind, frame_kind, frame_fields, value_kind, value_tree, reader_of};
 
 use crate::frames::{NestFrame, NestKind, NestValue};
 use cdx_leaf::{End, Start};
@@ -23,7 +23,7 @@ pub(crate) fn begin_in_services(
     kind: ServiceKind,
     opened: &Start<'_>,
 ) -> Result<NestFrame, XmlReadError>
-    ensures sort { IfOk result (λ x. frame_kind x ≡ of_service kind) }
+    ensures sort { IfOk result (λ x. frame_kind x ≡ among_services kind) }
     ensures gives { GivesAt frame_fields (opened.now.place + 1)
         (first_of (kind_of kind) opened.now.element.now.local_name opened.now.attributes.now
         opened.now.version opened.now.place) result }
@@ -33,7 +33,7 @@ pub(crate) fn begin_in_services(
 }
 
 fn kind_among(kind: ServiceKind) -> NestKind
-    ensures { result ≡ of_service kind }
+    ensures { result ≡ among_services kind }
 {
     match kind {
         ServiceKind::Service => NestKind::Service,
@@ -43,8 +43,8 @@ fn kind_among(kind: ServiceKind) -> NestKind
 
 /// What reads the child of the position.
 pub(crate) fn child_in_services(frame: &ServiceFrame, position: usize) -> Reads<LeafKind, NestKind>
-    requires { HasReader (reader_of (of_service (service_frame_kind frame.now))) position }
-    ensures { reader_of (of_service (service_frame_kind frame.now)) position ≡ Some result }
+    requires { HasReader (reader_of (among_services (service_frame_kind frame.now))) position }
+    ensures { reader_of (among_services (service_frame_kind frame.now)) position ≡ Some result }
 {
     match frame.child(position) {
         Reads::Leaf(kind) => Reads::Leaf(kind),
@@ -54,8 +54,8 @@ pub(crate) fn child_in_services(frame: &ServiceFrame, position: usize) -> Reads<
 
 // The value, where it is read by the frames of services.
 fn value_within(value: NestValue) -> ServiceValue
-    requires { (k : Kinds) × (value_kind value ≡ of_service k) }
-    ensures sort { of_service (service_value_kind result) ≡ value_kind value }
+    requires { (k : Kinds) × (value_kind value ≡ among_services k) }
+    ensures sort { among_services (service_value_kind result) ≡ value_kind value }
     ensures tree { service_value_tree result ≡ value_tree value }
 {
     match value {
@@ -72,11 +72,11 @@ pub(crate) fn put_in_services(
     alloc: Global,
     value: NestValue,
 ) -> Result<(), AllocError>
-    requires { reader_of (of_service (service_frame_kind frame.old)) position
+    requires { reader_of (among_services (service_frame_kind frame.old)) position
         ≡ Some (Nested (value_kind value)) }
     ensures sort { service_frame_kind frame.new ≡ service_frame_kind frame.old }
     ensures puts { OnOk result (Puts
-        (plan_of (nest_kind (of_service (service_frame_kind frame.old)))).children position
+        (plan_of (nest_kind (among_services (service_frame_kind frame.old)))).children position
         (value_tree value) (service_fields frame.old) (service_fields frame.new)) }
 {
     frame.put(position, alloc, value_within(value))
@@ -87,9 +87,9 @@ pub(crate) fn finish_in_services(
     frame: ServiceFrame,
     closed: &End<'_>,
 ) -> Result<NestValue, XmlReadError>
-    ensures sort { IfOk result (λ x. value_kind x ≡ of_service (service_frame_kind frame)) }
+    ensures sort { IfOk result (λ x. value_kind x ≡ among_services (service_frame_kind frame)) }
     ensures gives { GivesAt value_tree (closed.now.place + 1)
-        (last_step (nest_kind (of_service (service_frame_kind frame)))
+        (last_step (nest_kind (among_services (service_frame_kind frame)))
         closed.now.element.now.local_name closed.now.version closed.now.place
         (service_fields frame)) result }
 {

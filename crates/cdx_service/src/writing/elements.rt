@@ -6,7 +6,7 @@ ghost use Rattle.cdx_schema.specs.Kinds.{services, a_list, a_record};
 ghost use Rattle.cdx_schema.specs.Table.{rows};
 ghost use Rattle.cdx_json.specs.Groups.{group};
 ghost use Rattle.cdx_write.specs.Spelling.{written, inner};
-ghost use Rattle.cdx_write.specs.WrittenRows.{child_put, rows_written};
+ghost use Rattle.cdx_write.specs.WrittenRows.{child_written, rows_written};
 ghost use Rattle.cdx_write.specs.Writing.{Appends};
 ghost use Rattle.cdx_service.specs.declared.service.Service.{out-Service};
 ghost use Rattle.cdx_service.specs.Trees.{service_tree, services_tree, service_contents, service_fields};
@@ -112,7 +112,7 @@ fn put_services(
     target: Target,
 ) -> WriteResult
     ensures { Appends writer.old writer.new
-        (child_put name.now (a_list services) (present services_tree held.now) target.version)
+        (child_written name.now (a_list services) (present services_tree held.now) target.version)
         result }
 {
     match held {

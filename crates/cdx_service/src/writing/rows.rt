@@ -4,7 +4,7 @@
 ghost use Rattle.std.specs.Prelude.{◌≡◌, IfOk};
 ghost use Rattle.cdx_models.specs.Trees.{service};
 ghost use Rattle.cdx_json.specs.Groups.{group};
-ghost use Rattle.cdx_write.specs.WrittenRows.{attributes_put, rows_written};
+ghost use Rattle.cdx_write.specs.WrittenRows.{attributes_written, rows_written};
 ghost use Rattle.cdx_write.specs.Writing.{Appends};
 ghost use Rattle.cdx_service.specs.declared.service.Service.{out-Service};
 ghost use Rattle.cdx_service.specs.Trees.{service_naming, service_access};
@@ -22,7 +22,7 @@ pub(crate) fn service_attributes(
     target: Target,
 ) -> Result<List<OwnedAttribute>, AllocError>
     ensures { IfOk result
-        (λ r. r ≡ attributes_put (service_naming (out-Service held.now)) target.version
+        (λ r. r ≡ attributes_written (service_naming (out-Service held.now)) target.version
         (group 0 service)) }
 {
     let mut attributes = List::new(target.alloc);

@@ -5,7 +5,7 @@ ghost use Rattle.serde_json.specs.View.{view};
 ghost use Rattle.cdx_schema.specs.Roads.{Doc as SchemaDoc};
 ghost use Rattle.cdx_bom.specs.Docs.{AreDocs};
 ghost use Rattle.cdx_request.specs.Refusals.{only as alone};
-ghost use Rattle.cdx_request.specs.Replies.{documents_answer as documents_in};
+ghost use Rattle.cdx_request.specs.Replies.{documents_value as documents_in};
 ghost use Rattle.cdx_tool.specs.Shows.{doc_shown};
 
 use crate::events::events_to_json;
@@ -37,7 +37,7 @@ impl Shown for Doc {
 
 /// The answer of the documents: `{"documents":[..]}` with each in order, as `{"json":value}` or `{"xml":[events]}`. Only
 /// want of memory refuses.
-pub fn documents_answer(alloc: Global, docs: &Items<Doc>) -> Result<Value, AllocError>
+pub fn documents_value(alloc: Global, docs: &Items<Doc>) -> Result<Value, AllocError>
     ensures { (xs : List SchemaDoc) → AreDocs docs.now xs
         → IfOk result (λ v. view v ≡ documents_in xs) }
 {

@@ -5,13 +5,13 @@ ghost use Rattle.serde_json.specs.View.{view};
 ghost use Rattle.serde_json.specs.Written.{has_float};
 ghost use Rattle.cdx_schema.specs.Roads.{Doc as SchemaDoc, Refusal, road as road_of};
 ghost use Rattle.cdx_bom.specs.Docs.{AreDocs, Refuses};
-ghost use Rattle.cdx_request.specs.Requests.{Request as Asked, json_of, request_of, request_in};
-ghost use Rattle.cdx_request.specs.Refusals.{unbalanced_answer as unbalanced_at};
-ghost use Rattle.cdx_request.specs.Replies.{line_of, reply, no_request, reply_to, reply_to_request, reply_to_road, documents_answer as documents_in};
+ghost use Rattle.cdx_request.specs.Requests.{Request as Asked, document_in_json, request_of, request_in};
+ghost use Rattle.cdx_request.specs.Refusals.{imbalance_value as unbalanced_at};
+ghost use Rattle.cdx_request.specs.Replies.{line_of, reply, no_request, reply_to, reply_to_request, reply_to_road, documents_value as documents_in};
 ghost use Rattle.cdx_tool.specs.Reads.{IsRequest};
 ghost use Rattle.cdx_tool.specs.Shows.{reply_of};
 
-use super::refused::{refused_answer, unbalanced_answer};
+use super::refused::{imbalance_value, refusal_value};
 use super::text::documents_line;
 use super::{Answer, LIMIT};
 use crate::request::{Request, RequestError, take_request};
@@ -23,7 +23,7 @@ use std::alloc::{AllocError, Global};
 
 /// The value that the bytes are, or none where `serde_json` has no reading of them. Only want of memory refuses.
 pub fn read_json(alloc: Global, bytes: &[u8]) -> Result<Option<Value>, AllocError>
-    ensures { IfOk result (λ o. option_map view o ≡ json_of bytes.now) }
+    ensures { IfOk result (λ o. option_map view o ≡ document_in_json bytes.now) }
 {
     match Value::from_slice(alloc, bytes) {
         Ok(value) => Ok(Some(value)),
@@ -76,7 +76,7 @@ fn answer_refused(alloc: Global, error: RoadError) -> Result<Answer, AllocError>
     match error {
         RoadError::Memory(error) => Err(error),
         error => {
-            let value = refused_answer(alloc, &error)?;
+            let value = refusal_value(alloc, &error)?;
             answer_value(alloc, REFUSED, &value)
         }
     }
@@ -111,7 +111,7 @@ fn answer_request(alloc: Global, request: Request) -> Result<Answer, AllocError>
 fn answer_unbalanced(alloc: Global, place: usize) -> Result<Answer, AllocError>
     ensures { IfOk result (λ a. reply_of a ≡ reply 1 (unbalanced_at place)) }
 {
-    let value = unbalanced_answer(alloc, place)?;
+    let value = imbalance_value(alloc, place)?;
     answer_value(alloc, REFUSED, &value)
 }
 
@@ -142,9 +142,9 @@ pub(crate) fn answer_within(alloc: Global, bytes: &[u8]) -> Result<Answer, Alloc
 /// - 2, `{"request":"not JSON"}`: `serde_json` has no reading of them, which ends at 127 nested arrays and objects.
 /// - 2, `{"request":"shape"}`: the value is no request by `read_request`.
 /// - 1, `{"refused":{"cause":"unbalanced","place":p}}`: its document's events break at p.
-/// - 1, `{"refused":{..}}` by `refused_answer`: its document has this first fault, or denotes a bill that lacks a version
+/// - 1, `{"refused":{..}}` by `refusal_value`: its document has this first fault, or denotes a bill that lacks a version
 ///   which a hop asks for.
-/// - 0, `{"documents":[..]}` by `documents_answer`: the documents of its road, one for each hop.
+/// - 0, `{"documents":[..]}` by `documents_value`: the documents of its road, one for each hop.
 pub fn answer_bytes(alloc: Global, bytes: &[u8]) -> Result<Answer, AllocError>
     ensures { IfOk result (λ a. reply_of a ≡ reply_to bytes.now) }
 {

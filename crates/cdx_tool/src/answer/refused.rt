@@ -4,7 +4,7 @@ ghost use Rattle.std.specs.Prelude.{◌≡◌, Some, IfOk, IsSome};
 ghost use Rattle.serde_json.specs.View.{view};
 ghost use Rattle.cdx_schema.specs.Roads.{Refusal};
 ghost use Rattle.cdx_bom.specs.Docs.{refusal_of};
-ghost use Rattle.cdx_request.specs.Refusals.{json_cause, json_members, namespace_members, with_actual, xml_members, refused, refused_answer as refused_for, unbalanced_answer as unbalanced_at};
+ghost use Rattle.cdx_request.specs.Refusals.{json_cause, json_members, namespace_members, with_actual, xml_members, refused, refusal_value as refused_for, imbalance_value as unbalanced_at};
 
 use cdx_bom::RoadError;
 use cdx_events::Text;
@@ -112,7 +112,7 @@ fn xml_refused(alloc: Global, fault: &XmlReadError) -> Result<Value, AllocError>
 /// - `too deep`.
 ///
 /// A bill that lacks a version that a hop asks for has the `cause` `version missing` alone. Only want of memory refuses.
-pub fn refused_answer(alloc: Global, error: &RoadError) -> Result<Value, AllocError>
+pub fn refusal_value(alloc: Global, error: &RoadError) -> Result<Value, AllocError>
     requires { IsSome (refusal_of error.now) }
     ensures { (r : Refusal) → refusal_of error.now ≡ Some r
         → IfOk result (λ v. view v ≡ refused_for r) }
@@ -128,7 +128,7 @@ pub fn refused_answer(alloc: Global, error: &RoadError) -> Result<Value, AllocEr
 
 /// The answer to a document whose events break at the place: `{"refused":{"cause":"unbalanced","place":p}}`. Only
 /// want of memory refuses.
-pub fn unbalanced_answer(alloc: Global, place: usize) -> Result<Value, AllocError>
+pub fn imbalance_value(alloc: Global, place: usize) -> Result<Value, AllocError>
     ensures { IfOk result (λ v. view v ≡ unbalanced_at place) }
 {
     json!(in alloc; {"refused": {"cause": "unbalanced", "place": place}})

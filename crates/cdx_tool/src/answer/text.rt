@@ -6,7 +6,7 @@ ghost use Rattle.serde_json.specs.Written.{has_float, items_have_float, compact_
 ghost use Rattle.cdx_schema.specs.Roads.{Doc as SchemaDoc};
 ghost use Rattle.cdx_bom.specs.Docs.{AreDocs};
 ghost use Rattle.cdx_request.specs.EventValues.{events_value};
-ghost use Rattle.cdx_request.specs.Replies.{line_of, documents_answer as documents_in};
+ghost use Rattle.cdx_request.specs.Replies.{line_of, documents_value as documents_in};
 ghost use Rattle.cdx_tool.specs.Shows.{doc_shown, docs_shown};
 
 use crate::events::print_events;
@@ -48,7 +48,7 @@ fn push_doc(alloc: Global, text: &mut String, doc: &Doc) -> Result<(), AllocErro
     }
 }
 
-/// The line of `documents_answer`, where the documents hold no float: without its value, so that no document is copied.
+/// The line of `documents_value`, where the documents hold no float: without its value, so that no document is copied.
 pub(crate) fn documents_line(alloc: Global, docs: &Items<Doc>) -> Result<Text, AllocError>
     requires { items_have_float (docs_shown docs.now) ≡ false }
     ensures { (xs : List SchemaDoc) → AreDocs docs.now xs

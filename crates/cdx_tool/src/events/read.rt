@@ -4,7 +4,7 @@ ghost use Rattle.std.specs.Prelude.{◌≡◌, ◌+◌, option_map, IfOk, IsNone
 ghost use Rattle.serde_json.specs.Data.{object, member, no_members, string};
 ghost use Rattle.serde_json.specs.View.{view};
 ghost use Rattle.cdx_tool.specs.LoneMember.{lone_member};
-ghost use Rattle.cdx_request.specs.EventReading.{name_at, name_count, attribute_meant, if_attributes, mark_of, start_count, start_parts, start_event, end_event, event_of, events_of};
+ghost use Rattle.cdx_request.specs.EventReading.{name_at, members_of_name, attribute_meant, if_attributes, mark_of, members_of_start, start_parts, start_event, end_event, event_of, events_of};
 
 use crate::part::{
     RequestPart, count_members, count_named, has_member, lone_member, read_items, read_text_if,
@@ -14,7 +14,11 @@ use cdx_events::{List as Items, Namespace, OwnedAttribute, OwnedName, Text, XmlE
 use serde_json::Value;
 use std::alloc::{AllocError, Global};
 
-fn read_name(alloc: Global, value: &Value, local: &str) -> Result<Option<OwnedName>, AllocError>
+fn read_event_name(
+    alloc: Global,
+    value: &Value,
+    local: &str,
+) -> Result<Option<OwnedName>, AllocError>
     ensures { IfOk result (λ o. o ≡ name_at local.now (view value.now)) }
 {
     let Some(local_name) = text_at(value, local) else {
@@ -35,7 +39,7 @@ fn read_name(alloc: Global, value: &Value, local: &str) -> Result<Option<OwnedNa
 }
 
 fn count_name(value: &Value) -> usize
-    ensures { result ≡ name_count (view value.now) }
+    ensures { result ≡ members_of_name (view value.now) }
 {
     1 + count_named(value, "uri") + count_named(value, "prefix")
 }
@@ -47,7 +51,7 @@ impl RequestPart for OwnedAttribute {
         if count_members(value) != count_name(value) + 1 {
             return Ok(None);
         }
-        let Some(name) = read_name(alloc, value, "name")? else {
+        let Some(name) = read_event_name(alloc, value, "name")? else {
             return Ok(None);
         };
         let Some(text) = text_at(value, "value") else {
@@ -59,7 +63,7 @@ impl RequestPart for OwnedAttribute {
 }
 
 // No attributes, or those of an array.
-fn read_attributes(
+fn read_event_attributes(
     alloc: Global,
     value: Option<&Value>,
 ) -> Result<Option<Items<OwnedAttribute>>, AllocError>
@@ -85,7 +89,7 @@ fn mark(text: &str) -> Option<Event>
 }
 
 fn count_start(value: &Value) -> usize
-    ensures { result ≡ start_count (view value.now) }
+    ensures { result ≡ members_of_start (view value.now) }
 {
     count_name(value) + count_named(value, "default") + count_named(value, "attributes")
 }
@@ -93,13 +97,13 @@ fn count_start(value: &Value) -> usize
 fn read_start_parts(alloc: Global, value: &Value) -> Result<Option<Event>, AllocError>
     ensures { IfOk result (λ o. o ≡ start_parts (view value.now)) }
 {
-    let Some(name) = read_name(alloc, value, "element")? else {
+    let Some(name) = read_event_name(alloc, value, "element")? else {
         return Ok(None);
     };
     let Some(default) = read_text_if(alloc, value.get("default"))? else {
         return Ok(None);
     };
-    let Some(attributes) = read_attributes(alloc, value.get("attributes"))? else {
+    let Some(attributes) = read_event_attributes(alloc, value.get("attributes"))? else {
         return Ok(None);
     };
     Ok(Some(Event::StartElement {
@@ -109,7 +113,7 @@ fn read_start_parts(alloc: Global, value: &Value) -> Result<Option<Event>, Alloc
     }))
 }
 
-fn read_start(alloc: Global, value: &Value) -> Result<Option<Event>, AllocError>
+fn read_start_event(alloc: Global, value: &Value) -> Result<Option<Event>, AllocError>
     ensures { IfOk result (λ o. o ≡ start_event (view value.now)) }
 {
     if count_members(value) != count_start(value) {
@@ -124,7 +128,7 @@ fn read_end(alloc: Global, value: &Value) -> Result<Option<Event>, AllocError>
     if count_members(value) != count_name(value) {
         return Ok(None);
     }
-    match read_name(alloc, value, "end")? {
+    match read_event_name(alloc, value, "end")? {
         None => Ok(None),
         Some(name) => Ok(Some(Event::EndElement { name })),
     }
@@ -170,7 +174,7 @@ fn read_several(alloc: Global, value: &Value) -> Result<Option<Event>, AllocErro
     if has_member(value, "document") {
         Ok(None)
     } else if has_member(value, "element") {
-        read_start(alloc, value)
+        read_start_event(alloc, value)
     } else if has_member(value, "end") {
         read_end(alloc, value)
     } else {

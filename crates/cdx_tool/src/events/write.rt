@@ -2,7 +2,7 @@
 
 ghost use Rattle.std.specs.Prelude.{◌≡◌, [], ◌∷◌, ◌++◌, map as each, IfOk, OnOk};
 ghost use Rattle.serde_json.specs.View.{view, members_view};
-ghost use Rattle.cdx_request.specs.EventValues.{text_put, with_name, attribute_value, with_attributes, one_text, event_value, events_value};
+ghost use Rattle.cdx_request.specs.EventValues.{with_optional_text, with_name, attribute_value, with_attributes, one_text, event_value, events_value};
 
 use crate::shown::{Shown, items_to_json};
 use cdx_events::{
@@ -18,7 +18,7 @@ fn put_text(
     text: &Option<Text>,
 ) -> Result<(), AllocError>
     ensures { OnOk result (members_view map.new.entries
-        ≡ text_put name.now text.now (members_view map.old.entries)) }
+        ≡ with_optional_text name.now text.now (members_view map.old.entries)) }
 {
     match text {
         None => Ok(()),

@@ -7,7 +7,7 @@ ghost use Rattle.std.specs.Prelude.{codes};
 ghost use Rattle.cdx_bom.specs.Docs.{IsDoc, hops_of};
 ghost use Rattle.cdx_request.specs.Requests.{sent_of, sent_under, doc_of, doc_in, hops_at, asked_of, request_if, request_of};
 ghost use Rattle.cdx_request.specs.EventReading.{events_of};
-ghost use Rattle.cdx_tool.specs.Reads.{ReadsOwed, ReadsIf, IsRequest, sent_in, asked_in, form_read, hop_read};
+ghost use Rattle.cdx_tool.specs.Reads.{ReadsOwed, ReadsIf, IsRequest, sent_in, asked_in, form_in, hop_in};
 
 use super::sent::{Asked, Sent};
 use super::{Request, RequestError};
@@ -23,7 +23,7 @@ use std::alloc::{AllocError, Global};
 // ---- the hops
 
 fn read_form(text: &str) -> Option<Form>
-    ensures { result ≡ form_read text.now }
+    ensures { result ≡ form_in text.now }
 {
     match text {
         "json" => Some(Form::Json),
@@ -33,7 +33,7 @@ fn read_form(text: &str) -> Option<Form>
 }
 
 fn read_hop(value: &Value) -> Option<Hop>
-    ensures { result ≡ hop_read (view value.now) }
+    ensures { result ≡ hop_in (view value.now) }
 {
     if count_members(value) != 2 {
         return None;
@@ -44,7 +44,7 @@ fn read_hop(value: &Value) -> Option<Hop>
 }
 
 impl RequestPart for Hop {
-    ghost part_of = { hop_read };
+    ghost part_of = { hop_in };
 
     fn from_value(alloc: Global, value: &Value) -> Result<Option<Hop>, AllocError> {
         Ok(read_hop(value))

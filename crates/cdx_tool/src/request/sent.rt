@@ -15,7 +15,10 @@ pub(crate) enum Sent {
 /// The parts of a request with such a document.
 #[derive(Drop)]
 pub(crate) struct Asked {
+    /// The version that the document is read in.
     pub from: SpecVersion,
+    /// The document.
     pub sent: Sent,
+    /// The hops of its road, in their order.
     pub hops: List<Hop>,
 }

@@ -1,4 +1,4 @@
-use Rattle.cdx_write.specs.WrittenRows.{child_put, filled_put}
+use Rattle.cdx_write.specs.WrittenRows.{child_written, filled_written}
 use Rattle.cdx_write.proofs.RowWords.{appends_same, nothing_added, filled_none, filled_hollow, filled_there}
 use Rattle.cdx_write.proofs.row.put_filled_child.Goals as goal
 
@@ -15,5 +15,5 @@ returns-else-is_hollow g c =
     let x = c.in-Some.held in
     let k = g.T.Kinded.kind in
     let t = g.T.HasTree.tree x in
-    rw c.in-Some.is (appends_same c.args.writer.now c.put_required_child.new.writer (child_put c.args.name.now k t c.args.target.version) (filled_put c.args.name.now k t c.args.target.version) c.put_required_child.result
+    rw c.in-Some.is (appends_same c.args.writer.now c.put_required_child.new.writer (child_written c.args.name.now k t c.args.target.version) (filled_written c.args.name.now k t c.args.target.version) c.put_required_child.result
     (filled_there c.args.name.now k t c.args.target.version c.is_hollow.result (g.met.T.Filled.keeps_hollow x) c.is_hollow.ensures c.if-is_hollow.false) c.put_required_child.ensures)

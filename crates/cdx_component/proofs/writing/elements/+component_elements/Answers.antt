@@ -8,7 +8,7 @@ use Rattle.cdx_schema.specs.Table.{rows, list}
 use Rattle.cdx_json.specs.Groups.{group}
 use Rattle.cdx_write.specs.Listed.{item_put}
 use Rattle.cdx_write.specs.Spelling.{written, inner}
-use Rattle.cdx_write.specs.WrittenRows.{child_put, rows_written}
+use Rattle.cdx_write.specs.WrittenRows.{child_written, rows_written}
 use Rattle.cdx_write.specs.Writing.{opening, start_tag, end_tag}
 use Rattle.cdx_write.proofs.Appended.{first_fails, then_all, last_row, item_fails, item_written, items_end}
 use Rattle.cdx_write.proofs.Lists.{items_put}
@@ -298,7 +298,7 @@ put_pedigree-returns-in-None t c =
 pub put_pedigree-returns-in-Some : goal.put_pedigree-returns-in-Some
 put_pedigree-returns-in-Some t c =
     let x = c.in-Some.held in
-    rw c.in-Some.is (appends_same c.args.writer.now c.write_pedigree.new.writer (written (pedigree_tree x) c.args.target.version c.args.name.now (a_record pedigree)) (child_put c.args.name.now (a_record pedigree) (pedigree_tree x) c.args.target.version) c.write_pedigree.result
+    rw c.in-Some.is (appends_same c.args.writer.now c.write_pedigree.new.writer (written (pedigree_tree x) c.args.target.version c.args.name.now (a_record pedigree)) (child_written c.args.name.now (a_record pedigree) (pedigree_tree x) c.args.target.version) c.write_pedigree.result
     (pedigree_child c.args.name.now c.args.target.version x) c.write_pedigree.ensures)
 
 pub put_components-returns-in-None : goal.put_components-returns-in-None
@@ -308,5 +308,5 @@ put_components-returns-in-None t c =
 pub put_components-returns-in-Some : goal.put_components-returns-in-Some
 put_components-returns-in-Some t c =
     let x = c.in-Some.held in
-    rw c.in-Some.is (appends_same c.args.writer.now c.write_components.new.writer (written (components_tree x) c.args.target.version c.args.name.now (a_list components)) (child_put c.args.name.now (a_list components) (components_tree x) c.args.target.version) c.write_components.result
+    rw c.in-Some.is (appends_same c.args.writer.now c.write_components.new.writer (written (components_tree x) c.args.target.version c.args.name.now (a_list components)) (child_written c.args.name.now (a_list components) (components_tree x) c.args.target.version) c.write_components.result
     (components_child c.args.name.now c.args.target.version x) c.write_components.ensures)

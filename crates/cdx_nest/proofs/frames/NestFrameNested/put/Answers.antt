@@ -1,5 +1,5 @@
 use Rattle.std.proofs.Common.{ap}
-use Rattle.cdx_nest.specs.Frames.{of_component, of_service}
+use Rattle.cdx_nest.specs.Frames.{among_components, among_services}
 use Rattle.cdx_nest.proofs.frames.NestFrameNested.put.Goals as goal
 
 pub put_in_components-requires : goal.put_in_components-requires
@@ -15,13 +15,13 @@ pub put_metadata_part-requires : goal.put_metadata_part-requires
 put_metadata_part-requires c = rw c.in-Metadata.is at c.requires
 
 pub returns-in-Component-clause-sort : goal.returns-in-Component-clause-sort
-returns-in-Component-clause-sort c = rw c.in-Component.is (ap of_component c.put_in_components.ensures.sort)
+returns-in-Component-clause-sort c = rw c.in-Component.is (ap among_components c.put_in_components.ensures.sort)
 
 pub returns-in-Component-clause-puts : goal.returns-in-Component-clause-puts
 returns-in-Component-clause-puts c = rw c.in-Component.is c.put_in_components.ensures.puts
 
 pub returns-in-Service-clause-sort : goal.returns-in-Service-clause-sort
-returns-in-Service-clause-sort c = rw c.in-Service.is (ap of_service c.put_in_services.ensures.sort)
+returns-in-Service-clause-sort c = rw c.in-Service.is (ap among_services c.put_in_services.ensures.sort)
 
 pub returns-in-Service-clause-puts : goal.returns-in-Service-clause-puts
 returns-in-Service-clause-puts c = rw c.in-Service.is c.put_in_services.ensures.puts

@@ -8,7 +8,7 @@ use Rattle.cdx_schema.specs.Table.{rows, list}
 use Rattle.cdx_json.specs.Groups.{group}
 use Rattle.cdx_write.specs.Listed.{item_put}
 use Rattle.cdx_write.specs.Spelling.{written, inner}
-use Rattle.cdx_write.specs.WrittenRows.{child_put, rows_written}
+use Rattle.cdx_write.specs.WrittenRows.{child_written, rows_written}
 use Rattle.cdx_write.specs.Writing.{opening, start_tag, end_tag}
 use Rattle.cdx_write.proofs.Appended.{first_fails, then_all, last_row, item_fails, item_written, items_end}
 use Rattle.cdx_write.proofs.Lists.{items_put}
@@ -177,5 +177,5 @@ put_services-returns-in-None t c =
 pub put_services-returns-in-Some : goal.put_services-returns-in-Some
 put_services-returns-in-Some t c =
     let x = c.in-Some.held in
-    rw c.in-Some.is (appends_same c.args.writer.now c.write_services.new.writer (written (services_tree x) c.args.target.version c.args.name.now (a_list services)) (child_put c.args.name.now (a_list services) (services_tree x) c.args.target.version) c.write_services.result
+    rw c.in-Some.is (appends_same c.args.writer.now c.write_services.new.writer (written (services_tree x) c.args.target.version c.args.name.now (a_list services)) (child_written c.args.name.now (a_list services) (services_tree x) c.args.target.version) c.write_services.result
     (services_child c.args.name.now c.args.target.version x) c.write_services.ensures)

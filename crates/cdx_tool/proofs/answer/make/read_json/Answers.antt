@@ -4,10 +4,10 @@ use Rattle.std.proofs.lemmas.Str.{IsUtf8-from_is_utf8, is_utf8-from_IsUtf8}
 use Rattle.serde_json.specs.Data.{Data}
 use Rattle.serde_json.specs.Read.{read}
 use Rattle.serde_json.specs.View.{view}
-use Rattle.cdx_request.specs.Requests.{json_of}
+use Rattle.cdx_request.specs.Requests.{document_in_json}
 use Rattle.cdx_tool.proofs.answer.make.read_json.Goals as goal
 
-is_value : (bytes : List ℕ) (d : Data) → IsUtf8 bytes → read bytes ≡ Some d → Some d ≡ json_of bytes
+is_value : (bytes : List ℕ) (d : Data) → IsUtf8 bytes → read bytes ≡ Some d → Some d ≡ document_in_json bytes
 is_value bytes d u r = rw (is_utf8-from_IsUtf8 bytes u) (sym r)
 
 is_none : (b : Bool) (r : Option Data) → (b ≡ true → r ≡ None) → None ≡ cond b r None

@@ -3,7 +3,7 @@ use Rattle.serde_json.specs.View.{members_view}
 use Rattle.cdx_schema.specs.JsonReading.{seen}
 use Rattle.cdx_json.specs.Depths.{depth_of}
 use Rattle.cdx_bom.proofs.Formats.{format_ok, format_bad, format_err}
-use Rattle.cdx_bom.proofs.bom.json.read_format.Goals as goal
+use Rattle.cdx_bom.proofs.bom.json.check_format.Goals as goal
 
 pub returns-in_err-format : goal.returns-in_err-format
 returns-in_err-format c =

@@ -4,7 +4,7 @@ use Rattle.serde_json.specs.View.{view, items_of}
 use Rattle.cdx_request.specs.Refusals.{only}
 use Rattle.cdx_tool.specs.Shows.{doc_shown}
 use Rattle.cdx_tool.proofs.Answering.{docs_are}
-use Rattle.cdx_tool.proofs.answer.documents.documents_answer.Goals as goal
+use Rattle.cdx_tool.proofs.answer.documents.documents_value.Goals as goal
 
 pub returns : goal.returns
 returns c = λ xs are.
