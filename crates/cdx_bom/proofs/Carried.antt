@@ -33,7 +33,7 @@ use Rattle.cdx_bom.specs.declared.doc.RoadError.TheVariants as error
 use Rattle.cdx_bom.specs.Trees.{bom_tree}
 use Rattle.cdx_bom.specs.Docs.{IsDoc, AreDocs, refusal_of, Refuses, AnswersDocs, alone, hop_of, hops_of}
 use Rattle.cdx_bom.specs.Refused.{of_json_error, of_xml_error}
-use Rattle.cdx_bom.specs.Hops.{any_first, DenotesBill, hop_document, rewritten}
+use Rattle.cdx_bom.specs.Hops.{any_first, hop_document, rewritten}
 
 -- ---- refusals
 

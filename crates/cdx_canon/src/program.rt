@@ -37,7 +37,8 @@ fn answer_bill(alloc: Global, bill: Bom) -> Result<Answer, AllocError>
 
 // The canonical text of the bill that the value asks about.
 fn answer_text(alloc: Global, value: Value) -> Result<Answer, AllocError>
-    ensures { IfOk result (λ a. reply_of a ≡ reply_to_bill canonical_answer (bill_in (view value))) }
+    ensures { IfOk result
+        (λ a. reply_of a ≡ reply_to_bill canonical_answer (bill_in (view value))) }
 {
     match take_bill(alloc, value) {
         Ok(bill) => answer_bill(alloc, bill),

@@ -173,7 +173,8 @@ impl Components {
 
     /// Appends a component. Where there is no memory, the list is as before and the component is dropped.
     pub fn push(&mut self, item: Component) -> Result<(), AllocError>
-        ensures ok { OnOk result (listed_components self.new ≡ listed_components self.old ++ item ∷ []) }
+        ensures ok { OnOk result
+            (listed_components self.new ≡ listed_components self.old ++ item ∷ []) }
         ensures err { OnErr result (listed_components self.new ≡ listed_components self.old) }
     {
         self.items.push(item)?;

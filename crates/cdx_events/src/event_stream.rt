@@ -19,7 +19,8 @@ pub trait EventSource {
     /// Takes the first event that is left, or gives `None` exactly where none is. `Failed` comes only where the
     /// count rose, and leaves what is left.
     fn next(&mut self) -> Result<Option<XmlEvent>, Failed>
-        ensures events { MatchResult result (λ given. GivesNext (left self.old) (left self.new) given)
+        ensures events { MatchResult result
+            (λ given. GivesNext (left self.old) (left self.new) given)
             (λ _. Keeps (left self.old) (left self.new)) }
         ensures cause { HasCause (faults self.old) (faults self.new) result };
 }

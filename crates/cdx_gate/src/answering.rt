@@ -50,7 +50,8 @@ pub(crate) fn answer_words<K: Sink>(alloc: Global, sink: &mut K) -> u8
 // Answers one line.
 #[tactic(auto, unfolding(crate::specs::Lines::line_reply))]
 fn answer_line<K: Sink>(alloc: Global, line: &[u8], sink: &mut K) -> Result<(), u8>
-    ensures ok { OnOk result (Appends (K.written sink.old) (K.written sink.new) (line_reply line.now)) }
+    ensures ok { OnOk result
+        (Appends (K.written sink.old) (K.written sink.new) (line_reply line.now)) }
     ensures flushed { OnOk result (IsFlushed (K.written sink.new) (K.flushed sink.new)) }
     ensures ok_cause { OnOk result (K.faults sink.new ≡ K.faults sink.old) }
     ensures err { IfErr result (λ status.

@@ -55,7 +55,8 @@ pub fn has_value(map: &Members, name: &str) -> bool
 /// there and not null, else its old name.
 pub fn first_or_old<'n>(map: &Members, name: &'n str, old_name: &'n str) -> &'n str
     ensures { result.now
-        ≡ reading.first_or_old (seen (members_view map.now.entries) name.now) name.now old_name.now }
+        ≡ reading.first_or_old (seen (members_view map.now.entries) name.now) name.now
+        old_name.now }
 {
     if has_value(map, name) { name } else { old_name }
 }

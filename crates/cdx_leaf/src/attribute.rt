@@ -84,7 +84,8 @@ pub fn attribute_since(
     expected: &str,
 ) -> Result<Option<Text>, AllocError>
     ensures { IfOk result (λ o. o
-        ≡ known_since since opened.now.version (find_attribute expected.now opened.now.attributes.now)) }
+        ≡ known_since since opened.now.version
+        (find_attribute expected.now opened.now.attributes.now)) }
 {
     if since.is_known_to(opened.version) {
         attribute_or_none(opened.alloc, opened.attributes, expected)

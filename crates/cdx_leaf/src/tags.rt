@@ -180,7 +180,8 @@ fn number_after(
 ) -> Result<u32, XmlReadError>
     requires at { IsAt reader.old element.now }
     requires place { reader.old.place ≡ suc place }
-    ensures { (nodes : Nodes) (rest : List XmlEvent) → WithinElement reader.old element.now nodes rest
+    ensures { (nodes : Nodes) (rest : List XmlEvent)
+        → WithinElement reader.old element.now nodes rest
         → Reads number reader.old reader.new (behind_end reader.old nodes rest)
         (number_alone (number_of (trim text.now)) text.now nodes element.now.local_name place)
         result }
@@ -224,7 +225,8 @@ pub fn read_u32_tag(
 /// Moves past the element's end, whatever stands in it and however deep. It takes no memory.
 pub fn read_lax_validation_tag(reader: &mut EventReader<'_>, element: &OwnedName)
     requires { IsAt reader.old element.now }
-    ensures { (nodes : Nodes) (rest : List XmlEvent) → WithinElement reader.old element.now nodes rest
+    ensures { (nodes : Nodes) (rest : List XmlEvent)
+        → WithinElement reader.old element.now nodes rest
         → reader.new ≡ behind_end reader.old nodes rest }
 {
     let mut depth: usize = 0;

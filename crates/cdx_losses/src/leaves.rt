@@ -33,7 +33,8 @@ use std::alloc::AllocError;
 
 fn lose_license(road: Road, license: &License, walk: &mut Walk) -> Result<(), AllocError>
     ensures { OnOk result
-        (AddsLosses (lost road.version road.trips (license_tree license.now) (a_record license_record))
+        (AddsLosses
+        (lost road.version road.trips (license_tree license.now) (a_record license_record))
         walk.old walk.new) }
 {
     walk.record_member("bom-ref", road.unknown(SpecVersion::V1_5, &license.bom_ref))?;

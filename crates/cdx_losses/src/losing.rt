@@ -21,7 +21,8 @@ pub(crate) trait Losing {
 
     /// Adds what the road takes: the value whole, or what stands inside it. Only want of memory refuses.
     fn lose(&self, road: Road, walk: &mut Walk) -> Result<(), AllocError>
-        ensures { OnOk result (AddsLosses (value_lost road (tree self.now) kind) walk.old walk.new) };
+        ensures { OnOk result
+            (AddsLosses (value_lost road (tree self.now) kind) walk.old walk.new) };
 }
 
 /// What the road takes of a member.
@@ -32,7 +33,8 @@ pub(crate) fn lose_row<T: Losing>(
     walk: &mut Walk,
 ) -> Result<(), AllocError>
     ensures { OnOk result
-        (AddsLosses (behind_step (to_member name.now) (value_lost road (present T.tree held.now) T.kind))
+        (AddsLosses
+        (behind_step (to_member name.now) (value_lost road (present T.tree held.now) T.kind))
         walk.old walk.new) }
 {
     match held {

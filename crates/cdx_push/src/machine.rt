@@ -43,7 +43,8 @@ impl Listener for LeafMachine {
     ghost use Rattle.cdx_machine.specs.Heard.{heard_by};
     ghost use Rattle.cdx_push.specs.Leaf.{leaf_kind};
 
-    ghost heard = { λ m. heard_by ⟦<Leaf as Leaves>⟧.holds leaf_kind m.kind m.version m.place top m.machine };
+    ghost heard = { λ m. heard_by ⟦<Leaf as Leaves>⟧.holds leaf_kind m.kind m.version m.place
+        top m.machine };
 }
 
 impl LeafMachine {

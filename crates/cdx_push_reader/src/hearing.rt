@@ -64,7 +64,8 @@ impl<M: RootMachine> Hearing<M> {
     // cleared with each event.
     fn open(&mut self, place: usize, event: &XmlEvent) -> Result<(), XmlReadError>
         ensures moves { Moves M.holds M.tree self.old.version Before place event.now
-            (λ events _. StandsAtStage M.holds M.tree self.new.version self.new.stage events) result }
+            (λ events _. StandsAtStage M.holds M.tree self.new.version self.new.stage events)
+            result }
         ensures balance { self.new.balance ≡ self.old.balance }
         ensures version { self.new.version ≡ self.old.version }
     {
@@ -92,7 +93,8 @@ impl<M: RootMachine> Hearing<M> {
     pub(crate) fn go_on(&mut self, place: usize, event: &XmlEvent) -> Result<(), XmlReadError>
         requires { CanGoOn M.holds M.tree self.old.version self.old.stage place event.now }
         ensures moves { Moves M.holds M.tree self.old.version self.old.stage place event.now
-            (λ events _. StandsAtStage M.holds M.tree self.new.version self.new.stage events) result }
+            (λ events _. StandsAtStage M.holds M.tree self.new.version self.new.stage events)
+            result }
         ensures balance { self.new.balance ≡ self.old.balance }
         ensures version { self.new.version ≡ self.old.version }
     {

@@ -167,8 +167,8 @@ fn put_components(
     target: Target,
 ) -> WriteResult
     ensures { Appends writer.old writer.new
-        (child_written name.now (a_list components) (present components_tree held.now) target.version)
-        result }
+        (child_written name.now (a_list components) (present components_tree held.now)
+        target.version) result }
 {
     match held {
         None => Ok(()),

@@ -33,7 +33,8 @@ fn put_name(
     name: &OwnedName,
 ) -> Result<(), AllocError>
     ensures { OnOk result
-        (members_view map.new.entries ≡ with_name local.now name.now (members_view map.old.entries)) }
+        (members_view map.new.entries
+        ≡ with_name local.now name.now (members_view map.old.entries)) }
 {
     let local_name = Value::try_from_str(alloc, name.local_name.as_str())?;
     put(map, alloc, local, local_name)?;

@@ -17,8 +17,8 @@ use std::alloc::AllocError;
 #[tactic(auto, unfolding(cdx_json::proofs::OnRows::on_rows))]
 pub(crate) fn keep_inventory(held: &Bom, keeping: Keeping) -> Result<Inventory, AllocError>
     ensures { IfOk result
-        (λ r. inventory_trees r ≡ rows_held keeping.version keeping.label (inventory_groups held.now)
-        (group 0 bill)) }
+        (λ r. inventory_trees r
+        ≡ rows_held keeping.version keeping.label (inventory_groups held.now) (group 0 bill)) }
 {
     let old_label = Label {
         version: held.spec_version,
