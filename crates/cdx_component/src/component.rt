@@ -171,7 +171,7 @@ impl Components {
         Ok(Components { items })
     }
 
-    /// Appends a component. Where there is no memory, the list is as before and the component is dropped.
+    /// Appends a component. Where memory runs out, the list is as before and the component is dropped.
     pub fn push(&mut self, item: Component) -> Result<(), AllocError>
         ensures ok { OnOk result
             (listed_components self.new ≡ listed_components self.old ++ item ∷ []) }

@@ -20,7 +20,7 @@ pub enum GatherError {
     Unbalanced { place: usize },
     /// As many events were taken as may be, and none of them is a document end.
     Budget { taken: usize },
-    /// There was no memory.
+    /// Memory ran out.
     Memory(AllocError),
 }
 

@@ -98,7 +98,7 @@ impl<T: Copied> Copied for List<T> {
 }
 
 impl<T: Drop> List<T> {
-    /// Appends an item. Where there is no memory, the list is as before and the item is dropped.
+    /// Appends an item. Where memory runs out, the list is as before and the item is dropped.
     pub fn push(&mut self, item: T) -> Result<(), AllocError>
         ensures ok { OnOk result (self.new ≡ self.old ++ item ∷ []) }
         ensures err { OnErr result (self.new ≡ self.old) }

@@ -29,13 +29,13 @@ pub type Members = Map<String, Value>;
 /// A value that is read from JSON.
 pub trait FromJson: Kinded {
     /// What the value denotes in a version as a part that stands at a depth, or its first fault. The fault's path is
-    /// counted from the value. Only where memory runs out the answer is `Memory` instead.
+    /// counted from the value. Where memory runs out, the answer is `Memory` instead.
     fn from_json_at(value: &Value, context: Context) -> Result<Self, JsonReadError>
         ensures { Gives Self.tree result
             (jread (view value.now) context.version Self.kind (depth_of context.depth)) };
 
     /// What the value denotes in a version outside all components and services, or its first fault. The fault's path
-    /// is counted from the value. Only where memory runs out the answer is `Memory` instead.
+    /// is counted from the value. Where memory runs out, the answer is `Memory` instead.
     final fn from_json(
         alloc: Global,
         value: &Value,
@@ -99,7 +99,7 @@ pub trait ToJson: Kept {
 
 /// A record that is read, kept and written row by row. So it is `FromJson`, `Kept` and `ToJson`.
 pub trait JsonRecord: Record {
-    /// The record whose members these are, or the first fault. Only where memory runs out the answer is `Memory`
+    /// The record whose members these are, or the first fault. Where memory runs out, the answer is `Memory`
     /// instead.
     fn from_members(map: &Members, context: Context) -> Result<Self, JsonReadError>
         ensures { Gives Self.tree result

@@ -109,7 +109,7 @@ impl Services {
         Ok(Services { items })
     }
 
-    /// Appends a service. Where there is no memory, the list is as before and the service is dropped.
+    /// Appends a service. Where memory runs out, the list is as before and the service is dropped.
     pub fn push(&mut self, item: Service) -> Result<(), AllocError>
         ensures ok { OnOk result
             (services_listed self.new ≡ services_listed self.old ++ item ∷ []) }

@@ -17,7 +17,7 @@ use std::alloc::Global;
 impl Bom {
     /// What the version keeps of the bill, as a JSON value. `BomError` with `BomSerializationError(V1_3,
     /// VersionMissing)` exactly where the version is 1.3 and the bill doesn't fit it, since a component lacks a
-    /// version, which 1.3 requires. `Memory` only where memory runs out.
+    /// version, which 1.3 requires. `Memory` comes only where memory runs out.
     pub fn output_json(&self, alloc: Global, version: SpecVersion) -> Result<Value, JsonWriteError>
         ensures { Outputs result version (bom_tree self.now)
             (λ v. view v ≡ kept_json version (bom_tree self.now)) }

@@ -20,7 +20,7 @@ impl Bom {
     /// The bill that a JSON value denotes in a version, whose label is the `specVersion` that was read. Else
     /// `JsonElementReadError` with the path from the root: of the first floating-point number, where the value holds
     /// one anywhere, members being searched in byte order of their names, depth first; else of the first fault in the
-    /// order of the schema's rows. `Memory` only where memory runs out. Every bill so read is shallow.
+    /// order of the schema's rows. `Memory` comes only where memory runs out. Every bill so read is shallow.
     pub fn parse_json(
         alloc: Global,
         value: &Value,

@@ -14,7 +14,7 @@ use std::alloc::Global;
 
 impl Bom {
     /// Writes what the version keeps of the bill into a sink, as `serde_json`'s compact text of the value that
-    /// `output_json` answers, and then flushes. `BomError` exactly as there, and `Memory` only where memory runs out,
+    /// `output_json` answers, and then flushes. `BomError` exactly as there, and `Memory` comes only where memory runs out,
     /// both before the first `put`. `JsonElementWriteError` comes only where the sink's count of faults rose, and
     /// tells how many of the text's first bytes went out. `Ok` comes only where the count stayed: then the whole text
     /// went out, and all that was written is flushed.
