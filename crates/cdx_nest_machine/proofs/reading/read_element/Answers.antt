@@ -30,7 +30,7 @@ events-init g c =
     record {
       fed = λ s p nodes rest st.
           feeds_first (λ m v p d o. stack_holds (shape_of f.as_kind f.sort_of f.fields f.child_of) (leaf_holds f.as_kind f.child_of e.sort_of e.holds) f.sort_of f.fields c.args.sort m.below.items m.top m.version m.inside v p d o) c.args.opened.now.version c.args.opened.now.element.now c.args.opened.now.attributes.now s p nodes rest (depth_of c.args.depth) c.args.reader.now c.in_ok-machine.machine st
-          (subst (λ i. stack_holds (shape_of f.as_kind f.sort_of f.fields f.child_of) (leaf_holds f.as_kind f.child_of e.sort_of e.holds) f.sort_of f.fields c.args.sort c.in_ok-machine.machine.below.items c.in_ok-machine.machine.top c.in_ok-machine.machine.v c.in_ok-machine.machine.inside c.args.opened.now.version i (depth_of c.args.depth) (innermost c.args.opened.now.element.now c.args.opened.now.attributes.now s no_nodes)) (start_is c.args.reader.now.place c.place.result p (sym c.place.ensures) st.place) (c.in_ok-machine.ensures s).0);
+          (subst (λ i. stack_holds (shape_of f.as_kind f.sort_of f.fields f.child_of) (leaf_holds f.as_kind f.child_of e.sort_of e.holds) f.sort_of f.fields c.args.sort c.in_ok-machine.machine.below.items c.in_ok-machine.machine.top c.in_ok-machine.machine.version c.in_ok-machine.machine.inside c.args.opened.now.version i (depth_of c.args.depth) (innermost c.args.opened.now.element.now c.args.opened.now.attributes.now s no_nodes)) (start_is c.args.reader.now.place c.place.result p (sym c.place.ensures) st.place) (c.in_ok-machine.ensures s).0);
     }
 
 pub unreachable-requires : goal.unreachable-requires
