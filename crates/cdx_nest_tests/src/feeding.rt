@@ -42,8 +42,14 @@ pub fn feed(
     requires inside { IsIn reader.old element.now }
 {
     let start = reader.place() - 1;
-    let Reading { kind, v, depth } = reading;
-    let mut machine = match NestMachine::open(alloc, kind, v, start, depth, element, attributes) {
+    let Reading {
+        kind,
+        version,
+        depth,
+    } = reading;
+    let mut machine = match NestMachine::open(
+        alloc, kind, version, start, depth, element, attributes,
+    ) {
         Ok(machine) => machine,
         Err(error) => return Heard::Refused(error),
     };

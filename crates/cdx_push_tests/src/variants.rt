@@ -5,9 +5,9 @@ use crate::feeding::Heard;
 use crate::pieces::around;
 use crate::readers::read;
 use crate::told::{fed, kind_of};
-use cdx_events::List;
-use cdx_models::{ExternalReferences, Uri};
-use cdx_push::LeafValue;
+use cdx_events::{Events, List};
+use cdx_models::{ExternalReferences, SpecVersion, Uri};
+use cdx_push::{LeafKind, LeafValue};
 use cdx_signature::{Algorithm, Signature, Signer};
 use cdx_test_cases::rows::{Case, cases};
 use std::alloc::Global;
@@ -58,18 +58,46 @@ fn variant(value: &LeafValue) -> &'static str {
     }
 }
 
+// The variant in what the machine reads.
+fn heard_variant(heard: &Heard) -> &'static str {
+    match heard {
+        Heard::Done(value) => variant(value),
+        _ => "not read by the machine",
+    }
+}
+
+// The same in what the kind's machine reads of the events. One value is held at a time, since each place where a function
+// ends frees what it holds, variant by variant.
+fn machine_variant(
+    alloc: Global,
+    events: &Events,
+    kind: LeafKind,
+    version: SpecVersion,
+) -> &'static str {
+    let heard = fed(alloc, events, kind, version, usize::MAX);
+    heard_variant(&heard)
+}
+
+// The same in what the kind's reader reads of them.
+fn reader_variant(
+    alloc: Global,
+    events: &Events,
+    kind: LeafKind,
+    version: SpecVersion,
+) -> Result<&'static str, Fail> {
+    let wanted = read(alloc, events, kind, version)?;
+    Ok(variant(&wanted))
+}
+
 // The variant in what the machine reads, where it is that in what the kind's reader reads.
 fn found(alloc: Global, case: &Case<'_>) -> Result<&'static str, Fail> {
     let kind = kind_of(case.word)?;
     let events = around(alloc, case.given)?;
-    let Heard::Done(value) = fed(alloc, &events, kind, case.version, usize::MAX) else {
-        return Ok("not read by the machine");
-    };
-    let wanted = read(alloc, &events, kind, case.version)?;
-    if variant(&value) != variant(&wanted) {
+    let heard = machine_variant(alloc, &events, kind, case.version);
+    if heard != reader_variant(alloc, &events, kind, case.version)? {
         return Ok("another than the reader's");
     }
-    Ok(variant(&value))
+    Ok(heard)
 }
 
 fn variants(rt: &impl Abort, alloc: Global, rows: &str) -> Result<(), Fail> {

@@ -34,12 +34,23 @@ fn count_of(word: &str) -> Result<usize, Fail> {
     }
 }
 
+// What the kind's machine makes of so many events, as it is told.
+fn heard_line(
+    alloc: Global,
+    events: &Events,
+    kind: LeafKind,
+    version: SpecVersion,
+    count: usize,
+) -> Result<String, Fail> {
+    let heard = fed(alloc, events, kind, version, count);
+    Ok(told(alloc, &heard)?)
+}
+
 // What comes of the row's first events.
 fn counted(alloc: Global, case: &Case<'_>) -> Result<String, Fail> {
     let count = count_of(case.word)?;
     let events = around(alloc, case.given)?;
-    let heard = fed(alloc, &events, LeafKind::Hashes, case.version, count);
-    Ok(told(alloc, &heard)?)
+    heard_line(alloc, &events, LeafKind::Hashes, case.version, count)
 }
 
 #[test]
@@ -75,6 +86,30 @@ fn one_hash(rt: HostRuntime) -> Result<(), Fail> {
     Ok(())
 }
 
+// The name of the value's variant, where the other is the same.
+fn named_alike(value: &LeafValue, wanted: &LeafValue) -> &'static str {
+    if same(value, wanted) {
+        name_of(value)
+    } else {
+        "another than the reader's"
+    }
+}
+
+// A function holds one value alone, since each place where it ends frees what it holds, variant by variant.
+fn read_beside(
+    alloc: Global,
+    events: &Events,
+    kind: LeafKind,
+    version: SpecVersion,
+    heard: &Heard,
+) -> Result<&'static str, Fail> {
+    let Heard::Done(value) = heard else {
+        return Ok("not read by the machine");
+    };
+    let wanted = read(alloc, events, kind, version)?;
+    Ok(named_alike(value, &wanted))
+}
+
 // The name of the variant of what the machine reads, where the kind's reader reads the same.
 fn read_alike(
     alloc: Global,
@@ -82,14 +117,8 @@ fn read_alike(
     kind: LeafKind,
     version: SpecVersion,
 ) -> Result<&'static str, Fail> {
-    let Heard::Done(value) = fed(alloc, events, kind, version, usize::MAX) else {
-        return Ok("not read by the machine");
-    };
-    let wanted = read(alloc, events, kind, version)?;
-    if !same(&value, &wanted) {
-        return Ok("another than the reader's");
-    }
-    Ok(name_of(&value))
+    let heard = fed(alloc, events, kind, version, usize::MAX);
+    read_beside(alloc, events, kind, version, &heard)
 }
 
 fn all_read(rt: &impl Abort, alloc: Global, rows: &str) -> Result<(), Fail> {
@@ -125,8 +154,8 @@ fn all_refused(rt: &impl Abort, alloc: Global, rows: &str) -> Result<(), Fail> {
     for case in &cases(alloc, rows)? {
         let kind = kind_of(case.word)?;
         let events = around(alloc, case.given)?;
-        let heard = fed(alloc, &events, kind, case.version, usize::MAX);
-        row_is(rt, case.line, told(alloc, &heard)?.as_str(), case.answer);
+        let heard = heard_line(alloc, &events, kind, case.version, usize::MAX)?;
+        row_is(rt, case.line, heard.as_str(), case.answer);
         let answer = answered(alloc, &events, kind, case.version)?;
         row_is(rt, case.line, answer.as_str(), case.answer);
     }
