@@ -7,7 +7,7 @@ use Rattle.serde_json.specs.Data.{Data, string, Members}
 use Rattle.serde_json.specs.Written.{has_float}
 use Rattle.cdx_models.specs.Trees.{Tree}
 use Rattle.cdx_models.specs.SameLaws.{same-Decides}
-use Rattle.cdx_request.specs.Refusals.{bill_refused as refusal}
+use Rattle.cdx_request.specs.Refusals.{refused as refusal}
 use Rattle.cdx_request.specs.Requests.{Misread, not_json, shape, unbalanced, document_in_json}
 use Rattle.cdx_request.specs.Replies.{Reply, reply, line_of, no_request, reply_to_misread, limit}
 use Rattle.cdx_tool.specs.Owed.{reply_by, IsSettled}
