@@ -41,7 +41,7 @@ fn by_nest_machine(alloc: Global, events: &Events) -> Result<(), Fail> {
     } = root_of(events);
     let reading = Reading {
         kind: NestKind::Components,
-        v: V,
+        version: V,
         depth: Depth::top(),
     };
     let count = events.len();
