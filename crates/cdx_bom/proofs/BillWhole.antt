@@ -10,7 +10,7 @@ use Rattle.cdx_schema.specs.XmlReading.{ended}
 use Rattle.cdx_machine.specs.Records.{record_end}
 use Rattle.cdx_push_reader.specs.Documents as documents
 use Rattle.cdx_bom.specs.declared.bom.Bom.{Bom}
-use Rattle.cdx_bom.specs.declared.reading.part.BillPart.{BillPart}
+use Rattle.cdx_bom.specs.declared.xml.reading.part.BillPart.{BillPart}
 use Rattle.cdx_bom.specs.Trees.{bom_tree}
 use Rattle.cdx_bom.specs.Reading.{bill_slots}
 use Rattle.cdx_push_reader.specs.Documents.{IsRefusal}

@@ -14,7 +14,7 @@ use Rattle.cdx_schema.specs.Kinds.{a_bill, a_number, a_text}
 use Rattle.cdx_schema.specs.Keeping.{kept, keep, rows_kept}
 use Rattle.cdx_schema.specs.Table.{rows}
 use Rattle.cdx_schema.specs.XmlSpelling.{attributes_of, nodes_of, plain_name}
-use Rattle.cdx_json.specs.Groups.{group}
+use Rattle.cdx_schema.specs.Groups.{group}
 use Rattle.cdx_models.specs.Trees.{fields_of}
 use Rattle.cdx_write.specs.WrittenRows.{attribute_written, attributes_written, rows_written}
 use Rattle.cdx_write.specs.Writing.{end_tag}

@@ -4,7 +4,6 @@ use Rattle.std.specs.Prelude.{not, ◌&&◌, ◌||◌, if◌then◌else◌}
 use Rattle.serde_json.specs.View.{view}
 use Rattle.serde_json.specs.declared.value.Value.{Value}
 use Rattle.cdx_events.specs.declared.events.Events.{Events}
-use Rattle.cdx_events.specs.Nodes.{document}
 use Rattle.cdx_models.specs.declared.bom.SpecVersion.{SpecVersion}
 use Rattle.cdx_models.specs.declared.errors.JsonReadError.{JsonReadError}
 use Rattle.cdx_models.specs.declared.errors.JsonReadError.TheVariants as in_json
@@ -174,10 +173,6 @@ this_refusal (error.Bom e) r owed h i = (r, h, i)
 
 abbrev after_bill : roads.Doc → SpecVersion → List trips.Hop → Tree → Result (List roads.Doc) Refusal
 after_bill x v hs b = if fits_all hs b then hops_from x v hs else Err version_missing
-
--- the document is refused
-pub fault_first : (e : RoadError) (x : roads.Doc) (v : SpecVersion) (hs : List trips.Hop) → Refuses (denotes x v) e → Refuses (road x v hs) e
-fault_first e x v hs h = refused_on e (denotes x v) (after_bill x v hs) h
 
 -- a version is missing
 pub missing_then : (e : RoadError) (x : roads.Doc) (v : SpecVersion) (hs : List trips.Hop) (b : Tree) → denotes x v ≡ Ok b → fits_all hs b ≡ false → refusal_of e ≡ Some version_missing → Refuses (road x v hs) e

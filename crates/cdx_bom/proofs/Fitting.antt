@@ -10,8 +10,7 @@ use Rattle.cdx_signature.specs.Records.{signature_tree}
 use Rattle.cdx_schema.specs.Kinds.{Kind, components, services, external_references, dependencies, compositions, properties, a_text, a_list, a_record, a_signature, a_bill}
 use Rattle.cdx_schema.specs.Table.{rows}
 use Rattle.cdx_schema.specs.Keeping.{fits, has_versions}
-use Rattle.cdx_component.specs.Trees.{components_tree}
-use Rattle.cdx_service.specs.Trees.{services_tree}
+use Rattle.cdx_nest.specs.Nested.{components_tree, services_tree}
 use Rattle.cdx_nest.specs.Trees.{metadata_tree}
 use Rattle.cdx_bom.specs.declared.bom.Bom.{Bom}
 use Rattle.cdx_bom.specs.Trees.{bom_tree}

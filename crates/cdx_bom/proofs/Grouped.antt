@@ -23,7 +23,8 @@ use Rattle.cdx_schema.specs.JsonSpelling.{jspell, heading}
 use Rattle.cdx_json.specs.Gives.{Fails, Gives, IsFaultAt}
 use Rattle.cdx_json.specs.ByRows.{rows_made, own_made, by_rows, as_record}
 use Rattle.cdx_json.specs.KeptRows.{rows_held, rows_put}
-use Rattle.cdx_json.specs.Groups.{group, group_read}
+use Rattle.cdx_schema.specs.Groups.{group}
+use Rattle.cdx_json.specs.Groups.{group_read}
 use Rattle.cdx_json.proofs.Rows.{fails_here}
 use Rattle.cdx_json.proofs.ByRowsLaws.{by_rows_are, rows_split, rows_then, then_same}
 use Rattle.cdx_json.proofs.KeptRowsLaws.{rows_held_are, rows_put_are}

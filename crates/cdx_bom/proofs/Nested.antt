@@ -14,19 +14,7 @@ use Rattle.cdx_relations.specs.Records.{dependencies_tree, compositions_tree}
 use Rattle.cdx_schema.specs.Table.{rows}
 use Rattle.cdx_schema.specs.Depth.{Depth, top, inside, name_too_deep}
 use Rattle.cdx_schema.specs.Keeping.{is_shallow, are_shallow}
-use Rattle.cdx_component.specs.declared.component.Component.{Component}
-use Rattle.cdx_component.specs.declared.component.Component.TheOpen.{Component-F, Pedigree-F}
-use Rattle.cdx_component.specs.declared.component.Component.TheViews.{out-Component, out-Pedigree}
-use Rattle.cdx_component.specs.declared.component.Components.{Components}
-use Rattle.cdx_component.specs.declared.component.Pedigree.{Pedigree}
-use Rattle.cdx_component.specs.Trees.{origin, naming, marks, contents, component_tree, components_tree, pedigree_tree, component_fields, pedigree_fields, listed_components}
-use Rattle.cdx_component.specs.Laws.{component_tree-out, components_tree-out, pedigree_tree-out}
-use Rattle.cdx_service.specs.declared.service.Service.{Service}
-use Rattle.cdx_service.specs.declared.service.Service.TheOpen.{Service-F}
-use Rattle.cdx_service.specs.declared.service.Service.TheViews.{out-Service}
-use Rattle.cdx_service.specs.declared.service.Services.{Services}
-use Rattle.cdx_service.specs.Trees.{service_naming, service_access, service_contents, service_tree, services_tree, service_fields, services_listed}
-use Rattle.cdx_service.specs.Laws.{service_tree-out, services_tree-out}
+use Rattle.cdx_nest.specs.Nested.{Component, Component-F, Pedigree-F, out-Component, out-Pedigree, Components, Pedigree, origin, naming, marks, contents, component_tree, components_tree, pedigree_tree, component_fields, pedigree_fields, listed_components, component_tree-out, components_tree-out, pedigree_tree-out, Service, Service-F, out-Service, Services, service_naming, service_access, service_contents, service_tree, services_tree, service_fields, services_listed, service_tree-out, services_tree-out}
 use Rattle.cdx_models.specs.declared.tool.Tool.{Tool}
 use Rattle.cdx_nest.specs.declared.metadata.Metadata.{Metadata}
 use Rattle.cdx_nest.specs.Trees.{object_tree, tools_tree, makers, terms, metadata_tree}

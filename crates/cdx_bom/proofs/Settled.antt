@@ -13,15 +13,10 @@ use Rattle.cdx_models.proofs.Lists.{same_each-append}
 use Rattle.cdx_schema.specs.Kinds.{Kind, tool_list, authors, licenses, components, services, external_references, dependencies, compositions, properties, a_text, a_list, a_record, a_tools, a_signature, a_bill}
 use Rattle.cdx_schema.specs.Table.{rows, list}
 use Rattle.cdx_schema.specs.Trips.{settled, settled_items, IsSame}
-use Rattle.cdx_component.specs.Trees.{component_tree, components_tree}
-use Rattle.cdx_component.specs.declared.component.Components.{Components}
-use Rattle.cdx_service.specs.Trees.{services_tree}
-use Rattle.cdx_service.specs.declared.service.Services.{Services}
+use Rattle.cdx_nest.specs.Nested.{component_tree, components_tree, Components, services_tree, Services, components_there, services_there}
 use Rattle.cdx_nest.specs.declared.metadata.Metadata.{Metadata}
 use Rattle.cdx_nest.specs.declared.tools.Tools.{Tools}
 use Rattle.cdx_nest.specs.Trees.{object_tree, tools_tree, tools_there, metadata_tree}
-use Rattle.cdx_component.specs.Laws.{components_there}
-use Rattle.cdx_service.specs.Laws.{services_there}
 use Rattle.cdx_schema.proofs.Alike.{settled_there}
 use Rattle.cdx_bom.specs.declared.bom.Bom.{Bom}
 use Rattle.cdx_bom.specs.Trees.{identity, contents, relations, bom_tree}

@@ -7,21 +7,7 @@ use Rattle.cdx_code.specs.Records.{commits_tree}
 use Rattle.cdx_patch.specs.Records.{patches_tree}
 use Rattle.cdx_component_parts.specs.Records.{evidence_tree}
 use Rattle.cdx_schema.specs.Table.{rows}
-use Rattle.cdx_component.specs.declared.component.Component.{Component}
-use Rattle.cdx_component.specs.declared.component.Component.TheOpen.{Component-F, Pedigree-F}
-use Rattle.cdx_component.specs.declared.component.Component.TheFolds.{ind-Component, fold-roll-Components}
-use Rattle.cdx_component.specs.declared.component.Component.TheShapes.{former-Component-pedigree, former-Component-components}
-use Rattle.cdx_component.specs.declared.component.Components.{Components}
-use Rattle.cdx_component.specs.declared.component.Pedigree.{Pedigree}
-use Rattle.cdx_component.specs.Trees.{origin, naming, marks, contents, component_tree, components_tree, pedigree_tree, component_step, components_step, pedigree_step, component_fields, pedigree_fields, listed_components}
-use Rattle.cdx_component.specs.Laws.{component_tree-roll, components_tree-out, pedigree_tree-roll}
-use Rattle.cdx_service.specs.declared.service.Service.{Service}
-use Rattle.cdx_service.specs.declared.service.Service.TheOpen.{Service-F}
-use Rattle.cdx_service.specs.declared.service.Service.TheFolds.{ind-Service, fold-roll-Services}
-use Rattle.cdx_service.specs.declared.service.Service.TheShapes.{former-Service-services}
-use Rattle.cdx_service.specs.declared.service.Services.{Services}
-use Rattle.cdx_service.specs.Trees.{service_naming, service_access, service_contents, service_tree, services_tree, service_step, services_step, service_fields, services_listed}
-use Rattle.cdx_service.specs.Laws.{service_tree-roll, services_tree-out}
+use Rattle.cdx_nest.specs.Nested.{Component, Component-F, Pedigree-F, ind-Component, fold-roll-Components, former-Component-pedigree, former-Component-components, Components, Pedigree, origin, naming, marks, contents, component_tree, components_tree, pedigree_tree, component_step, components_step, pedigree_step, component_fields, pedigree_fields, listed_components, component_tree-roll, components_tree-out, pedigree_tree-roll, Service, Service-F, ind-Service, fold-roll-Services, former-Service-services, Services, service_naming, service_access, service_contents, service_tree, services_tree, service_step, services_step, service_fields, services_listed, service_tree-roll, services_tree-out}
 use Rattle.cdx_bom.proofs.Names.{lacks, all_lack, SparesLeaves, both_hold, appended_lack}
 use Rattle.cdx_bom.proofs.Leaves.{texts_lack, row_lacks, list_lacks, references_lack, properties_lack, evidence_lacks, signature_lacks, commits_lack, patches_lack}
 use Rattle.cdx_bom.proofs.Nested.{origin_lack, naming_lack, marks_lack, service_naming_lack, service_access_lack}

@@ -8,7 +8,7 @@ use Rattle.cdx_schema.specs.Keeping.{kept}
 use Rattle.cdx_bom.specs.Trees.{bom_tree}
 use Rattle.cdx_bom.specs.Labels.{named_tree}
 use Rattle.cdx_bom.specs.declared.bom.Bom.{Bom}
-use Rattle.cdx_bom.specs.declared.bom.json.label.Label.{Label}
+use Rattle.cdx_bom.specs.declared.json.label.Label.{Label}
 
 fields_stay : (w l : SpecVersion) (ts : Trees) → is_absent (kept w l (fields bill ts) a_bill) ≡ false
 unfolding kept

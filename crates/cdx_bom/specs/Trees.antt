@@ -6,8 +6,7 @@ use Rattle.cdx_models.specs.Records.{urn_tree, references_tree, properties_tree}
 use Rattle.cdx_models.specs.declared.bom.SpecVersion.{SpecVersion}
 use Rattle.cdx_relations.specs.Records.{dependencies_tree, compositions_tree}
 use Rattle.cdx_signature.specs.Records.{signature_tree}
-use Rattle.cdx_component.specs.Trees.{components_tree}
-use Rattle.cdx_service.specs.Trees.{services_tree}
+use Rattle.cdx_nest.specs.Nested.{components_tree, services_tree}
 use Rattle.cdx_nest.specs.Trees.{metadata_tree}
 use Rattle.cdx_bom.specs.declared.bom.Bom.{Bom}
 

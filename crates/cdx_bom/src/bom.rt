@@ -6,10 +6,9 @@ ghost use Rattle.cdx_models.specs.Same.{same};
 ghost use Rattle.cdx_models.specs.SameLaws.{same_laws};
 ghost use Rattle.cdx_bom.specs.Trees.{bom_tree};
 
-mod compared;
+pub(crate) mod compared;
 mod copied;
 mod fitting;
-mod json;
 mod output;
 mod parsing;
 pub(crate) mod parts;

@@ -1,16 +1,16 @@
-//! Whole bills: their type and tree, copies, `==`, the versions that they fit, and JSON; a reader of bills that is fed events
+//! Whole bills: their type and tree, copies, `==`, the versions that they fit, JSON and XML; a reader of bills that is fed events
 //! as they arrive; documents and the laws of roads and of documents without their empty texts; texts into sinks.
 #![tactic(auto)]
 
 pub mod bom;
 mod doc;
+mod json;
 mod laws;
 mod push;
 pub mod putting;
-mod reading;
 mod refused;
 mod roads;
-mod writing;
+mod xml;
 
 pub use bom::Bom;
 pub use bom::settled::same;

@@ -11,7 +11,7 @@ ghost use Rattle.cdx_bom.specs.Hops.{any_first, DenotesBill, hop_document, rewri
 use crate::bom::Bom;
 use crate::doc::{Doc, Form, Hop, RoadError};
 use crate::refused::lacks_version;
-use crate::writing::events_of;
+use crate::xml::writing::events_of;
 use cdx_events::List;
 use cdx_json::ToJson;
 use cdx_leaf::FromXmlDocument;

@@ -14,7 +14,7 @@ use Rattle.cdx_tool.specs.Owed.{reply_by, IsSettled}
 use Rattle.cdx_tool.specs.Run.{Tells, Ends}
 use Rattle.cdx_tool.specs.Shows.{reply_of}
 use Rattle.cdx_tool.specs.declared.answer.Answer.{Answer}
-use Rattle.cdx_ask.specs.Asks.{Asked, asked_of, Lack, misread, bill_refused, bill_of, bill_in, reply_to_lack, reply_to_bill, AsksFor}
+use Rattle.cdx_tool.specs.Asks.{Asked, asked_of, Lack, misread, bill_refused, bill_of, bill_in, reply_to_lack, reply_to_bill, AsksFor}
 use Rattle.cdx_canon.specs.Canon.{plain, canon}
 use Rattle.cdx_canon.specs.Answers.{canonical_answer, is_equal, equality_answer, refused_on, Pair, pair_of, reply_on, reply_beside, reply_to_bills, is_shaped, reply_to_sides, reply_to_pair, reply_if_value, owed, AsksForBoth, TellsEqual}
 use Rattle.cdx_canon.specs.Plain.{with_part}

@@ -14,7 +14,7 @@ use Rattle.cdx_request.specs.Refusals.{only, a_text, refusal_members, unbalanced
 use Rattle.cdx_request.specs.Requests.{Misread, not_json, shape, unbalanced, document_in_json}
 use Rattle.cdx_request.specs.Replies.{Reply, line_of, reply, reply_to_misread}
 use Rattle.cdx_tool.specs.Owed.{reply_by}
-use Rattle.cdx_ask.specs.Asks.{Asked, asked_of, Lack, misread, bill_refused, bill_of, bill_in, reply_to_bill}
+use Rattle.cdx_tool.specs.Asks.{Asked, asked_of, Lack, misread, bill_refused, bill_of, bill_in, reply_to_bill}
 use Rattle.cdx_canon.specs.Canon.{plain}
 use Rattle.cdx_canon.specs.Words.{command_of}
 use Rattle.cdx_canon.specs.declared.words.Command.{Command}

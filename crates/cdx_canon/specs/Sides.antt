@@ -3,7 +3,7 @@ use Rattle.std.specs.Prelude.{◌≡◌, Option, Some, None, Result, Ok, Err}
 use Rattle.serde_json.specs.View.{view}
 use Rattle.serde_json.specs.declared.value.Value.{Value}
 use Rattle.cdx_request.specs.Requests.{Misread, shape, unbalanced}
-use Rattle.cdx_ask.specs.Asks.{Asked, IsQuestion}
+use Rattle.cdx_tool.specs.Asks.{Asked, IsQuestion}
 use Rattle.cdx_canon.specs.Answers.{Pair}
 use Rattle.cdx_canon.specs.declared.comparing.Side.{Side}
 use Rattle.cdx_canon.specs.declared.comparing.Side.TheVariants as side

@@ -12,16 +12,17 @@ ghost use Rattle.cdx_request.specs.Replies.{Reply, reply};
 ghost use Rattle.cdx_bom.specs.Docs.{refusal_of};
 ghost use Rattle.cdx_bom.specs.Trees.{bom_tree};
 ghost use Rattle.cdx_tool.specs.Shows.{reply_of};
-ghost use Rattle.cdx_ask.specs.Asks.{Asked, asked_of, bill_of as bill_owed, GivesBill, Lack, Lacks};
+ghost use Rattle.cdx_tool.specs.Asks.{Asked, asked_of, bill_of as bill_owed, GivesBill, Lack, Lacks};
 ghost use Rattle.cdx_canon.specs.Answers.{is_equal, equality_answer, pair_of, refused_on, reply_on, reply_beside, reply_to_bills, reply_to_sides, reply_to_pair};
 ghost use Rattle.cdx_canon.specs.Sides.{pair_view, IsSide, ReadsSide};
 
 use crate::text::set_part;
-use cdx_ask::{NoBill, Question, read_question};
 use cdx_bom::{Bom, RoadError, into_bill, same};
 use cdx_models::SpecVersion;
-use cdx_tool::status::{REFUSED, SERVED, UNUSABLE};
-use cdx_tool::{Answer, RequestError, answer_value, imbalance_value, only, refusal_value, refuse};
+use cdx_tool::{
+    Answer, NoBill, Question, RequestError, Status, answer_value, imbalance_value, only,
+    read_question, refusal_value, refuse,
+};
 use serde_json::{Map, Value};
 use std::alloc::{AllocError, Global};
 
@@ -86,7 +87,7 @@ fn answer_refusal(alloc: Global, side: &str, refusal: Value) -> Result<Answer, A
 {
     let name = Value::try_from_str(alloc, side)?;
     let value = set_part(alloc, refusal, "side", name)?;
-    answer_value(alloc, REFUSED, &value)
+    answer_value(alloc, Status::Refused as u8, &value)
 }
 
 fn answer_unbalanced(alloc: Global, side: &str, place: usize) -> Result<Answer, AllocError>
@@ -114,7 +115,7 @@ fn answer_lack_on(alloc: Global, side: &str, lack: NoBill) -> Result<Answer, All
         → IfOk result (λ a. reply_of a ≡ reply_on side.now next owed) }
 {
     match lack {
-        NoBill::Misread(RequestError::Shape) => refuse(alloc, UNUSABLE, "shape"),
+        NoBill::Misread(RequestError::Shape) => refuse(alloc, Status::Unusable as u8, "shape"),
         NoBill::Misread(RequestError::Unbalanced { place }) => {
             answer_unbalanced(alloc, side, place)
         }
@@ -141,7 +142,7 @@ fn answer_equal(alloc: Global, left: Bom, right: Bom) -> Result<Answer, AllocErr
 {
     let is_equal = is_same_text(left, right);
     let value = only(alloc, "equal", Value::Bool(is_equal))?;
-    answer_value(alloc, SERVED, &value)
+    answer_value(alloc, Status::Served as u8, &value)
 }
 
 // What is answered to the right side, beside the left side's bill.
@@ -177,7 +178,7 @@ fn answer_beside(alloc: Global, left: Side, right: Value) -> Result<Answer, Allo
 {
     let right = read_side(alloc, right)?;
     match right {
-        None => refuse(alloc, UNUSABLE, "shape"),
+        None => refuse(alloc, Status::Unusable as u8, "shape"),
         Some(right) => answer_sides(alloc, left, right),
     }
 }
@@ -188,7 +189,7 @@ fn answer_both(alloc: Global, left: Value, right: Value) -> Result<Answer, Alloc
 {
     let left = read_side(alloc, left)?;
     match left {
-        None => refuse(alloc, UNUSABLE, "shape"),
+        None => refuse(alloc, Status::Unusable as u8, "shape"),
         Some(left) => answer_beside(alloc, left, right),
     }
 }
@@ -200,7 +201,7 @@ pub(crate) fn answer_pair(alloc: Global, value: Value) -> Result<Answer, AllocEr
     ensures { IfOk result (λ a. reply_of a ≡ reply_to_pair (pair_of (view value))) }
 {
     match take_pair(value) {
-        None => refuse(alloc, UNUSABLE, "shape"),
+        None => refuse(alloc, Status::Unusable as u8, "shape"),
         Some((left, right)) => answer_both(alloc, left, right),
     }
 }

@@ -10,7 +10,7 @@ ghost use Rattle.cdx_bom.specs.Trees.{bom_tree};
 ghost use Rattle.cdx_tool.specs.Owed.{IsSettled};
 ghost use Rattle.cdx_tool.specs.Run.{Tells, Ends};
 ghost use Rattle.cdx_tool.specs.Shows.{reply_of};
-ghost use Rattle.cdx_ask.specs.Asks.{AsksFor, bill_in, reply_to_bill};
+ghost use Rattle.cdx_tool.specs.Asks.{AsksFor, bill_in, reply_to_bill};
 ghost use Rattle.cdx_canon.specs.Answers.{canonical_answer, canonical_reply, AsksForBoth, TellsEqual};
 ghost use Rattle.cdx_canon.specs.Canon as texts;
 ghost use Rattle.cdx_canon.specs.Words.{command_of};
@@ -18,11 +18,11 @@ ghost use Rattle.cdx_canon.specs.Words.{command_of};
 use crate::comparing::answer_pair;
 use crate::text::plain_value;
 use crate::words::{Command, read_command};
-use cdx_ask::{answer_lack, take_bill};
 use cdx_bom::Bom;
 use cdx_events::{Sink, Source};
-use cdx_tool::status::{SERVED, UNUSABLE};
-use cdx_tool::{Answer, Respond, answer_value, read_json, refuse, respond};
+use cdx_tool::{
+    Answer, Respond, Status, answer_lack, answer_value, read_json, refuse, respond, take_bill,
+};
 use serde_json::Value;
 use std::alloc::{AllocError, Global};
 
@@ -32,7 +32,7 @@ fn answer_bill(alloc: Global, bill: Bom) -> Result<Answer, AllocError>
 {
     let value = plain_value(alloc, &bill)?;
     drop(bill);
-    answer_value(alloc, SERVED, &value)
+    answer_value(alloc, Status::Served as u8, &value)
 }
 
 // The canonical text of the bill that the value asks about.
@@ -53,7 +53,7 @@ impl Respond for Command {
 
     fn answer(&self, alloc: Global, bytes: &[u8]) -> Result<Answer, AllocError> {
         let Some(value) = read_json(alloc, bytes)? else {
-            return refuse(alloc, UNUSABLE, "not JSON");
+            return refuse(alloc, Status::Unusable as u8, "not JSON");
         };
         match self {
             Command::Text => answer_text(alloc, value),

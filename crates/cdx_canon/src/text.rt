@@ -22,7 +22,7 @@ use serde_json::{Map, Value, put};
 use std::alloc::{AllocError, Global};
 
 /// The canonical text of the bill: the compact text, by `serde_json`, of the JSON spelling in 1.5 of the bill with the
-/// label 1.5 and with a tools object without parts in place of an empty tool list. Only want of memory is refused.
+/// label 1.5 and with a tools object without parts in place of an empty tool list. Only want of memory refuses.
 /// The laws that there is one text for each bill and that it reads back hold for shallow bills, as every bill is that is
 /// read; `Bom::shallow` tests it.
 pub fn canon(alloc: Global, bill: &Bom) -> Result<Text, AllocError>

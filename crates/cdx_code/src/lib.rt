@@ -3,7 +3,6 @@
 
 pub mod code;
 mod json;
-mod reading;
-mod writing;
+mod xml;
 
 pub use code::{Commit, Commits, IdentifiableAction};

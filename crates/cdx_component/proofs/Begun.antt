@@ -10,7 +10,7 @@ use Rattle.cdx_schema.specs.Faults.{lacking}
 use Rattle.cdx_schema.specs.Results.{◌>>=◌}
 use Rattle.cdx_schema.specs.Table.{rows}
 use Rattle.cdx_schema.specs.XmlReading.{attributes_read, ended}
-use Rattle.cdx_json.specs.Groups.{group}
+use Rattle.cdx_schema.specs.Groups.{group}
 use Rattle.cdx_leaf.specs.Attribute.{or_fault}
 use Rattle.cdx_leaf.specs.Fault.{FailsAt}
 use Rattle.cdx_leaf.proofs.Groups.{attributes_of_two, ended_of_two}
@@ -20,9 +20,9 @@ use Rattle.cdx_component.specs.ReadingParts.{naming_part, component_part, pedigr
 use Rattle.cdx_component.specs.declared.component.parts.Origin.{Origin}
 use Rattle.cdx_component.specs.declared.component.parts.Marks.{Marks}
 use Rattle.cdx_component.specs.declared.component.parts.Contents.{Contents}
-use Rattle.cdx_component.specs.declared.reading.parts.NamingPart.{NamingPart}
-use Rattle.cdx_component.specs.declared.reading.parts.ComponentPart.{ComponentPart}
-use Rattle.cdx_component.specs.declared.reading.parts.PedigreePart.{PedigreePart}
+use Rattle.cdx_component.specs.declared.xml.reading.parts.NamingPart.{NamingPart}
+use Rattle.cdx_component.specs.declared.xml.reading.parts.ComponentPart.{ComponentPart}
+use Rattle.cdx_component.specs.declared.xml.reading.parts.PedigreePart.{PedigreePart}
 use Rattle.cdx_component.proofs.Grouped.{component_rows}
 
 -- six rows that hold nothing yet

@@ -23,7 +23,8 @@ use Rattle.cdx_component.specs.declared.component.Components.{Components}
 use Rattle.cdx_component.specs.declared.component.Pedigree.{Pedigree}
 use Rattle.cdx_component.specs.Trees.{component_tree, components_tree, pedigree_tree, origin, naming, marks, contents, component_fields, pedigree_fields}
 use Rattle.cdx_component.specs.Laws.{component_tree-out, pedigree_tree-out, pedigree_tree-roll}
-use Rattle.cdx_json.specs.Groups.{group, group_read}
+use Rattle.cdx_schema.specs.Groups.{group}
+use Rattle.cdx_json.specs.Groups.{group_read}
 use Rattle.cdx_component.specs.Groups.{component_by_groups}
 use Rattle.cdx_json.proofs.Groups.{held_four, four_equal, put_split, tree_spelled}
 

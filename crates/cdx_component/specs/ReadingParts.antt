@@ -11,9 +11,9 @@ use Rattle.cdx_code.specs.Records.{commits_tree}
 use Rattle.cdx_patch.specs.Records.{patches_tree}
 use Rattle.cdx_component.specs.Trees.{components_tree}
 use Rattle.cdx_component.specs.PartTrees.{origin_trees, marks_trees, contents_trees}
-use Rattle.cdx_component.specs.declared.reading.parts.NamingPart.{NamingPart}
-use Rattle.cdx_component.specs.declared.reading.parts.ComponentPart.{ComponentPart}
-use Rattle.cdx_component.specs.declared.reading.parts.PedigreePart.{PedigreePart}
+use Rattle.cdx_component.specs.declared.xml.reading.parts.NamingPart.{NamingPart}
+use Rattle.cdx_component.specs.declared.xml.reading.parts.ComponentPart.{ComponentPart}
+use Rattle.cdx_component.specs.declared.xml.reading.parts.PedigreePart.{PedigreePart}
 
 abbrev pub naming_part : NamingPart → Trees
 naming_part p = trees (present text p.group ∷ present text p.name ∷ present text p.version ∷ present text p.description ∷ present text p.scope ∷ present hashes_tree p.hashes ∷ [])

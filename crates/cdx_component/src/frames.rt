@@ -3,7 +3,7 @@
 
 ghost use Rattle.cdx_models.specs.Trees.{component};
 ghost use Rattle.cdx_schema.specs.Kinds.{a_record};
-ghost use Rattle.cdx_json.specs.Depths.{depth_of};
+ghost use Rattle.cdx_schema.specs.Depths.{depth_of};
 ghost use Rattle.cdx_nest_machine.specs.Children.{Deepens};
 
 mod children;
@@ -16,16 +16,16 @@ use crate::frames::names::{find_in_component, find_in_list, find_in_pedigree};
 use crate::frames::putting::{
     push_component, put_component_leaf, put_part, put_pedigree_leaf, put_relatives,
 };
-use crate::reading::begin::{begin_component, begin_pedigree};
-use crate::reading::finish::{finish_component, finish_pedigree};
-use crate::reading::parts::{ComponentPart, PedigreePart};
+use crate::xml::reading::begin::{begin_component, begin_pedigree};
+use crate::xml::reading::finish::{finish_component, finish_pedigree};
+use crate::xml::reading::parts::{ComponentPart, PedigreePart};
 use cdx_events::OwnedName;
-use cdx_json::Depth;
 use cdx_leaf::{End, Rule, Start};
 use cdx_machine::Found;
 use cdx_models::{SpecVersion, XmlReadError};
 use cdx_nest_machine::{Nested, Reads};
 use cdx_push::{Leaf, LeafKind, LeafValue};
+use cdx_schema::Depth;
 use std::alloc::{AllocError, Global};
 
 /// What an element is read as that holds components or stands in one.

@@ -4,8 +4,7 @@
 pub mod component;
 mod frames;
 mod json;
-mod reading;
-mod writing;
+mod xml;
 
 pub use component::{Component, Components, Pedigree, component_row_has_versions};
 pub use frames::{ComponentFrame, ComponentKind, ComponentValue};

@@ -3,7 +3,6 @@
 
 pub mod component;
 mod json;
-mod reading;
-mod writing;
+mod xml;
 
 pub use component::{ComponentEvidence, Copyright, CopyrightTexts, Cpe, MimeType, Swid};

@@ -7,8 +7,7 @@ ghost use Rattle.serde_json.specs.View.{view};
 ghost use Rattle.serde_json.specs.Written.{has_float, compact_text};
 
 use cdx_events::{ReadSource, Text, WriteSink};
-use cdx_tool::status::{NO_MEMORY, SERVED, SINK_FAULT, SOURCE_FAULT, TOO_LONG, UNUSABLE};
-use cdx_tool::{InputError, put_answer, take_input};
+use cdx_tool::{InputError, Status, put_answer, take_input};
 use serde_json::Value;
 use std::alloc::{AllocError, Global};
 use std::io;
@@ -22,11 +21,11 @@ const LIMIT: usize = 1_073_741_824;
 fn echoed(alloc: Global, bytes: &[u8]) -> Result<String, u8> {
     let value = match Value::from_slice(alloc, bytes) {
         Ok(value) => value,
-        Err(_) => return Err(UNUSABLE),
+        Err(_) => return Err(Status::Unusable as u8),
     };
     match printed(alloc, &value) {
         Ok(text) => Ok(text),
-        Err(_) => Err(NO_MEMORY),
+        Err(_) => Err(Status::NoMemory as u8),
     }
 }
 
@@ -44,17 +43,17 @@ fn main(rt: HostRuntime) -> ExitCode {
     let alloc = rt.alloc();
     let bytes = match take_input(alloc, &mut ReadSource::new(rt.reader()), LIMIT) {
         Ok(bytes) => bytes,
-        Err(InputError::Fault) => return ExitCode::from(SOURCE_FAULT),
-        Err(InputError::TooLong) => return ExitCode::from(TOO_LONG),
-        Err(InputError::Memory(_)) => return ExitCode::from(NO_MEMORY),
+        Err(InputError::Fault) => return ExitCode::from(Status::SourceFault as u8),
+        Err(InputError::TooLong) => return ExitCode::from(Status::TooLong as u8),
+        Err(InputError::Memory(_)) => return ExitCode::from(Status::NoMemory as u8),
     };
     match echoed(alloc, bytes.as_slice()) {
         Err(status) => ExitCode::from(status),
         Ok(text) => {
             let mut sink = WriteSink::new(io::writer(&rt));
             match put_answer(&Text::from_string(text), &mut sink) {
-                Ok(()) => ExitCode::from(SERVED),
-                Err(_) => ExitCode::from(SINK_FAULT),
+                Ok(()) => ExitCode::from(Status::Served as u8),
+                Err(_) => ExitCode::from(Status::SinkFault as u8),
             }
         }
     }

@@ -1,14 +1,9 @@
 -- What is put event by event is appended.
 use Rattle.std.specs.Prelude.{Option, Some, None}
-use Rattle.std.proofs.Common.{◌≡◌, ℕ, ◌+◌, ◌<◌, List, [], ◌∷◌, ◌++◌, length, take, refl, sym, subst, ap, ◌∙◌, append_assoc, arith, length-append}
-use Rattle.std.proofs.lemmas.List.{append-nil}
+use Rattle.std.proofs.Common.{◌≡◌, ℕ, ◌+◌, ◌<◌, List, [], ◌∷◌, ◌++◌, length, take, sym, subst, ap, ◌∙◌, append_assoc, arith, length-append}
 use Rattle.std.proofs.Math.Seq.{take-append_seam}
 use Rattle.cdx_events.specs.declared.event.XmlEvent.{XmlEvent}
 use Rattle.cdx_events.specs.Told.{Keeps, Gains}
-
-nothing_gained : (written : Option (List XmlEvent)) → Gains written written []
-nothing_gained None = tt
-nothing_gained (Some xs) = sym (append-nil xs)
 
 gains_more : (a b c : Option (List XmlEvent)) (xs ys : List XmlEvent) → Gains a b xs → Gains b c ys → Gains a c (xs ++ ys)
 gains_more None b c xs ys p q = tt
@@ -29,9 +24,6 @@ pub record IsPut (events waiting : List XmlEvent) (put : ℕ) (old now : Option 
   pub count : length front ≡ put
   pub gained : Gains old now front
 
-pub none_put : (events waiting : List XmlEvent) (old : Option (List XmlEvent)) → waiting ≡ events → IsPut events waiting 0 old old
-none_put events waiting old e = record { front = []; whole = sym e; count = refl; gained = nothing_gained old }
-
 pub one_put : (events waiting rest : List XmlEvent) (event : XmlEvent) (put : ℕ) (old now next : Option (List XmlEvent)) → IsPut events waiting put old now → waiting ≡ event ∷ rest → Gains now next (event ∷ []) → IsPut events rest (put + 1) old next
 one_put events waiting rest event put old now next p w g =
     record {
@@ -46,6 +38,3 @@ put_fails events waiting rest event put old now next p w k =
     let whole : events ≡ p.front ++ event ∷ rest = p.whole ∙ ap (λ zs. p.front ++ zs) w in
     let front : take put events ≡ p.front = subst (λ n. take n events ≡ p.front) p.count (ap (λ zs. take (length p.front) zs) p.whole ∙ take-append_seam p.front waiting) in
     (subst (λ zs. Gains old next zs) (sym front) (gains_kept old now next p.front p.gained k), omega (arith, ap (λ zs. length zs) whole, length-append p.front (event ∷ rest), p.count))
-
-pub all_put : (events waiting : List XmlEvent) (put : ℕ) (old now : Option (List XmlEvent)) → IsPut events waiting put old now → waiting ≡ [] → Gains old now events
-all_put events waiting put old now p w = subst (λ zs. Gains old now zs) (sym (p.whole ∙ ap (λ zs. p.front ++ zs) w ∙ append-nil p.front)) p.gained

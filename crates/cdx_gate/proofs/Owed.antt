@@ -1,16 +1,16 @@
 -- What is owed to what a source had left.
 use Rattle.std.proofs.Common.{◌≡◌, ℕ, ◌+◌, ◌-◌, min, ◌≤◌, ◌<◌, List, [], ◌∷◌, ◌++◌, length, take, drop, Option, String, Some, None, ◌⊎◌, inl, inr, refl, sym, ap, subst, ◌∙◌, arith, append-nil, append_assoc, length-append}
 use Rattle.std.specs.declared.alloc.Global.{Global}
-use Rattle.std.specs.Io.KnownBytes.{Appends, Consumes, Keeps, IsAtEnd}
-use Rattle.std.proofs.KnownBytes.{Appends-nil, Consumes-nil, Consumes-trans, Consumes-kept}
+use Rattle.std.specs.Io.KnownBytes.{Appends, Consumes, IsAtEnd}
+use Rattle.std.proofs.KnownBytes.{Appends-nil, Consumes-trans}
 use Rattle.std.proofs.lemmas.Bool.{cases_lt, lt-ltb, le-ltb}
 use Rattle.std.proofs.lemmas.List.{take_all, take-append-le, take-take, take-append-drop, length-take-le}
 use Rattle.std.proofs.Math.Seq.{take-append-add}
 use Rattle.cdx_tool.specs.Run.{Tells}
 use Rattle.cdx_gate.specs.Lines.{ended_lines, unended, lines, replies}
-use Rattle.cdx_gate.specs.Gate.{answered, no_words, PutsFront, PutsTaken, HasServed, AnsweringStops, ServingEnds}
+use Rattle.cdx_gate.specs.Gate.{answered, no_words, PutsFront, HasServed, AnsweringStops, ServingEnds}
 use Rattle.cdx_gate.proofs.LineLaws.{ended_on, lines_on}
-use Rattle.cdx_gate.proofs.Served.{stands_first, stops_more}
+use Rattle.cdx_gate.proofs.Served.{stops_more}
 
 -- So many bytes may still come, and of what was taken this stands.
 abbrev pub TakenSoFar : ℕ → ℕ → Option (List ℕ) → Option (List ℕ) → Option (List ℕ) → Option (List ℕ) → List ℕ → Type 0
@@ -19,9 +19,6 @@ TakenSoFar limit left o n a b held = (taken : List ℕ) × Consumes o n taken ×
 -- How serving ends, whatever the bytes are that weren't told.
 abbrev pub EndsOf : ℕ → Option (List ℕ) → ℕ → Option (List ℕ) → Option (List ℕ) → Type 0
 EndsOf limit o status a b = (bytes : List ℕ) × Tells o bytes × ServingEnds [] limit bytes status a b
-
-pub none_taken : (limit : ℕ) (o a : Option (List ℕ)) → TakenSoFar limit limit o o a a []
-none_taken limit o a = ([], Consumes-nil o, omega arith, stands_first a)
 
 -- ---- what was told
 
@@ -69,9 +66,6 @@ stopped_is limit bytes status a b s = elim s [ inl f ↦ inr (inr (inl f)) | inr
 pub fault_ends : (limit left : ℕ) (o n a b : Option (List ℕ)) (held : List ℕ) → TakenSoFar limit left o n a b held → EndsOf limit o 3 a b
 fault_ends limit left o n a b held x = let f = told_front o n x.0 x.1 in (f.0, f.2, inr (inl refl))
 
-pub fault_puts : (limit left : ℕ) (o n m a b : Option (List ℕ)) (held : List ℕ) → TakenSoFar limit left o n a b held → Keeps n m → PutsTaken limit o m a b
-fault_puts limit left o n m a b held x k = (x.0, Consumes-kept o n m x.0 x.1 k, omega (arith, x.2), x.3.0)
-
 -- ---- at the end
 
 took_none : (o n m : Option (List ℕ)) (taken buf : List ℕ) (count : ℕ) → count ≡ 0 → Consumes o n taken → Consumes n m (take count buf) → Consumes o m taken
@@ -92,9 +86,6 @@ end_ends limit left o n m a b c held buf count status none x q at_end last =
         | inr s ↦ stopped_is limit taken status a c (subst (λ ls. AnsweringStops ls status a c) (sym (answered_within limit taken fits)) s)
       ],
     )
-
-pub end_takes : (limit left : ℕ) (o n m a b : Option (List ℕ)) (held buf : List ℕ) (count : ℕ) → count ≡ 0 → TakenSoFar limit left o n a b held → Consumes n m (take count buf) → (taken : List ℕ) × Consumes o m taken × (length taken ≤ limit + 1)
-end_takes limit left o n m a b held buf count none x q = (x.0, took_none o n m x.0 buf count none x.1 q, omega (arith, x.2))
 
 -- ---- after a take
 

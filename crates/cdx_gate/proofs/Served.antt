@@ -1,8 +1,8 @@
 -- What stands while lines are answered, and how it stops.
-use Rattle.std.proofs.Common.{◌≡◌, ℕ, ◌+◌, ◌-◌, min, ◌≤◌, ◌<◌, List, [], ◌∷◌, ◌++◌, length, take, drop, get_or, suc, codes, Option, Result, Ok, Err, OnOk, IfErr, true, ◌⊎◌, inl, inr, refl, sym, ap, subst, ◌∙◌, arith, append-nil, append_assoc, length-append}
+use Rattle.std.proofs.Common.{◌≡◌, ℕ, ◌+◌, ◌-◌, min, ◌≤◌, ◌<◌, List, [], ◌∷◌, ◌++◌, length, take, drop, get_or, suc, codes, Option, Result, Ok, Err, OnOk, true, ◌⊎◌, inl, inr, refl, sym, ap, subst, ◌∙◌, arith, append-nil, append_assoc, length-append}
 use Rattle.std.specs.Prelude.{is_ok, if◌then◌else◌}
 use Rattle.std.specs.Io.KnownBytes.{Appends}
-use Rattle.std.proofs.KnownBytes.{Appends-nil, Appends-trans}
+use Rattle.std.proofs.KnownBytes.{Appends-trans}
 use Rattle.std.proofs.lemmas.Bool.{cases_lt, lt-ltb}
 use Rattle.std.proofs.lemmas.List.{take_all, take-append-le, take-take, take_min, take_rest, length-take-le}
 use Rattle.std.proofs.lemmas.List.Concat.{flat_map-append}
@@ -10,7 +10,7 @@ use Rattle.std.proofs.Math.Seq.{take-append_seam, take-append-add}
 use Rattle.cdx_request.specs.Replies as request
 use Rattle.cdx_request.specs.Replies.{Reply, reply_to, limit, no_request}
 use Rattle.cdx_gate.specs.Lines.{line_feed, has_no_feed, ended_lines, unended, without_empty_end, lines, line_reply, replies}
-use Rattle.cdx_gate.specs.Gate.{kept, IsFlushed, PutsFront, PutsFirst, HasServed, AnsweringStops}
+use Rattle.cdx_gate.specs.Gate.{most_held, IsFlushed, PutsFront, PutsFirst, HasServed, AnsweringStops}
 use Rattle.cdx_gate.proofs.LineLaws.{ended_on, ended_same, unended_same, ended_fed, unended_fed, lines_whole, at_feed}
 
 -- ---- what is kept of a line
@@ -33,8 +33,8 @@ unfolding too_long line_reply
 is_too_long l h = ap (λ (r : Reply). r.text) (sym (long_is l h))
 
 -- what is kept of a line gets the line's reply
-reply_kept : (l : List ℕ) → line_reply (take kept l) ≡ line_reply l
-reply_kept l = same_first line_reply too_long limit kept (omega arith) is_too_long l
+reply_kept : (l : List ℕ) → line_reply (take most_held l) ≡ line_reply l
+reply_kept l = same_first line_reply too_long limit most_held (omega arith) is_too_long l
 
 take_twice : (k : ℕ) (r p : List ℕ) → take k (take k r ++ p) ≡ take k (r ++ p)
 take_twice k r p = elim (cases_lt k (length r)) [
@@ -54,14 +54,11 @@ held_first k xs ys le =
 
 -- ---- what stands
 
-pub stands_first : (a : Option (List ℕ)) → HasServed [] a a []
-stands_first a = (Appends-nil a, refl)
-
 -- after bytes without a line feed
-pub stands_on : (taken p held : List ℕ) (a b : Option (List ℕ)) → has_no_feed p ≡ true → HasServed taken a b held → HasServed (taken ++ p) a b (take kept (held ++ p))
+pub stands_on : (taken p held : List ℕ) (a b : Option (List ℕ)) → has_no_feed p ≡ true → HasServed taken a b held → HasServed (taken ++ p) a b (take most_held (held ++ p))
 stands_on taken p held a b clean s = (
   subst (λ ls. Appends a b (replies ls)) (sym (ended_same taken p clean)) s.0,
-  ap (λ h. take kept (h ++ p)) s.1 ∙ (take_twice kept (unended taken) p ∙ ap (take kept) (sym (unended_same taken p clean))),
+  ap (λ h. take most_held (h ++ p)) s.1 ∙ (take_twice most_held (unended taken) p ∙ ap (take most_held) (sym (unended_same taken p clean))),
 )
 
 -- the replies to the lines and to one more
@@ -74,7 +71,7 @@ stands_fed taken held a b c s p =
     let answered : Appends b c (line_reply (unended taken)) = subst (Appends b c) (ap line_reply s.1 ∙ reply_kept (unended taken)) p in
     let text : replies (ended_lines (taken ++ line_feed ∷ [])) ≡ replies (ended_lines taken) ++ line_reply (unended taken) = ap replies (ended_fed taken) ∙ one_more (ended_lines taken) (unended taken) in (
       subst (Appends a c) (sym text) (Appends-trans a b c (replies (ended_lines taken)) (line_reply (unended taken)) s.0 answered),
-      sym (ap (take kept) (unended_fed taken)),
+      sym (ap (take most_held) (unended_fed taken)),
     )
 
 -- ---- how it stops
@@ -116,27 +113,19 @@ pub on_ok : {X E : Type 0} (n a b t : List ℕ) (r : Result X E) → n ≡ (if i
 on_ok n a b t (Ok x) e f = e ∙ f
 on_ok n a b t (Err x) e f = tt
 
-pub on_ok_then : {X E P Q : Type 0} (r : Result X E) → OnOk r P → (P → Q) → OnOk r Q
-on_ok_then (Ok x) h f = f h
-on_ok_then (Err x) h f = tt
-
-pub if_err_then : {X E : Type 0} (P Q : E → Type 0) (r : Result X E) → IfErr r P → ((e : E) → P e → Q e) → IfErr r Q
-if_err_then P Q (Ok x) h f = tt
-if_err_then P Q (Err x) h f = f x h
-
 -- ---- a turn: a line feed after these bytes
 
-pub turned : (taken p held : List ℕ) (a b c : Option (List ℕ)) → has_no_feed p ≡ true → HasServed taken a b held → Appends b c (line_reply (take kept (held ++ p))) → HasServed (taken ++ (p ++ line_feed ∷ [])) a c []
+pub turned : (taken p held : List ℕ) (a b c : Option (List ℕ)) → has_no_feed p ≡ true → HasServed taken a b held → Appends b c (line_reply (take most_held (held ++ p))) → HasServed (taken ++ (p ++ line_feed ∷ [])) a c []
 turned taken p held a b c clean s put =
-    subst (λ t. HasServed t a c []) (append_assoc taken p (line_feed ∷ [])) (stands_fed (taken ++ p) (take kept (held ++ p)) a b c (stands_on taken p held a b clean s) put)
+    subst (λ t. HasServed t a c []) (append_assoc taken p (line_feed ∷ [])) (stands_fed (taken ++ p) (take most_held (held ++ p)) a b c (stands_on taken p held a b clean s) put)
 
 -- its line was not answered, whatever comes after it
 pub turn_stops : (taken p rest held : List ℕ) (status : ℕ) (a b c : Option (List ℕ)) → has_no_feed p ≡ true → HasServed taken a b held
-    → ((status ≡ 4) × PutsFront b c (line_reply (take kept (held ++ p)))) ⊎ ((status ≡ 5) × (c ≡ b)) → AnsweringStops (ended_lines (taken ++ (p ++ line_feed ∷ rest))) status a c
+    → ((status ≡ 4) × PutsFront b c (line_reply (take most_held (held ++ p)))) ⊎ ((status ≡ 5) × (c ≡ b)) → AnsweringStops (ended_lines (taken ++ (p ++ line_feed ∷ rest))) status a c
 turn_stops taken p rest held status a b c clean s why =
     let t = taken ++ p in
-    let on : HasServed t a b (take kept (held ++ p)) = stands_on taken p held a b clean s in
-    let text : line_reply (take kept (held ++ p)) ≡ line_reply (unended t) = ap line_reply on.1 ∙ reply_kept (unended t) in
+    let on : HasServed t a b (take most_held (held ++ p)) = stands_on taken p held a b clean s in
+    let text : line_reply (take most_held (held ++ p)) ≡ line_reply (unended t) = ap line_reply on.1 ∙ reply_kept (unended t) in
     let why_not : ((status ≡ 4) × PutsFront b c (line_reply (unended t))) ⊎ ((status ≡ 5) × (c ≡ b)) = subst (λ x. ((status ≡ 4) × PutsFront b c x) ⊎ ((status ≡ 5) × (c ≡ b))) text why in
     let here : AnsweringStops (ended_lines (t ++ line_feed ∷ [])) status a c = subst (λ ls. AnsweringStops ls status a c) (sym (ended_fed t)) (stops_at (ended_lines t) (unended t) status a b c on.0 why_not) in
     let whole : taken ++ (p ++ line_feed ∷ rest) ≡ (t ++ line_feed ∷ []) ++ rest = sym (append_assoc taken p (line_feed ∷ rest)) ∙ sym (append_assoc t (line_feed ∷ []) rest) in
@@ -194,25 +183,25 @@ rest_after bytes done rest at e lt is =
     let fed : rest ≡ (take at rest ++ line_feed ∷ []) ++ back = at_feed rest at lt is ∙ sym (append_assoc (take at rest) (line_feed ∷ []) back) in
     e ∙ (ap (λ x. done ++ x) fed ∙ (sym (append_assoc done (take at rest ++ line_feed ∷ []) back) ∙ ap (λ x. (done ++ (take at rest ++ line_feed ∷ [])) ++ x) (sym (take_rest rest (at + 1)))))
 
-pub turned_on : (taken done p held held_now : List ℕ) (a b c : Option (List ℕ)) → has_no_feed p ≡ true → held_now ≡ [] → HasServed (taken ++ done) a b held → Appends b c (line_reply (take kept (held ++ p)))
+pub turned_on : (taken done p held held_now : List ℕ) (a b c : Option (List ℕ)) → has_no_feed p ≡ true → held_now ≡ [] → HasServed (taken ++ done) a b held → Appends b c (line_reply (take most_held (held ++ p)))
     → HasServed (taken ++ (done ++ (p ++ line_feed ∷ []))) a c held_now
 turned_on taken done p held held_now a b c clean none s put =
     stands_to ((taken ++ done) ++ (p ++ line_feed ∷ [])) (taken ++ (done ++ (p ++ line_feed ∷ []))) [] held_now a c (append_assoc taken done (p ++ line_feed ∷ [])) none (turned (taken ++ done) p held a b c clean s put)
 
 pub stops_among : (taken bytes done rest held : List ℕ) (at status : ℕ) (a b c : Option (List ℕ)) → bytes ≡ done ++ rest → at < length rest → get_or rest at 0 ≡ line_feed → has_no_feed (take at rest) ≡ true → HasServed (taken ++ done) a b held
-    → ((status ≡ 4) × PutsFront b c (line_reply (take kept (held ++ take at rest)))) ⊎ ((status ≡ 5) × (c ≡ b)) → AnsweringStops (ended_lines (taken ++ bytes)) status a c
+    → ((status ≡ 4) × PutsFront b c (line_reply (take most_held (held ++ take at rest)))) ⊎ ((status ≡ 5) × (c ≡ b)) → AnsweringStops (ended_lines (taken ++ bytes)) status a c
 stops_among taken bytes done rest held at status a b c e lt is clean s why =
     let whole : taken ++ bytes ≡ (taken ++ done) ++ (take at rest ++ line_feed ∷ drop (at + 1) rest) = whole_bytes taken bytes done rest e ∙ ap (λ x. (taken ++ done) ++ x) (at_feed rest at lt is) in
     subst (λ x. AnsweringStops (ended_lines x) status a c) (sym whole) (turn_stops (taken ++ done) (take at rest) (drop (at + 1) rest) held status a b c clean s why)
 
 -- no line feed is left
-pub stands_all : (taken bytes done rest held held_now : List ℕ) (a b : Option (List ℕ)) → bytes ≡ done ++ rest → has_no_feed rest ≡ true → HasServed (taken ++ done) a b held → held_now ≡ take kept (held ++ rest) → HasServed (taken ++ bytes) a b held_now
+pub stands_all : (taken bytes done rest held held_now : List ℕ) (a b : Option (List ℕ)) → bytes ≡ done ++ rest → has_no_feed rest ≡ true → HasServed (taken ++ done) a b held → held_now ≡ take most_held (held ++ rest) → HasServed (taken ++ bytes) a b held_now
 stands_all taken bytes done rest held held_now a b e clean s f =
-    stands_to ((taken ++ done) ++ rest) (taken ++ bytes) (take kept (held ++ rest)) held_now a b (sym (whole_bytes taken bytes done rest e)) f (stands_on (taken ++ done) rest held a b clean s)
+    stands_to ((taken ++ done) ++ rest) (taken ++ bytes) (take most_held (held ++ rest)) held_now a b (sym (whole_bytes taken bytes done rest e)) f (stands_on (taken ++ done) rest held a b clean s)
 
 pub stops_all : (taken bytes done rest held : List ℕ) (a b : Option (List ℕ)) → bytes ≡ done ++ rest → has_no_feed rest ≡ true → HasServed (taken ++ done) a b held → AnsweringStops (ended_lines (taken ++ bytes)) 5 a b
 stops_all taken bytes done rest held a b e clean s =
-    stops_here (ended_lines (taken ++ bytes)) a b (stands_all taken bytes done rest held (take kept (held ++ rest)) a b e clean s refl).0
+    stops_here (ended_lines (taken ++ bytes)) a b (stands_all taken bytes done rest held (take most_held (held ++ rest)) a b e clean s refl).0
 
 -- A sink that was flushed stays so where it isn't touched.
 pub flushed_on : {K : Type 0} (written : K → Option (List ℕ)) (flushed : K → Option ℕ) (first old new : K) → (old ≡ first) ⊎ IsFlushed (written old) (flushed old) → (new ≡ old) ⊎ IsFlushed (written new) (flushed new)

@@ -6,9 +6,9 @@ use Rattle.cdx_request.specs.Replies as request
 use Rattle.cdx_request.specs.Replies.{Reply, no_request}
 use Rattle.cdx_gate.specs.Lines.{lines, ended_lines, unended, replies}
 
--- how many bytes of a line are kept: one more than a request may have, which tells that the line is too long
-abbrev pub kept : ℕ
-kept = 67108865
+-- how many bytes of a line are held at most: one more than a request may have, which tells that the line is too long
+abbrev pub most_held : ℕ
+most_held = 67108865
 
 -- The lines that are answered of all bytes: each, or where there are more bytes than the limit those that a line feed
 -- ends within it.
@@ -46,9 +46,9 @@ abbrev pub PutsTaken : ℕ → Option (List ℕ) → Option (List ℕ) → Optio
 PutsTaken limit left rest before now = (taken : List ℕ) × Consumes left rest taken × (length taken ≤ limit) × Appends before now (replies (ended_lines taken))
 
 -- The bytes so far: the replies of the lines that a line feed ends in them went out, and of the line after the last of
--- them so much is held as is kept.
+-- them at most so much is held.
 abbrev pub HasServed : List ℕ → Option (List ℕ) → Option (List ℕ) → List ℕ → Type 0
-HasServed taken before now held = Appends before now (replies (ended_lines taken)) × (held ≡ take kept (unended taken))
+HasServed taken before now held = Appends before now (replies (ended_lines taken)) × (held ≡ take most_held (unended taken))
 
 -- How answering these lines stops: by a sink's fault in the midst of a reply, or for want of memory between two.
 abbrev pub AnsweringStops : List (List ℕ) → ℕ → Option (List ℕ) → Option (List ℕ) → Type 0

@@ -4,12 +4,11 @@ ghost use Rattle.std.specs.Prelude.{◌≡◌, ◌≤◌, ◌⊎◌, [], ◌++�
 ghost use Rattle.std.specs.Io.KnownBytes.{Appends};
 ghost use Rattle.cdx_events.specs.Causes.{Rose};
 ghost use Rattle.cdx_gate.specs.Lines.{ended_lines, lines, line_reply, replies};
-ghost use Rattle.cdx_gate.specs.Gate.{kept, no_words, IsFlushed, PutsFront, HasServed, AnsweringStops};
+ghost use Rattle.cdx_gate.specs.Gate.{most_held, no_words, IsFlushed, PutsFront, HasServed, AnsweringStops};
 
 use crate::line::{find_feed, hold};
 use cdx_events::{Sink, Text};
-use cdx_tool::status::{NO_MEMORY, SERVED, SINK_FAULT, UNUSABLE};
-use cdx_tool::{answer_bytes, put_answer, refuse};
+use cdx_tool::{Status, answer_bytes, put_answer, refuse};
 use std::alloc::Global;
 
 // Puts a text and flushes, or gives the status in its place.
@@ -24,7 +23,7 @@ fn put<K: Sink>(text: &Text, sink: &mut K) -> Result<(), u8>
 {
     match put_answer(text, sink) {
         Ok(()) => Ok(()),
-        Err(_) => Err(SINK_FAULT),
+        Err(_) => Err(Status::SinkFault as u8),
     }
 }
 
@@ -38,12 +37,12 @@ pub(crate) fn answer_words<K: Sink>(alloc: Global, sink: &mut K) -> u8
         ⊎ ((result ≡ 5) × (sink.new ≡ sink.old)) }
     ensures later { K.faults sink.old ≤ K.faults sink.new }
 {
-    match refuse(alloc, UNUSABLE, "words") {
+    match refuse(alloc, Status::Unusable as u8, "words") {
         Ok(answer) => match put(&answer.text, sink) {
             Ok(()) => answer.status,
             Err(status) => status,
         },
-        Err(_) => NO_MEMORY,
+        Err(_) => Status::NoMemory as u8,
     }
 }
 
@@ -62,7 +61,7 @@ fn answer_line<K: Sink>(alloc: Global, line: &[u8], sink: &mut K) -> Result<(), 
 {
     match answer_bytes(alloc, line) {
         Ok(answer) => put(&answer.text, sink),
-        Err(_) => Err(NO_MEMORY),
+        Err(_) => Err(Status::NoMemory as u8),
     }
 }
 
@@ -73,22 +72,22 @@ fn end_line<K: Sink>(
     line: &mut Vec<u8>,
     sink: &mut K,
 ) -> Result<(), u8>
-    requires { vec_len line.old ≤ kept }
+    requires { vec_len line.old ≤ most_held }
     ensures ok { OnOk result (Appends (K.written sink.old) (K.written sink.new)
-        (line_reply (take kept (line.old.items ++ bytes.now)))) }
+        (line_reply (take most_held (line.old.items ++ bytes.now)))) }
     ensures none { OnOk result (line.new.items ≡ []) }
     ensures flushed { OnOk result (IsFlushed (K.written sink.new) (K.flushed sink.new)) }
     ensures ok_cause { OnOk result (K.faults sink.new ≡ K.faults sink.old) }
     ensures err { IfErr result (λ status.
         ((status ≡ 4) × PutsFront (K.written sink.old) (K.written sink.new)
-        (line_reply (take kept (line.old.items ++ bytes.now)))
+        (line_reply (take most_held (line.old.items ++ bytes.now)))
         × Rose (K.faults sink.old) (K.faults sink.new))
         ⊎ ((status ≡ 5) × (sink.new ≡ sink.old))) }
     ensures later { K.faults sink.old ≤ K.faults sink.new }
 {
     match hold(line, bytes) {
         Ok(()) => {}
-        Err(_) => return Err(NO_MEMORY),
+        Err(_) => return Err(Status::NoMemory as u8),
     }
     let answered = answer_line(alloc, line.as_slice(), sink);
     line.clear();
@@ -109,10 +108,10 @@ pub(crate) fn answer_last<K: Sink>(alloc: Global, line: &[u8], sink: &mut K) -> 
     ensures later { K.faults sink.old ≤ K.faults sink.new }
 {
     if line.is_empty() {
-        return SERVED;
+        return Status::Served as u8;
     }
     match answer_line(alloc, line, sink) {
-        Ok(()) => SERVED,
+        Ok(()) => Status::Served as u8,
         Err(status) => status,
     }
 }
@@ -125,14 +124,14 @@ pub(crate) fn answer_ended<K: Sink>(
     line: &mut Vec<u8>,
     sink: &mut K,
 ) -> Result<(), u8>
-    requires { vec_len line.old ≤ kept }
+    requires { vec_len line.old ≤ most_held }
     ensures ok { (taken : List ℕ) (first : Option (List ℕ))
         → HasServed taken first (K.written sink.old) line.old.items
         → OnOk result (HasServed (taken ++ bytes.now) first (K.written sink.new) line.new.items) }
     ensures flushed { OnOk result
         ((sink.new ≡ sink.old) ⊎ IsFlushed (K.written sink.new) (K.flushed sink.new)) }
     ensures ok_cause { OnOk result (K.faults sink.new ≡ K.faults sink.old) }
-    ensures few { OnOk result (vec_len line.new ≤ kept) }
+    ensures few { OnOk result (vec_len line.new ≤ most_held) }
     ensures err { (taken : List ℕ) (first : Option (List ℕ))
         → HasServed taken first (K.written sink.old) line.old.items
         → IfErr result (λ status.
@@ -149,6 +148,6 @@ pub(crate) fn answer_ended<K: Sink>(
     }
     match hold(line, rest) {
         Ok(()) => Ok(()),
-        Err(_) => Err(NO_MEMORY),
+        Err(_) => Err(Status::NoMemory as u8),
     }
 }

@@ -2,7 +2,7 @@
 
 ghost use Rattle.std.specs.Prelude.{◌≡◌, ◌≤◌, ◌<◌, ◌++◌, take, slice_index, length, vec_len, true, MatchOption, OnOk};
 ghost use Rattle.cdx_gate.specs.Lines.{line_feed, has_no_feed};
-ghost use Rattle.cdx_gate.specs.Gate.{kept};
+ghost use Rattle.cdx_gate.specs.Gate.{most_held};
 
 use std::alloc::AllocError;
 
@@ -20,9 +20,9 @@ pub(crate) fn find_feed(bytes: &[u8]) -> Option<usize>
 
 /// Appends the bytes to the line, of which no more are kept than tell that it is too long.
 pub(crate) fn hold(line: &mut Vec<u8>, bytes: &[u8]) -> Result<(), AllocError>
-    requires { vec_len line.old ≤ kept }
-    ensures items { OnOk result (line.new.items ≡ take kept (line.old.items ++ bytes.now)) }
-    ensures few { OnOk result (vec_len line.new ≤ kept) }
+    requires { vec_len line.old ≤ most_held }
+    ensures items { OnOk result (line.new.items ≡ take most_held (line.old.items ++ bytes.now)) }
+    ensures few { OnOk result (vec_len line.new ≤ most_held) }
 {
     let room = bytes.len().min(KEPT - line.len());
     line.extend_from_slice(&bytes[..room])

@@ -8,7 +8,7 @@ ghost use Rattle.cdx_gate.specs.Gate.{IsFlushed, PutsTaken, ServingEnds};
 
 use crate::answering::{answer_ended, answer_last, answer_words};
 use cdx_events::{Failed, Sink, Source};
-use cdx_tool::status::{SOURCE_FAULT, TOO_LONG};
+use cdx_tool::Status;
 use std::alloc::Global;
 
 const CHUNK: usize = 4096;
@@ -39,7 +39,7 @@ fn serve_lines<S: Source, K: Sink>(alloc: Global, limit: u64, source: &mut S, si
         let room = left.min(CHUNK - 1) + 1;
         let count = match source.take(&mut chunk[..room]) {
             Ok(count) => count,
-            Err(Failed) => return SOURCE_FAULT,
+            Err(Failed) => return Status::SourceFault as u8,
         };
         if count == 0 {
             return answer_last(alloc, line.as_slice(), sink);
@@ -49,7 +49,7 @@ fn serve_lines<S: Source, K: Sink>(alloc: Global, limit: u64, source: &mut S, si
             return status;
         }
         if within < count {
-            return TOO_LONG;
+            return Status::TooLong as u8;
         }
         left -= count;
     }

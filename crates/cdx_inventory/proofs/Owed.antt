@@ -13,7 +13,7 @@ use Rattle.cdx_tool.specs.declared.answer.Answer.{Answer}
 use Rattle.cdx_tool.specs.Shows.{reply_of}
 use Rattle.cdx_tool.specs.Owed.{reply_by, IsSettled}
 use Rattle.cdx_tool.specs.Run.{Tells, Ends}
-use Rattle.cdx_ask.specs.Asks.{Lack, misread, bill_refused, bill_in, AsksFor, reply_to_bill, reply_if_read, reply_asking}
+use Rattle.cdx_tool.specs.Asks.{Lack, misread, bill_refused, bill_in, AsksFor, reply_to_bill, reply_if_read, reply_asking}
 use Rattle.cdx_inventory.specs.declared.entry.Entry.{Entry}
 use Rattle.cdx_inventory.specs.Entries.{Told, told, all_told}
 use Rattle.cdx_inventory.specs.Stock.{Command, if_version, entry_value, components_answer, answer_to, reply_to_command}

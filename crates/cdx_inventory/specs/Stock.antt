@@ -8,7 +8,7 @@ use Rattle.cdx_models.specs.Trees.{Tree}
 use Rattle.cdx_request.specs.Refusals.{only, a_text}
 use Rattle.cdx_request.specs.Replies.{Reply}
 use Rattle.cdx_tool.specs.Owed.{reply_by}
-use Rattle.cdx_ask.specs.Asks.{reply_asking}
+use Rattle.cdx_tool.specs.Asks.{reply_asking}
 use Rattle.cdx_inventory.specs.Entries.{Told, inventory}
 
 -- ---- the answer

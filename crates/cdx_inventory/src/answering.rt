@@ -5,21 +5,22 @@ ghost use Rattle.serde_json.specs.View.{view};
 ghost use Rattle.cdx_bom.specs.Trees.{bom_tree};
 ghost use Rattle.cdx_request.specs.Replies.{reply};
 ghost use Rattle.cdx_tool.specs.Shows.{reply_of};
-ghost use Rattle.cdx_ask.specs.Asks.{bill_in, reply_to_bill, reply_asking};
+ghost use Rattle.cdx_tool.specs.Asks.{bill_in, reply_to_bill, reply_asking};
 ghost use Rattle.cdx_inventory.specs.Entries.{all_told};
 ghost use Rattle.cdx_inventory.specs.Stock.{components_answer as components_in, to_list, answer_to};
 
 use crate::entry::Entry;
 use crate::listing::inventory;
-use cdx_ask::{answer_lack, take_bill};
 use cdx_bom::Bom;
 use cdx_events::List as Items;
-use cdx_tool::status::{SERVED, UNUSABLE};
-use cdx_tool::{Answer, Shown, answer_value, items_to_json, only, read_json, refuse};
+use cdx_tool::{
+    Answer, JsonItem, Status, answer_lack, answer_value, items_to_json, only, read_json, refuse,
+    take_bill,
+};
 use serde_json::{Value, json};
 use std::alloc::{AllocError, Global};
 
-impl Shown for Entry {
+impl JsonItem for Entry {
     ghost use Rattle.cdx_inventory.specs.Entries.{told};
     ghost use Rattle.cdx_inventory.specs.Stock.{entry_value};
 
@@ -55,7 +56,7 @@ fn answer_bill(alloc: Global, bill: &Bom, license: Option<&str>) -> Result<Answe
 {
     let entries = inventory(alloc, bill, license)?;
     let value = components_answer(alloc, &entries)?;
-    answer_value(alloc, SERVED, &value)
+    answer_value(alloc, Status::Served as u8, &value)
 }
 
 fn answer_question(alloc: Global, value: Value, license: Option<&str>) -> Result<Answer, AllocError>
@@ -79,7 +80,7 @@ pub(crate) fn answer_bytes(
         IfOk result (λ a. reply_of a ≡ reply_asking (answer_to asked) bytes.now) }
 {
     match read_json(alloc, bytes)? {
-        None => refuse(alloc, UNUSABLE, "not JSON"),
+        None => refuse(alloc, Status::Unusable as u8, "not JSON"),
         Some(value) => answer_question(alloc, value, license),
     }
 }

@@ -7,7 +7,7 @@ ghost use Rattle.cdx_models.specs.Trees.{Tree};
 ghost use Rattle.cdx_request.specs.Replies.{line_of, limit};
 ghost use Rattle.cdx_tool.specs.Owed.{IsSettled};
 ghost use Rattle.cdx_tool.specs.Run.{Tells, Ends};
-ghost use Rattle.cdx_ask.specs.Asks.{AsksFor};
+ghost use Rattle.cdx_tool.specs.Asks.{AsksFor};
 ghost use Rattle.cdx_inventory.specs.Stock.{Command as Asked, to_list, command_of, answer_to, reply_for};
 
 use crate::answering::answer_bytes;

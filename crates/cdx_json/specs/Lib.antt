@@ -1,5 +1,4 @@
 pub mod Gives
-pub mod Depths
 pub mod ByRows
 pub mod KeptRows
 pub mod Stays

@@ -1,7 +1,7 @@
 //! What a value is read in.
 
-use crate::depth::Depth;
 use cdx_models::SpecVersion;
+use cdx_schema::Depth;
 use std::alloc::Global;
 
 /// What a value is read in.

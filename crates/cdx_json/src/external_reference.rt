@@ -9,7 +9,7 @@ ghost use Rattle.cdx_models.specs.Records.{uri_tree};
 ghost use Rattle.cdx_models.specs.Addresses.{uri_of};
 ghost use Rattle.cdx_schema.specs.Keeping.{kept};
 ghost use Rattle.cdx_schema.specs.JsonReading.{jread};
-ghost use Rattle.cdx_json.specs.Depths.{depth_of};
+ghost use Rattle.cdx_schema.specs.Depths.{depth_of};
 ghost use Rattle.cdx_json.specs.Gives.{Gives};
 
 use crate::context::Context;

@@ -4,7 +4,6 @@
 pub mod attached_text;
 pub mod bom;
 pub mod context;
-pub mod depth;
 pub mod external_reference;
 pub mod fault;
 pub mod hash;
@@ -17,7 +16,6 @@ pub mod traits;
 pub mod writing;
 
 pub use context::Context;
-pub use depth::Depth;
 pub use fault::{at_item, at_member, here, missing};
 pub use keeping::Keeping;
 pub use reading::{

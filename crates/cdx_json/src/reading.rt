@@ -7,7 +7,7 @@ ghost use Rattle.cdx_models.specs.Trees.{present, list_tree};
 ghost use Rattle.cdx_schema.specs.Kinds.{Lists, a_list, optional, required, else_empty, required_first};
 ghost use Rattle.cdx_schema.specs.JsonReading.{jread, seen};
 ghost use Rattle.cdx_schema.specs.JsonReading as reading;
-ghost use Rattle.cdx_json.specs.Depths.{depth_of};
+ghost use Rattle.cdx_schema.specs.Depths.{depth_of};
 ghost use Rattle.cdx_json.specs.ByRows.{IsJsonListOf, member_of, late_read, list_read};
 ghost use Rattle.cdx_json.specs.Gives.{Gives, stands, is_found, non_null};
 

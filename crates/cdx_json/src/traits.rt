@@ -9,17 +9,16 @@ ghost use Rattle.cdx_schema.specs.Depth.{top};
 ghost use Rattle.cdx_schema.specs.Keeping.{kept, keep};
 ghost use Rattle.cdx_schema.specs.JsonReading.{jread, seen};
 ghost use Rattle.cdx_schema.specs.JsonSpelling.{jspell};
-ghost use Rattle.cdx_json.specs.Depths.{depth_of};
+ghost use Rattle.cdx_schema.specs.Depths.{depth_of};
 ghost use Rattle.cdx_json.specs.Gives.{Gives, Makes};
 ghost use Rattle.cdx_json.specs.ByRows.{by_rows};
 ghost use Rattle.cdx_json.specs.KeptRows.{rows_held, rows_put};
 
 use crate::context::Context;
-use crate::depth::Depth;
 use crate::fault::here;
 use crate::keeping::Keeping;
 use cdx_models::{JsonKind, JsonReadError, JsonWriteError, SpecVersion};
-use cdx_schema::{Kinded, Record, Target};
+use cdx_schema::{Depth, Kinded, Record, Target};
 use serde_json::{Map, Value};
 use std::alloc::{AllocError, Global};
 
@@ -54,13 +53,13 @@ pub trait FromJson: Kinded {
 
 /// A value of which a version keeps what it knows.
 pub trait Kept: Kinded {
-    /// What a version keeps of it, where a bill's label becomes the one given. Only want of memory is refused.
+    /// What a version keeps of it, where a bill's label becomes the one given. Only want of memory refuses.
     fn kept_as(&self, keeping: Keeping) -> Result<Self, AllocError>
         ensures { IfOk result
             (λ r. Self.tree r ≡ kept keeping.version keeping.label (Self.tree self.now)
             Self.kind) };
 
-    /// What a version keeps of it: the fields that the version doesn't know are gone. Only want of memory is refused.
+    /// What a version keeps of it: the fields that the version doesn't know are gone. Only want of memory refuses.
     final fn kept(&self, alloc: Global, version: SpecVersion) -> Result<Self, AllocError>
         ensures { IfOk result (λ r. Self.tree r ≡ keep version (Self.tree self.now) Self.kind) }
     {
@@ -78,13 +77,13 @@ pub trait Kept: Kinded {
 
 /// A value that is written as JSON.
 pub trait ToJson: Kept {
-    /// The spelling of what the version keeps. Only want of memory is refused.
+    /// The spelling of what the version keeps. Only want of memory refuses.
     fn to_value(&self, alloc: Global, version: SpecVersion) -> Result<Value, AllocError>
         ensures { IfOk result
             (λ v. view v
             ≡ jspell (keep version (Self.tree self.now) Self.kind) version Self.kind) };
 
-    /// The spelling of what the version keeps. Only want of memory is refused, as `Memory`.
+    /// The spelling of what the version keeps. Only want of memory refuses, as `Memory`.
     final fn to_json(&self, alloc: Global, version: SpecVersion) -> Result<Value, JsonWriteError>
         ensures { Makes result
             (λ v. view v
@@ -106,14 +105,14 @@ pub trait JsonRecord: Record {
             (by_rows Self.name (seen (members_view map.now.entries)) context.version
             (depth_of context.depth)) };
 
-    /// What a version keeps of its rows, where a bill's label becomes the one given. Only want of memory is refused.
+    /// What a version keeps of its rows, where a bill's label becomes the one given. Only want of memory refuses.
     fn kept_rows(&self, keeping: Keeping) -> Result<Self, AllocError>
         ensures { IfOk result (λ r. Self.tree r
             ≡ fields Self.name
             (rows_held keeping.version keeping.label (fields_of (Self.tree self.now))
             (rows Self.name))) };
 
-    /// Sets the members of what the version keeps. Only want of memory is refused.
+    /// Sets the members of what the version keeps. Only want of memory refuses.
     fn put_members(&self, map: &mut Members, target: Target) -> Result<(), AllocError>
         ensures { OnOk result (members_view map.new.entries
             ≡ rows_put (fields_of (Self.tree self.now)) target.version (rows Self.name)

@@ -28,11 +28,6 @@ pub optional_text_is : (r : Row) → r.kind ≡ a_text → r.need ≡ optional �
 optional_text_is r kind need name v el p None = ap (λ x. if is_required x v then Err (lacking p el name) else Ok absent) need
 optional_text_is r kind need name v el p (Some s) = ap (λ k. parsed (tree_of_text k s) p name s k) kind
 
--- a value that is read is the first, or the only one
-pub gives_into : {X T U : Type 0} (view : X → T) (into : T → U) (place : ℕ) (denoted : Result T XmlReadError) (r : Result X XmlReadError) → GivesAt view place denoted r → GivesAt (λ x. into (view x)) place (denoted >>= λ t. Ok (into t)) r
-gives_into view into place denoted (Ok x) h = ap (λ q. q >>= λ t. Ok (into t)) h
-gives_into view into place denoted (Err e) h = first_fails e place denoted (λ t. Ok (into t)) h
-
 -- ---- rows one after the other
 
 module _ (as' : List OwnedAttribute) (v : SpecVersion) (el : List ℕ) (p : ℕ) where

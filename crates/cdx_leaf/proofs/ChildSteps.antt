@@ -1,9 +1,8 @@
 -- The steps of what is read by a plan.
-use Rattle.std.proofs.Common.{◌≡◌, ℕ, ◌+◌, List, [], ◌∷◌, ◌++◌, Bool, true, false, Option, Some, None, Result, Ok, Err, refl, sym, ap, ◌∙◌, subst, arith}
+use Rattle.std.proofs.Common.{◌≡◌, ℕ, ◌+◌, List, [], ◌∷◌, ◌++◌, Bool, true, false, Option, Some, None, Result, Ok, Err, refl, sym, ap, ◌∙◌, subst}
 use Rattle.std.specs.Prelude.{unwrap_or, map, bytes_eq, if◌then◌else◌}
 use Rattle.std.proofs.lemmas.Slice.Eq.{bytes_eq-Decides}
 use Rattle.std.proofs.lemmas.List.{map_push}
-use Rattle.std.specs.declared.alloc.AllocError.{AllocError}
 use Rattle.cdx_events.specs.declared.name.OwnedName.{OwnedName}
 use Rattle.cdx_events.specs.declared.name.OwnedAttribute.{OwnedAttribute}
 use Rattle.cdx_events.specs.declared.name.Namespace.{Namespace}
@@ -11,16 +10,16 @@ use Rattle.cdx_events.specs.declared.event.EventKind.TheVariants as kinds
 use Rattle.cdx_events.specs.Nodes.{Node, Nodes, characters, cdata, element, no_nodes, node}
 use Rattle.cdx_events.specs.Cursor.{Cursor}
 use Rattle.cdx_models.specs.declared.errors.XmlReadError.{XmlReadError}
-use Rattle.cdx_models.specs.declared.errors.XmlReadError.TheVariants.{Memory}
 use Rattle.cdx_models.specs.declared.bom.SpecVersion.{SpecVersion}
 use Rattle.cdx_models.specs.Trees.{Tree, Trees, items, trees, field, with_field, one, ◌⧺◌}
 use Rattle.cdx_models.specs.Trees as tree
+use Rattle.cdx_models.specs.Versions.{knows}
 use Rattle.cdx_schema.specs.Faults.{unexpected}
 use Rattle.cdx_schema.specs.Results.{◌>>=◌}
 use Rattle.cdx_schema.specs.Depth.{Depth}
 use Rattle.cdx_schema.specs.Kinds.{Kind}
 use Rattle.cdx_schema.specs.Kinds as sorts
-use Rattle.cdx_schema.specs.Nodes.{places, places_of}
+use Rattle.cdx_schema.specs.Nodes.{places}
 use Rattle.cdx_schema.specs.XmlReading.{ElementReading, Plan, Child, find_child, child_read_into, unknown, is_second, stored, appended, all, xread, nodes_read, node_read}
 use Rattle.cdx_leaf.specs.declared.taken.Taken.{Taken}
 use Rattle.cdx_leaf.specs.declared.taken.Taken.TheVariants as answers
@@ -177,6 +176,20 @@ takes_more plan v n a s now old new c depth t r is found_is collects now_is take
 pub takes_none : (plan : Plan) (v : SpecVersion) (n : OwnedName) (a : List OwnedAttribute) (s : Trees) (old : Cursor) (depth : Depth → Depth) → find_child v n.local_name plan.children ≡ None → TakesChild s s old old v plan depth n a (Ok answers.Unknown)
 takes_none plan v n a s old depth e d ns p nodes rest st = (ap (λ o. meet o (λ k. xread (element n a ns nodes) v k p (depth d)) s) e, refl, refl)
 
+-- one that is there from a version on, in any version
+pub takes_one_since : (plan : Plan) (v : SpecVersion) (n : OwnedName) (a : List OwnedAttribute) (s now : Trees) (old new : Cursor) (c : Child) (depth : Depth → Depth) (t : Tree) (r : Result Taken XmlReadError)
+    → n.local_name ≡ c.name → find_child v c.name plan.children ≡ (if knows c.since v then Some c else None) → is_second c.place (field c.field s) ≡ false → now ≡ stored c.place c.field t s
+    → (knows c.since v ≡ true → TakesOne t old new v c.kind depth n a r)
+    → (knows c.since v ≡ false → (now ≡ s) × (new ≡ old) × (r ≡ Ok answers.Unknown))
+    → TakesChild s now old new v plan depth n a r
+takes_one_since plan v n a s now old new c depth t r is found_is first now_is known unknown_to = go (knows c.since v) refl
+  where
+    go : (b : Bool) → knows c.since v ≡ b → TakesChild s now old new v plan depth n a r
+    go true e = takes_one plan v n a s now old new c depth t r is (found_is ∙ ap (λ b. if b then Some c else None) e) first now_is (known e)
+    go false e =
+        let u = unknown_to e in
+        rw (u.0, u.1, u.2) (takes_none plan v n a s old depth (ap (λ x. find_child v x plan.children) is ∙ found_is ∙ ap (λ b. if b then Some c else None) e))
+
 -- a second child where one may stand
 pub takes_second : (plan : Plan) (v : SpecVersion) (n : OwnedName) (a : List OwnedAttribute) (s : Trees) (old : Cursor) (depth : Depth → Depth) (c : Child) → n.local_name ≡ c.name → find_child v c.name plan.children ≡ Some c → is_second c.place (field c.field s) ≡ true → TakesChild s s old old v plan depth n a (Ok answers.Second)
 takes_second plan v n a s old depth c is found_is it_is d ns p nodes rest st =
@@ -203,10 +216,3 @@ pub more_fails : {X : Type 0} (f : X → Tree) (before now : Tree) (e : XmlReadE
 more_fails f before now e old new v K depth n a reads d ns p nodes rest st =
     let h = reads d ns p nodes rest st in
     (h.0, first_fails e new.place (xread (element n a ns nodes) v K p (depth d)) (λ t. Ok (appended before t)) h.1)
-
--- where there was no memory for it
-pub no_memory : {X : Type 0} (f : X → Tree) (before now : Tree) (x : X) (e : AllocError) (old new : Cursor) (v : SpecVersion) (K : Kind) (depth : Depth → Depth) (n : OwnedName) (a : List OwnedAttribute) → ReadsAs f old new n a v K depth (Ok x) → TakesMore before now old new v K depth n a (Err (Memory e))
-no_memory f before now x e old new v K depth n a reads d ns p nodes rest st =
-    let h = reads d ns p nodes rest st in
-    let placed : new.place ≡ old.place + places_of nodes + 1 = ap (λ (c : Cursor). c.place) h.1 in
-    (omega arith, tt)

@@ -10,14 +10,14 @@ use Rattle.cdx_models.specs.declared.bom.SpecVersion.{SpecVersion}
 use Rattle.cdx_models.specs.Versions.{knows}
 use Rattle.cdx_models.specs.Trees.{Tree, Trees, none, more, field, with_field, ◌⧺◌}
 use Rattle.cdx_schema.specs.Results.{◌>>=◌}
-use Rattle.cdx_schema.specs.Depth.{Depth, top}
+use Rattle.cdx_schema.specs.Depth.{Depth}
 use Rattle.cdx_schema.specs.Kinds as sorts
 use Rattle.cdx_schema.specs.Kinds.{Kind, Row, Spelled, attribute, attribute_or, content, one_text, as_cdata, child, filled_child, children, either_child, the_version}
-use Rattle.cdx_schema.specs.XmlReading.{Plan, Child, Place, last, once, all, find_child, row_children, children_from, is_second, stored, appended, attributes_read, row_attribute, ended, lacks, name_owed, lacking_row, filled, xread}
+use Rattle.cdx_schema.specs.XmlReading.{Child, Place, last, once, all, find_child, row_children, children_from, is_second, stored, appended, attributes_read, row_attribute, ended, lacks, name_owed, lacking_row, filled, xread}
 use Rattle.cdx_schema.proofs.XmlBack.{children_append}
 use Rattle.cdx_leaf.specs.declared.taken.Taken.{Taken}
 use Rattle.cdx_leaf.specs.declared.taken.Taken.TheVariants as answers
-use Rattle.cdx_leaf.specs.Reading.{Stands, IsIn, behind_end}
+use Rattle.cdx_leaf.specs.Reading.{Stands, behind_end}
 use Rattle.cdx_leaf.specs.Children.{Met, nothing, second, found, meet, ReadsChild, TakesChild}
 use Rattle.cdx_leaf.specs.Groups.{rows_plan, size}
 use Rattle.cdx_leaf.specs.NextChild.{is_unknown}
@@ -297,24 +297,7 @@ ended_of_two (r ∷ rs) qs (more t ts) us v el p long = by (name_owed r.xml) (la
 abbrev pub answer : Taken → Result Taken XmlReadError
 answer b = Ok b
 
-abbrev pub no_answer : XmlReadError → Result Taken XmlReadError
-no_answer e = Err e
-
 pub is_known : (b : Taken) → is_unknown b ≡ false → answer b ≡ Ok answers.Unknown → ⊥
 is_known answers.Read h e = absurd cc
 is_known answers.Unknown h e = absurd cc
 is_known answers.Second h e = absurd cc
-
-pub fault_is_known : (e : XmlReadError) → no_answer e ≡ Ok answers.Unknown → ⊥
-fault_is_known e h = absurd cc
-
-pub was_passed : (b : Taken) (before now : Trees) (old new : Cursor) (v : SpecVersion) (plan : Plan) (depth : Depth → Depth) (n : OwnedName) (a : List OwnedAttribute) → is_unknown b ≡ true → TakesChild before now old new v plan depth n a (Ok b) → TakesChild before now old new v plan depth n a (Ok answers.Unknown)
-was_passed answers.Read before now old new v plan depth n a h takes = absurd cc
-was_passed answers.Unknown before now old new v plan depth n a h takes = takes
-was_passed answers.Second before now old new v plan depth n a h takes = absurd cc
-
--- The reader stands where it stood, and the next group is offered the child.
-pub still_in : (b : Taken) (before now : Trees) (old new : Cursor) (v : SpecVersion) (plan : Plan) (depth : Depth → Depth) (n : OwnedName) (a : List OwnedAttribute) → is_unknown b ≡ true → IsIn old n → TakesChild before now old new v plan depth n a (Ok b) → IsIn new n
-still_in b before now old new v plan depth n a h is takes =
-    let u = was_passed b before now old new v plan depth n a h takes top (record { default = None }) is.p is.nodes is.rest is.stands in
-    subst (λ c. IsIn c n) (sym u.2) is

@@ -1,5 +1,5 @@
 -- Records that stand in records of their own kind: they count their depth, and plain functions that call one another read them.
-use Rattle.std.proofs.Common.{◌≡◌, ℕ, suc, ◌+◌, ◌-◌, ◌≤◌, List, true, Result, Ok, Err, sym, ap, ◌∙◌, subst, arith}
+use Rattle.std.proofs.Common.{◌≡◌, ℕ, suc, ◌+◌, ◌-◌, ◌≤◌, List, Result, Ok, Err, sym, ap, ◌∙◌, subst, arith}
 use Rattle.std.specs.Prelude.{if◌then◌else◌}
 use Rattle.cdx_events.specs.declared.name.OwnedName.{OwnedName}
 use Rattle.cdx_events.specs.declared.name.OwnedAttribute.{OwnedAttribute}
@@ -10,19 +10,18 @@ use Rattle.cdx_events.specs.Cursor.{Cursor}
 use Rattle.cdx_models.specs.declared.errors.XmlReadError.{XmlReadError}
 use Rattle.cdx_models.specs.declared.bom.SpecVersion.{SpecVersion}
 use Rattle.cdx_models.specs.Trees.{Name, Tree, Trees, fields}
-use Rattle.cdx_schema.specs.Faults.{nested}
 use Rattle.cdx_schema.specs.Results.{◌>>=◌}
-use Rattle.cdx_schema.specs.Depth.{Depth, name_too_deep}
+use Rattle.cdx_schema.specs.Depth.{Depth}
 use Rattle.cdx_schema.specs.Kinds.{a_record}
 use Rattle.cdx_schema.specs.Table.{rows}
 use Rattle.cdx_schema.specs.Nodes.{places_of}
-use Rattle.cdx_schema.specs.XmlReading.{Plan, record_plan, attributes_read, in_force, Element, record_denoted, xread, nodes_read, ended}
+use Rattle.cdx_schema.specs.XmlReading.{Plan, record_plan, attributes_read, in_force, xread, ended}
 use Rattle.cdx_leaf.specs.declared.taken.Taken.{Taken}
 use Rattle.cdx_leaf.specs.Attribute.{GivesAt}
 use Rattle.cdx_leaf.specs.Children.{TakesChild}
 use Rattle.cdx_leaf.specs.Each.{each_node, plan_step}
 use Rattle.cdx_leaf.specs.Fault.{FailsAt}
-use Rattle.cdx_leaf.specs.Reading.{Stands, Reads, ReadsAs, behind_end}
+use Rattle.cdx_leaf.specs.Reading.{Stands, Reads, behind_end}
 use Rattle.cdx_leaf.proofs.Records.{first_fails}
 use Rattle.cdx_leaf.proofs.Whole.{so_far, finished, IsNested, start_is, begun_fails, finished_as, seen_whole}
 
@@ -33,18 +32,6 @@ pub at_depth : (d : Depth) (before now : Trees) (old new : Cursor) (v : SpecVers
 at_depth d before now old new v plan n a r takes e ns p nodes rest st = takes d ns p nodes rest st
 
 -- ---- a record that counts its depth
-
-deep_is : (name : Name) (v : SpecVersion) (n : OwnedName) (a : List OwnedAttribute) (ns : Namespace) (d : Depth) (p : ℕ) (nodes : Nodes) → name_too_deep name d ≡ true → xread (element n a ns nodes) v (a_record name) p d ≡ Err (nested p)
-unfolding xread
-deep_is name v n a ns d p nodes deep =
-    let e : Element = record { name = n.local_name; attributes = a; namespace = ns.default; nodes = nodes; start = p; read = λ plan w e ts. nodes_read nodes plan n.local_name w e (suc p) ts } in
-    ap (λ b. if b then Err (nested p) else record_denoted e name v d) deep
-
--- One level too much is refused at the element's start.
-pub deep_reads : {X : Type 0} (tree : X → Tree) (name : Name) (v : SpecVersion) (n : OwnedName) (a : List OwnedAttribute) (d : Depth) (old : Cursor) (k : ℕ) → name_too_deep name d ≡ true → k ≡ old.place → ReadsAs tree old old n a v (a_record name) (λ _. d) (Err (nested (k - 1)))
-deep_reads tree name v n a d old k deep at e ns p nodes rest st =
-    let same : p ≡ k - 1 = omega (arith, st.place) in
-    (omega arith, (deep_is name v n a ns d p nodes deep ∙ ap (λ q. Err (nested q)) same, omega (arith, st.place)))
 
 module _ (name : Name) (v : SpecVersion) (n : OwnedName) (a : List OwnedAttribute) (ns : Namespace) (d inner : Depth) (p : ℕ) (nodes : Nodes) (rest : List XmlEvent) (old : Cursor) where
   -- the attributes are refused

@@ -1,8 +1,8 @@
+-- Elements that hold a text or nothing, and the steps that read them.
 use Rattle.std.proofs.Common.{◌≡◌, ℕ, ◌+◌, List, [], Some, None, Result, Ok, Err, suc, refl, sym, ap, ◌∙◌, arith}
 use Rattle.cdx_events.specs.declared.name.OwnedName.{OwnedName}
 use Rattle.cdx_events.specs.declared.event.XmlEvent.{XmlEvent}
 use Rattle.cdx_events.specs.declared.event.XmlEvent.TheVariants.{EndElement, Characters, CData}
-use Rattle.cdx_events.specs.Event.{kind_of}
 use Rattle.cdx_events.specs.declared.event.EventKind.TheVariants as kinds
 use Rattle.cdx_events.specs.Nodes.{Node, Nodes, characters, cdata, element, no_nodes, node}
 use Rattle.cdx_models.specs.declared.errors.XmlReadError.{XmlReadError}
@@ -11,9 +11,9 @@ use Rattle.cdx_schema.specs.Faults.{unexpected}
 use Rattle.cdx_schema.specs.Nodes.{places, places_of}
 use Rattle.cdx_schema.specs.Results.{◌>>=◌}
 use Rattle.cdx_schema.specs.XmlReading.{after_text, text_in}
-use Rattle.cdx_leaf.specs.Reading.{WithinElement, behind_end, kind_of_node}
+use Rattle.cdx_leaf.specs.Reading.{WithinElement, behind_end}
 use Rattle.cdx_leaf.specs.Tags.{text_or_none}
-use Rattle.cdx_leaf.proofs.Steps.{Took, cursor_is, Ends, at_end, at_text, at_cdata, at_other}
+use Rattle.cdx_leaf.proofs.Steps.{Took, cursor_is, Ends, at_end, at_text, at_cdata}
 
 -- after the end
 pub after_end : (old new : Cursor) (nodes : Nodes) (rest : List XmlEvent) → new.place ≡ old.place + 1 → Ends new nodes rest → new ≡ behind_end old nodes rest
@@ -28,17 +28,6 @@ pub closing_end : {T : Type 0} (old new : Cursor) (event : XmlEvent) (name m : O
 closing_end old new event name m t nodes rest is took at =
     let e = at_end old new event name m nodes rest is at took in
     (ap (λ k. after_text t k name.local_name old.place) e.nodes_are, after_end old new nodes rest took.1 e)
-
-refused_node : {T : Type 0} (t : T) (k : Node) (nodes : Nodes) (el : List ℕ) (q : ℕ) → after_text t (node k nodes) el q ≡ Err (unexpected q el (kind_of_node k))
-refused_node t (characters s) nodes el q = refl
-refused_node t (cdata s) nodes el q = refl
-refused_node t (element n a ns kids) nodes el q = refl
-
-pub closing_other : {T : Type 0} (old new : Cursor) (event : XmlEvent) (name : OwnedName) (t : T) (nodes : Nodes) (rest : List XmlEvent) → ((m : OwnedName) → event ≡ EndElement m → ⊥) → Took old new event → WithinElement old name nodes rest
-    → after_text t nodes name.local_name old.place ≡ Err (unexpected old.place name.local_name (kind_of event))
-closing_other old new event name t nodes rest other took at =
-    let b = at_other old new event name nodes rest other at took in
-    ap (λ k. after_text t k name.local_name old.place) b.nodes_are ∙ refused_node t b.item b.others name.local_name old.place ∙ ap (λ k. Err (unexpected old.place name.local_name k)) b.kind_is
 
 -- ---- one text at most, or exactly one
 
@@ -83,12 +72,6 @@ closing_fault name s t q (node (characters u) nodes) f e = let same : unexpected
 closing_fault name s t q (node (cdata u) nodes) f e = let same : unexpected q name kinds.CData ≡ f = cc in ap (λ x. Err x) same
 closing_fault name s t q (node (element n a ns kids) nodes) f e = let same : unexpected q name kinds.StartElement ≡ f = cc in ap (λ x. Err x) same
 
--- any other event in place of a text
-other_node : (empty : Result (List ℕ) XmlReadError) (k : Node) (nodes : Nodes) (el : List ℕ) (q : ℕ) → ((t : List ℕ) → k ≡ characters t → ⊥) → ((t : List ℕ) → k ≡ cdata t → ⊥) → text_in empty (node k nodes) el q ≡ Err (unexpected q el (kind_of_node k))
-other_node empty (characters s) nodes el q x y = absurd (x s refl)
-other_node empty (cdata s) nodes el q x y = absurd (y s refl)
-other_node empty (element n a ns kids) nodes el q x y = refl
-
 -- ---- a text or none
 
 -- an element with a node has no less than a text
@@ -100,9 +83,6 @@ some_text r u e = ap (λ x. x >>= λ s. Ok (Some s)) e
 
 pub optional_ok : (k : Node) (nodes others : Nodes) (el u : List ℕ) (q : ℕ) → nodes ≡ node k others → text_in (Ok []) nodes el q ≡ Ok u → text_or_none nodes el q ≡ Ok (Some u)
 optional_ok k nodes others el u q is e = optional_more k nodes others el q is ∙ some_text (text_in (Ok []) nodes el q) u e
-
-pub optional_fault : (k : Node) (nodes others : Nodes) (el : List ℕ) (q : ℕ) (f : XmlReadError) → nodes ≡ node k others → text_in (Ok []) nodes el q ≡ Err f → text_or_none nodes el q ≡ Err f
-optional_fault k nodes others el q f is e = optional_more k nodes others el q is ∙ ap (λ (x : Result (List ℕ) XmlReadError). x >>= λ s. Ok (Some s)) e
 
 pub optional_end : (old new : Cursor) (event : XmlEvent) (name m : OwnedName) (nodes : Nodes) (rest : List XmlEvent) → event ≡ EndElement m → Took old new event → WithinElement old name nodes rest
     → (text_or_none nodes name.local_name old.place ≡ Ok None) × (new ≡ behind_end old nodes rest)

@@ -39,9 +39,6 @@ took_total old mid new event t e =
     let l : length mid.ahead ≡ suc (length new.ahead) = ap length t.0 in
     omega (arith, t.1)
 
-pub skips_init : (old : Cursor) (name : OwnedName) (nodes : Nodes) (rest : List XmlEvent) → WithinElement old name nodes rest → Skips old old 0 rest
-skips_init old name nodes rest a = record { inner = name; left = nodes; tail = rest; at = a; unwinds = refl; total = refl }
-
 pub skips_start : (old mid new : Cursor) (depth : ℕ) (event : XmlEvent) (n : OwnedName) (a : List OwnedAttribute) (s : Namespace) (rest : List XmlEvent) → event ≡ StartElement n a s → Took mid new event → Skips old mid depth rest → Skips old new (depth + 1) rest
 skips_start old mid new depth event n a s rest is took k =
     let e = at_start mid new event k.inner n a s k.left k.tail is k.at took in

@@ -94,16 +94,6 @@ at_start old new event name n a s nodes rest is at t =
     let e = start_of nodes name n a s rest new.ahead (meets old new event name nodes rest at t ∙ ap (λ x. x ∷ new.ahead) is) in
     record { kids = e.0; others = e.1; nodes_are = e.2; stands = record { place = omega (arith, t.1); at = record { ahead = e.3 } } }
 
--- an event always comes
-empty_of : (nodes : Nodes) (name : OwnedName) (rest : List XmlEvent) → events_of_all nodes ++ EndElement name ∷ rest ≡ [] → ⊥
-empty_of no_nodes name rest e = absurd cc
-empty_of (node (characters u) ks) name rest e = absurd cc
-empty_of (node (cdata u) ks) name rest e = absurd cc
-empty_of (node (element m b r kids) ks) name rest e = absurd cc
-
-pub at_none : (old : Cursor) (name : OwnedName) (nodes : Nodes) (rest : List XmlEvent) → WithinElement old name nodes rest → old.ahead ≡ [] → ⊥
-at_none old name nodes rest a e = empty_of nodes name rest (sym a.ahead ∙ e)
-
 -- any event but the end is the first of a node
 pub record Begins (event : XmlEvent) (nodes : Nodes) : Type 0 where
   pub item : Node

@@ -1,3 +1,4 @@
+-- What a reading gives: what is denoted, or the first fault, with the reader at most one past it.
 use Rattle.std.specs.Prelude.{◌≡◌, ℕ, ◌+◌, ◌≤◌, Result, Ok, Err}
 use Rattle.cdx_models.specs.declared.errors.XmlReadError.{XmlReadError}
 use Rattle.cdx_models.specs.declared.errors.XmlReadError.TheVariants.{UnexpectedElementReadError, RequiredDataMissing, InvalidParseError, TooDeep, Memory}

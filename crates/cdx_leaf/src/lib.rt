@@ -39,6 +39,6 @@ pub use tags::{
     closing_tag_or_error, inner_text_or_error, inner_text_or_none, read_boolean_tag,
     read_exact_tag, read_lax_validation_tag, read_optional_tag, read_simple_tag, read_u32_tag,
 };
-pub use take::{push_into, take_into, take_list, take_more, take_one};
+pub use take::{push_into, take_into, take_list, take_more, take_one, take_one_since};
 pub use taken::Taken;
 pub use xml_type::{FromXmlType, attribute_value};

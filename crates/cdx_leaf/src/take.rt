@@ -1,9 +1,10 @@
 //! Children that are read into a field of what is read: in place of what was there, to the end of a list, or a whole list.
 
-ghost use Rattle.std.specs.Prelude.{◌≡◌, [], ◌∷◌, ◌++◌, OnOk, Some, unwrap_or};
+ghost use Rattle.std.specs.Prelude.{◌≡◌, [], ◌∷◌, ◌++◌, Ok, OnOk, Some, true, false, unwrap_or};
 ghost use Rattle.cdx_leaf.specs.Reading.{IsIn};
 ghost use Rattle.cdx_leaf.specs.Children.{TakesOne, TakesMore};
 ghost use Rattle.cdx_models.specs.Trees.{present, list_tree};
+ghost use Rattle.cdx_models.specs.Versions.{knows};
 ghost use Rattle.cdx_leaf.specs.Listing.{TakesList};
 ghost use Rattle.cdx_leaf.specs.Trees.{collected};
 
@@ -14,6 +15,7 @@ use crate::rule::Rule;
 use crate::start::Start;
 use crate::taken::Taken;
 use cdx_events::{EventReader, List};
+use cdx_models::SpecVersion;
 use std::alloc::{AllocError, Global};
 
 /// Reads the element into a field, in place of what was there. The answer is always Read.
@@ -28,6 +30,28 @@ pub fn take_one<X: FromXml>(
 {
     *field = Some(X::read_from(reader, opened)?);
     Ok(Taken::Read)
+}
+
+/// Reads a child that is there from a version on by `take_one`. In a version that doesn't know it, nothing is read and
+/// the answer is Unknown.
+pub fn take_one_since<X: FromXml>(
+    reader: &mut EventReader<'_>,
+    opened: &Start<'_>,
+    since: SpecVersion,
+    field: &mut Option<X>,
+) -> Reading<Taken>
+    requires { IsIn reader.old opened.now.element.now }
+    ensures known { knows since opened.now.version ≡ true
+        → TakesOne (present X.tree field.new) reader.old reader.new opened.now.version X.kind
+        X.depth opened.now.element.now opened.now.attributes.now result }
+    ensures unknown { knows since opened.now.version ≡ false
+        → (field.new ≡ field.old) × (reader.new ≡ reader.old) × (result ≡ Ok Taken.Unknown) }
+{
+    if since.is_known_to(opened.version) {
+        take_one(reader, opened, field)
+    } else {
+        Ok(Taken::Unknown)
+    }
 }
 
 /// Appends to a list that may not be there yet.

@@ -95,12 +95,6 @@ identifier_err e x v d is at = fails_here e WrongKind (jread x v a_license_ident
 pub identifier_gives : {X : Type 0} (see : X → Tree) (r : Result X JsonReadError) (x : Data) (ms : Members) (v : SpecVersion) (d : Depth) → Some ms ≡ as_object x → Gives see r (identifier_of (seen ms) v d) → Gives see r (jread x v a_license_identifier d)
 identifier_gives see r x ms v d is h = subst (Gives see r) (sym (identifier_is x ms v d is)) h
 
-pub identifier_kept : (w l : SpecVersion) (n : Name) (ts : Trees) → kept w l (fields n ts) (a_record n) ≡ kept w l (fields n ts) a_license_identifier
-unfolding kept
-identifier_kept V1_3 l n ts = refl
-identifier_kept V1_4 l n ts = refl
-identifier_kept V1_5 l n ts = refl
-
 pub spdx_kept : (w l : SpecVersion) (t : Tree) → fields spdx_id (one (kept w l t a_text)) ≡ kept w l (fields spdx_id (one t)) a_license_identifier
 unfolding kept rows
 spdx_kept V1_3 l t = refl

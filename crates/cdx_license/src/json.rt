@@ -8,7 +8,7 @@ ghost use Rattle.cdx_license.specs.Stays.{choice_stays, identifier_stays};
 ghost use Rattle.serde_json.specs.View.{members_view};
 ghost use Rattle.cdx_license.specs.Records.{identifier_tree, choice_tree};
 ghost use Rattle.cdx_schema.specs.JsonReading.{seen, is_lone_license};
-ghost use Rattle.cdx_json.specs.Depths.{depth_of};
+ghost use Rattle.cdx_schema.specs.Depths.{depth_of};
 ghost use Rattle.cdx_json.specs.Gives.{Gives};
 ghost use Rattle.cdx_json.specs.ByRows.{identifier_of, choice_of};
 ghost use Rattle.cdx_json.specs.KeptRows.{put_own};

@@ -4,8 +4,7 @@
 pub mod json;
 pub mod license;
 mod parts;
-mod reading;
-mod writing;
+mod xml;
 
 pub use license::{Expression, License, LicenseChoice, LicenseIdentifier, Licenses};
 pub use parts::{ChoicesPart, LicensePart};

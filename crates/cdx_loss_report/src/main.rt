@@ -1,6 +1,9 @@
 //! The program of losses: standard input to standard output.
 #![tactic(auto)]
 
+#[cfg(test)]
+mod tests;
+
 use cdx_events::{ReadSource, WriteSink};
 use cdx_words::{status_without_words, words};
 use std::io;

@@ -29,8 +29,8 @@ use Rattle.cdx_tool.specs.declared.request.RequestError.TheVariants as misreadin
 use Rattle.cdx_tool.specs.Shows.{reply_of}
 use Rattle.cdx_tool.specs.Owed.{reply_by, IsSettled}
 use Rattle.cdx_tool.specs.Run.{Tells, Ends}
-use Rattle.cdx_ask.specs.Asks.{Lack, misread, billed, Lacks, reply_to_bill}
-use Rattle.cdx_ask.specs.declared.NoBill.TheVariants as lack
+use Rattle.cdx_tool.specs.Asks.{Lack, misread, billed, Lacks, reply_to_bill}
+use Rattle.cdx_tool.specs.declared.question.NoBill.TheVariants as lack
 use Rattle.cdx_ways.specs.Ways.{At}
 use Rattle.cdx_losses.specs.Answers.{reason_word, loss_value, losses_answer}
 use Rattle.cdx_losses.specs.Report.{if_fit, carried, answer_to, losses_reply, owed}

@@ -358,11 +358,6 @@ AlikeRows u l n ts rs = rows_settled (rows_cut u n l ts rs) rs ≡ rows_settled 
 abbrev AlikeRecord : SpecVersion → SpecVersion → ℕ → Kind → Name → Trees → Type 0
 AlikeRecord u l n k m ts = settled (fields m (rows_cut u n l ts (rows m))) k ≡ settled (kept_record u k m (rows_kept u l (rows_left n ts (rows m)) (rows m))) k
 
-plain_before : (k : Kind) (m : Name) (us : Trees) → is_changing k ≡ false → before_1_5 k m us ≡ fields m us
-plain_before a_tools m us h = absurd (true≢false h)
-plain_before an_entry m us h = absurd (true≢false h)
-plain_before _ m us h = refl
-
 plain_alike : (u l : SpecVersion) (n : ℕ) (k : Kind) (m : Name) (ts : Trees) → before_1_5 k m (rows_kept u l (rows_left n ts (rows m)) (rows m)) ≡ fields m (rows_kept u l (rows_left n ts (rows m)) (rows m)) → AlikeRows u l n ts (rows m) → AlikeRecord u l n k m ts
 unfolding settled
 plain_alike u l n k m ts e f = ap (fields m) f ∙ sym (ap (λ x. settled x k) (stays u k m (rows_kept u l (rows_left n ts (rows m)) (rows m)) e))

@@ -5,7 +5,7 @@ use mathlib.Core.Path.{ap, sym, ◌∙◌}
 use Rattle.cdx_models.specs.declared.bom.SpecVersion.{SpecVersion}
 use Rattle.cdx_models.specs.declared.bom.SpecVersion.TheVariants.{V1_3, V1_4, V1_5}
 use Rattle.cdx_models.specs.Versions.{knows}
-use Rattle.cdx_models.specs.Trees.{license, contact, composition, issue, patch, tool, service_data, Tree, text, present, list_tree, each, trees, is_absent, all_absent}
+use Rattle.cdx_models.specs.Trees.{license, contact, composition, issue, patch, tool, service_data, Tree, text, present, list_tree, each, trees, is_absent}
 use Rattle.cdx_models.specs.Entries.{is_flow}
 use Rattle.cdx_models.specs.Records.{contact_tree}
 use Rattle.cdx_models.specs.declared.organization.OrganizationalContact.{OrganizationalContact}
@@ -23,7 +23,7 @@ use Rattle.cdx_service.specs.declared.service.Services.{Services}
 use Rattle.cdx_service.specs.declared.service.Service.{Service}
 use Rattle.cdx_service.specs.Trees.{service_tree, services_tree}
 use Rattle.cdx_service.specs.Laws.{service_tree-out, services_tree-out}
-use Rattle.cdx_nest.specs.Trees.{object_tree, tools_tree}
+use Rattle.cdx_nest.specs.Trees.{tools_tree}
 use Rattle.cdx_nest.specs.declared.tools.Tools.{Tools}
 use Rattle.cdx_nest.specs.declared.tools.Tools.TheVariants as variant
 use Rattle.cdx_bom.proofs.Names.{lacks}
@@ -37,7 +37,6 @@ use Rattle.cdx_schema.specs.Trips.{is_hollow, is_passed_over}
 use Rattle.cdx_ways.specs.Ways.{At, behind_step}
 use Rattle.cdx_losses.specs.declared.loss.Reason.{Reason}
 use Rattle.cdx_losses.specs.declared.loss.Reason.TheVariants.{Flow, Xml}
-use Rattle.cdx_losses.specs.declared.loss.Reason.TheVariants as cause
 use Rattle.cdx_losses.specs.declared.road.Road.{Road}
 use Rattle.cdx_losses.specs.Losses.{is_skipped, if_so, item_reason, entry_or, lost, items_lost}
 use Rattle.cdx_losses.specs.LeftOut.{after_a_trip}
@@ -160,10 +159,6 @@ flow_kept V1_3 n x h = absurd (true≢false (sym h))
 flow_kept V1_4 n x h = absurd (true≢false (sym h))
 flow_kept V1_5 n x h = no_item_reason V1_5 n an_entry (service_data_tree x) refl refl
 
-pub flow_value : (road : Road) (x : ServiceData) → (is_some x.name || is_some x.description) ≡ true → knows V1_5 road.version ≡ false → value_lost road (service_entry x) an_entry ≡ ([], Flow) ∷ []
-flow_value road x h g =
-    ap (λ t. value_lost road t an_entry) (entry_is x true h) ∙ ap (λ o. entry_or o (lost road.version road.trips (service_data_tree x) an_entry)) (flow_taken road.version road.trips x g)
-
 pub known_flow_value : (road : Road) (x : ServiceData) → (is_some x.name || is_some x.description) ≡ true → knows V1_5 road.version ≡ true → value_lost road (service_entry x) an_entry ≡ []
 known_flow_value road x h g =
     ap (λ t. value_lost road t an_entry) (entry_is x true h)
@@ -172,43 +167,6 @@ known_flow_value road x h g =
 pub no_flow_value : (road : Road) (x : ServiceData) → (is_some x.name || is_some x.description) ≡ false → value_lost road (service_entry x) an_entry ≡ []
 no_flow_value road x h =
     ap (λ t. value_lost road t an_entry) (entry_is x false h) ∙ value_nothing road (classification_tree x.classification) an_entry (classification_spared x.classification)
-
--- ---- tools objects
-
-without_parts : (ss : Option Services) (cs : Option Components) → all_absent (trees (present services_tree ss ∷ present components_tree cs ∷ [])) ≡ not (is_some ss || is_some cs)
-without_parts None None = refl
-without_parts None (Some cs) = ap (λ t. all_absent (trees (t ∷ []))) (components_tree-out cs)
-without_parts (Some ss) cs = ap (λ t. all_absent (trees (t ∷ present components_tree cs ∷ []))) (services_tree-out ss)
-
-object_before : (u : SpecVersion) (n : ℕ) (ss : Option Services) (cs : Option Components) (b : Bool) → knows V1_5 u ≡ false → (is_some ss || is_some cs) ≡ b → item_reason u n a_tools (object_tree ss cs) ≡ if_so b cause.Tools
-object_before u n ss cs b h g = by u h ∙ tail b
-  where
-    tail : (b : Bool) → or_else (if not b then None else Some cause.Tools) (if_so (is_skipped n (object_tree ss cs)) Xml) ≡ if_so b cause.Tools
-    tail true = refl
-    tail false = ap (λ c. if_so c Xml) (not_skipped n (object_tree ss cs) refl)
-
-    gone : all_absent (trees (present services_tree ss ∷ present components_tree cs ∷ [])) ≡ not b
-    gone = without_parts ss cs ∙ ap not g
-
-    by : (u : SpecVersion) → knows V1_5 u ≡ false → item_reason u n a_tools (object_tree ss cs) ≡ or_else (if not b then None else Some cause.Tools) (if_so (is_skipped n (object_tree ss cs)) Xml)
-    by V1_3 e = ap (λ c. or_else (if c then None else Some cause.Tools) (if_so (is_skipped n (object_tree ss cs)) Xml)) gone
-    by V1_4 e = ap (λ c. or_else (if c then None else Some cause.Tools) (if_so (is_skipped n (object_tree ss cs)) Xml)) gone
-    by V1_5 e = absurd (true≢false e)
-
-pub object_known : (u : SpecVersion) (n : ℕ) (ss : Option Services) (cs : Option Components) → knows V1_5 u ≡ true → item_reason u n a_tools (object_tree ss cs) ≡ None
-object_known V1_3 n ss cs h = absurd (true≢false (sym h))
-object_known V1_4 n ss cs h = absurd (true≢false (sym h))
-object_known V1_5 n ss cs h = no_item_reason V1_5 n a_tools (object_tree ss cs) refl refl
-
-pub object_taken : (road : Road) (ss : Option Services) (cs : Option Components) → knows V1_5 road.version ≡ false → (is_some ss || is_some cs) ≡ true → Some cause.Tools ≡ item_reason road.version road.trips a_tools (object_tree ss cs)
-object_taken road ss cs h g = sym (object_before road.version road.trips ss cs true h g)
-
-pub object_kept : (road : Road) (ss : Option Services) (cs : Option Components) → (is_some ss || is_some cs) ≡ false → None ≡ item_reason road.version road.trips a_tools (object_tree ss cs)
-object_kept road ss cs g = sym (by (knows V1_5 road.version) refl)
-  where
-    by : (b : Bool) → knows V1_5 road.version ≡ b → item_reason road.version road.trips a_tools (object_tree ss cs) ≡ None
-    by true e = object_known road.version road.trips ss cs e
-    by false e = object_before road.version road.trips ss cs false e g
 
 -- ---- what isn't passed over
 

@@ -10,7 +10,7 @@ use Rattle.cdx_schema.specs.Roads.{Doc, Refusal, version_missing, denotes, fits_
 use Rattle.cdx_request.specs.Requests.{Misread, Request, request_in}
 use Rattle.cdx_request.specs.Replies.{Reply, reply_to_misread}
 use Rattle.cdx_tool.specs.Owed.{reply_by}
-use Rattle.cdx_ask.specs.Asks.{billed, reply_to_bill}
+use Rattle.cdx_tool.specs.Asks.{billed, reply_to_bill}
 use Rattle.cdx_losses.specs.Losses.{taken}
 use Rattle.cdx_losses.specs.Answers.{losses_answer}
 use Rattle.cdx_losses.specs.declared.serving.Command.{Command}

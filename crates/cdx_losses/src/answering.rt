@@ -16,13 +16,12 @@ ghost use Rattle.cdx_losses.specs.Told.{all_told};
 
 use crate::loss::{Loss, Reason};
 use crate::walking::losses;
-use cdx_ask::{NoBill, answer_lack};
 use cdx_bom::{Bom, Doc, Hop, RoadError, fits_all, into_bill, version_missing};
 use cdx_events::List as Items;
 use cdx_models::SpecVersion;
-use cdx_tool::status::{SERVED, UNUSABLE};
 use cdx_tool::{
-    Answer, Request, Shown, answer_value, items_to_json, only, read_json, refuse, take_request,
+    Answer, JsonItem, NoBill, Request, Status, answer_lack, answer_value, items_to_json, only,
+    read_json, refuse, take_request,
 };
 use serde_json::{Value, json};
 use std::alloc::{AllocError, Global};
@@ -40,7 +39,7 @@ fn word_of(reason: Reason) -> &'static str
     }
 }
 
-impl Shown for Loss {
+impl JsonItem for Loss {
     ghost use Rattle.cdx_losses.specs.Answers.{loss_value};
     ghost use Rattle.cdx_losses.specs.Told.{told};
 
@@ -66,7 +65,7 @@ fn answer_bill(alloc: Global, bill: &Bom, hops: &[Hop]) -> Result<Answer, AllocE
 {
     let losses = losses(alloc, bill, hops)?;
     let value = losses_answer(alloc, &losses)?;
-    answer_value(alloc, SERVED, &value)
+    answer_value(alloc, Status::Served as u8, &value)
 }
 
 // ---- the bill
@@ -121,7 +120,7 @@ pub(crate) fn answer_bytes(alloc: Global, bytes: &[u8]) -> Result<Answer, AllocE
     ensures { IfOk result (λ a. reply_of a ≡ owed bytes.now) }
 {
     match read_json(alloc, bytes)? {
-        None => refuse(alloc, UNUSABLE, "not JSON"),
+        None => refuse(alloc, Status::Unusable as u8, "not JSON"),
         Some(value) => answer_asked(alloc, value),
     }
 }

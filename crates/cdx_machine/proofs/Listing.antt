@@ -5,12 +5,11 @@ use Rattle.std.specs.Str.{bytes_eq}
 use Rattle.cdx_models.specs.declared.bom.SpecVersion.{SpecVersion}
 use Rattle.cdx_models.specs.declared.bom.SpecVersion.TheVariants.{V1_3, V1_4, V1_5}
 use Rattle.cdx_models.specs.Versions.{knows}
-use Rattle.cdx_models.specs.Trees.{Tree, Trees, list_tree, one}
+use Rattle.cdx_models.specs.Trees.{Tree, Trees, one}
 use Rattle.cdx_schema.specs.Kinds.{Kind, Lists}
 use Rattle.cdx_schema.specs.Table.{list}
-use Rattle.cdx_schema.specs.XmlReading.{Plan, Child, stored, list_plan, plan_of_list, list_of}
+use Rattle.cdx_schema.specs.XmlReading.{Plan, Child, stored, list_plan, plan_of_list}
 use Rattle.std.specs.declared.alloc.AllocError.{AllocError}
-use Rattle.cdx_leaf.specs.Trees.{collected}
 use Rattle.cdx_machine.proofs.Names.{push_put}
 use Rattle.cdx_machine.specs.Records.{HasOneName, one_plan, items_slots}
 use Rattle.cdx_machine.specs.Several.{at_position, found_from, Puts}
@@ -34,7 +33,3 @@ module _ (l : Lists) (k : Kind) (item_kind : k ≡ (list l).kind) (has_one : Has
 
   pub item_put : {X : Type 0} (f : X → Tree) (xs ys : List X) (x : X) (r : Result (Unit {0}) AllocError) → OnOk r (ys ≡ xs ++ x ∷ []) → OnOk r (Puts (plan_of_list l).children 0 (f x) (items_slots f xs) (items_slots f ys))
   item_put f xs ys x r h = subst (λ (p : Plan). OnOk r (IfSome (at_position p.children 0) (λ (row : Child). items_slots f ys ≡ stored row.place row.field (f x) (items_slots f xs)))) (sym one_name) (push_put f (λ t. one t) xs ys x r h)
-
-pub list_ends : {X : Type 0} (f : X → Tree) (xs : List X) → list_of (collected f xs) ≡ list_tree f xs
-list_ends f [] = refl
-list_ends f (x ∷ xs) = refl

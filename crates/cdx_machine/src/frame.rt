@@ -1,7 +1,8 @@
 //! Elements that are read child by child.
 
-ghost use Rattle.std.specs.Prelude.{◌≡◌, ◌<◌, List, IfOk};
+ghost use Rattle.std.specs.Prelude.{◌≡◌, ◌<◌, List, IfOk, if◌then◌else◌};
 ghost use Rattle.cdx_events.specs.declared.event.XmlEvent.{XmlEvent};
+ghost use Rattle.cdx_models.specs.Versions.{knows};
 ghost use Rattle.cdx_machine.specs.Frames.{skipped, Enters, FeedsChild};
 ghost use Rattle.cdx_machine.specs.Machines.{CanStepChild};
 ghost use Rattle.cdx_machine.specs.Several.{reads_boxed};
@@ -24,6 +25,19 @@ pub enum Found {
     Unknown,
     /// A second one where one may stand.
     Second,
+}
+
+impl Found {
+    /// The child of the position, which is there from `since` on: none where the version doesn't know it.
+    pub fn since(since: SpecVersion, version: SpecVersion, position: usize) -> Found
+        ensures { result ≡ (if knows since version then Found.At position else Found.Unknown) }
+    {
+        if since.is_known_to(version) {
+            Found::At(position)
+        } else {
+            Found::Unknown
+        }
+    }
 }
 
 /// What stands open in an element.
@@ -83,7 +97,7 @@ pub trait Frame: Drop {
             (first opened.now.element.now.local_name opened.now.attributes.now opened.now.version
             opened.now.place) result };
 
-    /// The child that `v` knows by the name.
+    /// The child that the version knows by the name.
     fn find(&self, version: SpecVersion, name: &OwnedName) -> Found
         ensures { result
             ≡ found_from 0 plan.children (slots self.now) version name.now.local_name };

@@ -19,7 +19,7 @@ pub trait PushRecord {
     /// The machines of its children, in the order of its rows.
     type Child: Machines;
 
-    /// The child that `v` knows by the name.
+    /// The child that the version knows by the name.
     fn find(
         part: &<Self::Record as XmlRecord>::Part,
         version: SpecVersion,

@@ -12,7 +12,8 @@ use Rattle.cdx_json.specs.KeptRows.{rows_held, rows_put}
 use Rattle.cdx_json.proofs.ByRowsLaws.{rows_split, rows_then, then_same}
 use Rattle.cdx_nest.specs.declared.metadata.Metadata.{Metadata}
 use Rattle.cdx_nest.specs.Trees.{makers, terms}
-use Rattle.cdx_json.specs.Groups.{group, group_read}
+use Rattle.cdx_schema.specs.Groups.{group}
+use Rattle.cdx_json.specs.Groups.{group_read}
 use Rattle.cdx_nest.specs.Groups.{metadata_by_groups}
 use Rattle.cdx_json.proofs.Groups.{held_split, two_equal, put_split}
 

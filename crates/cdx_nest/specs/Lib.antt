@@ -6,3 +6,4 @@ pub mod Reading
 pub mod Frames
 pub mod FrameLaws
 pub mod NestSteps
+pub mod Nested

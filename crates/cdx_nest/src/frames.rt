@@ -23,12 +23,12 @@ use crate::metadata::Metadata;
 use crate::tools::Tools;
 use cdx_component::{Component, ComponentFrame, ComponentKind, Components, Pedigree};
 use cdx_events::OwnedName;
-use cdx_json::Depth;
 use cdx_leaf::{End, Rule, Start};
 use cdx_machine::Found;
 use cdx_models::{SpecVersion, XmlReadError};
 use cdx_nest_machine::{Nested, Reads};
 use cdx_push::{Leaf, LeafKind, LeafValue};
+use cdx_schema::Depth;
 use cdx_service::{Service, ServiceFrame, ServiceKind, Services};
 use std::alloc::{AllocError, Global};
 

@@ -6,12 +6,11 @@ mod frames;
 mod json;
 mod machine;
 pub mod metadata;
-mod reading;
 pub mod tools;
-mod writing;
+mod xml;
 
 pub use cdx_component::{Component, Components, Pedigree};
-pub use cdx_json::Depth;
+pub use cdx_schema::Depth;
 pub use cdx_service::{Service, Services};
 pub use frames::{NestFrame, NestKind, NestStep, NestValue};
 pub use machine::NestMachine;

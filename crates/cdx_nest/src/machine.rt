@@ -5,18 +5,18 @@ ghost use Rattle.cdx_events.specs.declared.event.XmlEvent.{XmlEvent};
 ghost use Rattle.cdx_events.specs.declared.event.XmlEvent.TheVariants.{StartElement};
 ghost use Rattle.cdx_events.specs.declared.name.Namespace.{Namespace};
 ghost use Rattle.cdx_schema.specs.Soon.{BeginsElement};
-ghost use Rattle.cdx_json.specs.Depths.{depth_of};
+ghost use Rattle.cdx_schema.specs.Depths.{depth_of};
 ghost use Rattle.cdx_machine.specs.Heard.{OpensAs, Answers, IsListening, Listens, heard_by};
 ghost use Rattle.cdx_nest.specs.Frames.{nest_kind, value_tree};
 ghost use Rattle.cdx_nest.specs.NestSteps.{IsOfKind, IsMore, IsMemory, as_steps};
 
 use crate::frames::{NestFrame, NestKind, NestStep};
 use cdx_events::{List, OwnedAttribute, OwnedName, XmlEvent};
-use cdx_json::Depth;
 use cdx_leaf::Start;
 use cdx_machine::Listener;
 use cdx_models::{SpecVersion, XmlReadError};
 use cdx_nest_machine::{Keeps, StackMachine};
+use cdx_schema::Depth;
 use std::alloc::Global;
 
 /// Reads one element of a kind event by event. It keeps what was read so far, and no events: elements in one another take

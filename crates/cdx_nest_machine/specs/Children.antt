@@ -4,8 +4,8 @@ use Rattle.std.proofs.Common.{sym, ap, ◌∙◌}
 use Rattle.cdx_schema.specs.Depth.{Depth, is_too_deep}
 use Rattle.cdx_schema.specs.Kinds.{Kind}
 use Rattle.cdx_schema.specs.XmlReading.{Child}
-use Rattle.cdx_json.specs.declared.depth.Depth.{Depth as Counts}
-use Rattle.cdx_json.specs.Depths.{depth_of}
+use Rattle.cdx_schema.specs.declared.depth.Depth.{Depth as Counts}
+use Rattle.cdx_schema.specs.Depths.{depth_of}
 use Rattle.cdx_machine.specs.Several.{at_position, kinds_of}
 use Rattle.cdx_machine.proofs.Several.{some_same}
 use Rattle.cdx_nest_machine.specs.declared.nested.Reads.{Reads}

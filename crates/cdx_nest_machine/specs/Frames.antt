@@ -10,7 +10,7 @@ use Rattle.cdx_models.specs.Trees.{Trees}
 use Rattle.cdx_schema.specs.Depth.{Depth, is_too_deep}
 use Rattle.cdx_schema.specs.Kinds.{Kind}
 use Rattle.cdx_schema.specs.XmlReading.{xread}
-use Rattle.cdx_json.specs.Depths.{depth_of}
+use Rattle.cdx_schema.specs.Depths.{depth_of}
 use Rattle.cdx_machine.specs.declared.frame.Inside.{Inside}
 use Rattle.cdx_machine.specs.Begun.{Begun}
 use Rattle.cdx_machine.specs.Machines.{Holding, ChildHolding, RefusesBefore}

@@ -1,10 +1,10 @@
 //! Kinds that stand in themselves.
 
 use cdx_events::OwnedName;
-use cdx_json::Depth;
 use cdx_leaf::{End, Rule, Start};
 use cdx_machine::{Found, Leaves};
 use cdx_models::{SpecVersion, XmlReadError};
+use cdx_schema::Depth;
 use std::alloc::{AllocError, Global};
 
 /// What reads a child.
@@ -21,7 +21,7 @@ pub trait Nested: Drop {
     ghost use Rattle.std.specs.Prelude.{◌≡◌, ◌+◌, ℕ, Option, Some, IfOk, OnOk};
     ghost use Rattle.cdx_models.specs.Trees.{Tree, Trees};
     ghost use Rattle.cdx_schema.specs.Kinds.{Kind};
-    ghost use Rattle.cdx_json.specs.Depths.{depth_of};
+    ghost use Rattle.cdx_schema.specs.Depths.{depth_of};
     ghost use Rattle.cdx_leaf.specs.Attribute.{GivesAt};
     ghost use Rattle.cdx_leaf.specs.Rules.{as_rule};
     ghost use Rattle.cdx_machine.specs.Feeding.{IsNoBill};
@@ -73,7 +73,7 @@ pub trait Nested: Drop {
             (first_of (as_kind sort) opened.now.element.now.local_name opened.now.attributes.now
             opened.now.version opened.now.place) result };
 
-    /// The child that `v` knows by the name.
+    /// The child that the version knows by the name.
     fn find(&self, version: SpecVersion, name: &OwnedName) -> Found
         ensures { result ≡ found_from 0 (plan_of (as_kind (sort_of self.now))).children
             (fields self.now) version name.now.local_name };

@@ -1,14 +1,14 @@
 //! Elements of nested kinds that are read whole.
 
 ghost use Rattle.std.specs.Prelude.{◌≡◌, IfOk};
-ghost use Rattle.cdx_json.specs.Depths.{depth_of};
+ghost use Rattle.cdx_schema.specs.Depths.{depth_of};
 ghost use Rattle.cdx_leaf.specs.Reading.{IsIn, ReadsAs};
 
 use crate::nested::Nested;
 use crate::stack::StackMachine;
 use cdx_events::EventReader;
-use cdx_json::Depth;
 use cdx_leaf::{Reading, Start};
+use cdx_schema::Depth;
 
 /// What the element denotes, as one of the nested kinds, whose start the reader has just taken, inside so many components
 /// and services. A refusal is the fault of the element, too great a depth among them, or want of memory.

@@ -6,7 +6,7 @@ ghost use Rattle.cdx_events.specs.declared.event.XmlEvent.TheVariants.{StartElem
 ghost use Rattle.cdx_events.specs.declared.name.Namespace.{Namespace};
 ghost use Rattle.cdx_events.specs.declared.name.OwnedName.{OwnedName};
 ghost use Rattle.cdx_events.specs.declared.name.OwnedAttribute.{OwnedAttribute};
-ghost use Rattle.cdx_json.specs.Depths.{depth_of};
+ghost use Rattle.cdx_schema.specs.Depths.{depth_of};
 ghost use Rattle.cdx_machine.specs.declared.frame.Inside.TheVariants.{Nothing};
 ghost use Rattle.cdx_machine.specs.Frames.{FeedsChild};
 ghost use Rattle.cdx_machine.specs.Machines.{CanStepChild};
@@ -16,10 +16,10 @@ ghost use Rattle.cdx_nest_machine.specs.Frames.{leaf_holds, BeginsOpen};
 use crate::keeps::Keeps;
 use crate::nested::{Nested, Reads};
 use cdx_events::{List, OwnedAttribute, OwnedName, Text, XmlEvent};
-use cdx_json::Depth;
 use cdx_leaf::{End, Start};
 use cdx_machine::{Found, Inside, Leaves, boxed, refuse_in, skip};
 use cdx_models::{SpecVersion, XmlReadError};
+use cdx_schema::Depth;
 use std::alloc::{AllocError, Global};
 use std::mem::replace;
 

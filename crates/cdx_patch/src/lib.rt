@@ -3,7 +3,6 @@
 
 pub mod code;
 mod json;
-mod reading;
-mod writing;
+mod xml;
 
 pub use code::{Diff, Issue, Patch, Patches, Source};

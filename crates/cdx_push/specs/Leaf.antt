@@ -1,13 +1,9 @@
 -- The kinds that don't contain themselves: their names, and what elements are read as.
+use Rattle.cdx_push_code.specs.Trees.{commits_tree, patches_tree}
+use Rattle.cdx_push_parts.specs.Trees.{swid_tree, evidence_tree, licenses_tree, data_tree}
+use Rattle.cdx_push_relations.specs.Trees.{dependencies_tree, compositions_tree, signature_tree}
 use Rattle.cdx_models.specs.Trees.{attached_text, entity, tool, swid, evidence, Tree, text, boolean, list_tree}
 use Rattle.cdx_models.specs.Records.{attached_text_tree, contact_tree, entity_tree, hashes_tree, properties_tree, references_tree, tool_tree}
-use Rattle.cdx_code.specs.Records.{commits_tree}
-use Rattle.cdx_component_parts.specs.Records.{swid_tree, evidence_tree}
-use Rattle.cdx_license.specs.Records.{licenses_tree}
-use Rattle.cdx_patch.specs.Records.{patches_tree}
-use Rattle.cdx_relations.specs.Records.{dependencies_tree, compositions_tree}
-use Rattle.cdx_service_data.specs.Records.{data_tree}
-use Rattle.cdx_signature.specs.Records.{signature_tree}
 use Rattle.cdx_schema.specs.Kinds.{endpoints, authors, hashes, properties, commits, patches, external_references, dependencies, compositions, licenses, Kind, a_text, a_boolean, a_list, a_record, a_data, a_signature}
 use Rattle.cdx_push.specs.declared.kinds.LeafKind.{LeafKind}
 use Rattle.cdx_push.specs.declared.kinds.LeafKind.TheVariants as leaf_kinds

@@ -1,17 +1,13 @@
 //! The names of the kinds that don't contain themselves, and what elements are read as.
 
-use cdx_code::Commits;
-use cdx_component_parts::{ComponentEvidence, Swid};
 use cdx_events::{List, Text};
-use cdx_license::Licenses;
 use cdx_models::{
     AttachedText, ExternalReferences, Hashes, OrganizationalContact, OrganizationalEntity,
     Properties, Tool,
 };
-use cdx_patch::Patches;
-use cdx_relations::{Compositions, Dependencies};
-use cdx_service_data::Data;
-use cdx_signature::Signature;
+use cdx_push_code::{Commits, Patches};
+use cdx_push_parts::{ComponentEvidence, Data, Licenses, Swid};
+use cdx_push_relations::{Compositions, Dependencies, Signature};
 
 /// What a machine reads an element as.
 #[derive(Clone, Copy, Debug)]

@@ -5,5 +5,7 @@
 mod code;
 mod patches;
 
+pub use cdx_code::Commits;
+pub use cdx_patch::Patches;
 pub use code::CommitsMachine;
 pub use patches::PatchesMachine;

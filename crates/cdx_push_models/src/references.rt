@@ -209,12 +209,7 @@ impl PushRecord for ToolChildren {
             "name" => Found::At(1),
             "version" => Found::At(2),
             "hashes" => Found::At(3),
-            "externalReferences" => {
-                if !SpecVersion::V1_4.is_known_to(version) {
-                    return Found::Unknown;
-                }
-                Found::At(4)
-            }
+            "externalReferences" => Found::since(SpecVersion::V1_4, version, 4),
             _ => Found::Unknown,
         }
     }

@@ -3,3 +3,4 @@ pub mod Exact
 pub mod ItemKinds
 pub mod RecordKinds
 pub mod ServiceData
+pub mod Trees

@@ -6,6 +6,9 @@ mod components;
 mod licenses;
 mod service_data;
 
+pub use cdx_component_parts::{ComponentEvidence, Swid};
+pub use cdx_license::Licenses;
+pub use cdx_service_data::Data;
 pub use components::{ComponentEvidenceMachine, SwidMachine};
 pub use licenses::LicensesMachine;
 pub use service_data::DataMachine;

@@ -233,12 +233,7 @@ impl PushRecord for LicenseChildren {
             }
             "text" => Found::At(2),
             "url" => Found::At(3),
-            "properties" => {
-                if !SpecVersion::V1_5.is_known_to(version) {
-                    return Found::Unknown;
-                }
-                Found::At(4)
-            }
+            "properties" => Found::since(SpecVersion::V1_5, version, 4),
             _ => Found::Unknown,
         }
     }

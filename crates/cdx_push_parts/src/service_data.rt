@@ -227,12 +227,7 @@ impl Frame for BegunData {
     fn find(&self, version: SpecVersion, name: &OwnedName) -> Found {
         match name.local_name.as_str() {
             "classification" => Found::At(0),
-            "dataflow" => {
-                if !SpecVersion::V1_5.is_known_to(version) {
-                    return Found::Unknown;
-                }
-                Found::At(1)
-            }
+            "dataflow" => Found::since(SpecVersion::V1_5, version, 1),
             _ => Found::Unknown,
         }
     }

@@ -44,7 +44,7 @@ impl<M: RootMachine> Drop for DocumentReader<M> {
 }
 
 impl<M: RootMachine> DocumentReader<M> {
-    /// A reader of documents of version `v` that was fed nothing yet. It takes no memory.
+    /// A reader of documents of this version that was fed nothing yet. It takes no memory.
     pub fn new(alloc: Global, version: SpecVersion) -> DocumentReader<M>
         ensures heard { heard M.holds M.tree result [] }
         ensures version { reader_version result ≡ version }

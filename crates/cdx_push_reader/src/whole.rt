@@ -10,7 +10,7 @@ use cdx_events::Events;
 use cdx_models::{SpecVersion, XmlReadError};
 use std::alloc::Global;
 
-/// The bill that the events denote in version `v`, or their first fault. Its name is asked first of the root, then its
+/// The bill that the events denote in the version, or their first fault. Its name is asked first of the root, then its
 /// default namespace, then its attributes; its children are read in the order of the events. Or want of memory.
 pub fn read_fed<M: RootMachine>(
     alloc: Global,

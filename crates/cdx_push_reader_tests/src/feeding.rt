@@ -10,11 +10,13 @@ use std::test::Fail;
 /// A reader of bills that was fed pieces, and what it answered to each of them and told after it, in a line.
 #[derive(Drop)]
 pub struct Fed {
+    /// The reader.
     pub reader: PushReader,
+    /// What it answered to each piece, and told after it.
     pub answers: Vec<String>,
 }
 
-/// Feeds the pieces to a new reader of bills of version `v`, whatever it answers to the ones before.
+/// Feeds the pieces to a new reader of bills of the version, whatever it answers to the ones before.
 pub fn feed_each(alloc: Global, version: SpecVersion, pieces: &[&[XmlEvent]]) -> Result<Fed, Fail> {
     let mut reader = PushReader::new(alloc, version);
     let mut answers = Vec::new(alloc);

@@ -25,7 +25,7 @@ fn finished(alloc: Global, fed: Fed) -> Result<String, Fail> {
     }
 }
 
-/// What a reader of bills of version `v` answers to each of the pieces, each with ` / ` after it, and what it comes to
+/// What a reader of bills of the version answers to each of the pieces, each with ` / ` after it, and what it comes to
 /// then: the bill as JSON of 1.5, or the fault.
 pub fn answered(
     alloc: Global,

@@ -11,10 +11,15 @@ use std::test::Fail;
 /// The events of a document, where its fault stands, and the fault; or the bill as JSON of 1.5, where it has none.
 #[derive(Drop)]
 pub struct Sample<'a> {
+    /// The row.
     pub line: &'a str,
+    /// The version in which the document is read.
     pub version: SpecVersion,
+    /// The events of the document.
     pub events: &'a [XmlEvent],
+    /// Where the fault stands, if there is one.
     pub place: Option<usize>,
+    /// The fault, or the bill as JSON.
     pub answer: &'a str,
 }
 

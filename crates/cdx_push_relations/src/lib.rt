@@ -5,5 +5,7 @@ mod bom_reference;
 mod relations;
 mod signature;
 
+pub use cdx_relations::{Compositions, Dependencies};
+pub use cdx_signature::Signature;
 pub use relations::{CompositionsMachine, DependenciesMachine};
 pub use signature::SignatureMachine;

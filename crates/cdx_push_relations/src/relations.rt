@@ -382,18 +382,8 @@ impl PushRecord for CompositionChildren {
             "aggregate" => Found::At(0),
             "assemblies" => Found::At(1),
             "dependencies" => Found::At(2),
-            "vulnerabilities" => {
-                if !SpecVersion::V1_5.is_known_to(version) {
-                    return Found::Unknown;
-                }
-                Found::At(3)
-            }
-            "signature" => {
-                if !SpecVersion::V1_4.is_known_to(version) {
-                    return Found::Unknown;
-                }
-                Found::At(4)
-            }
+            "vulnerabilities" => Found::since(SpecVersion::V1_5, version, 3),
+            "signature" => Found::since(SpecVersion::V1_4, version, 4),
             _ => Found::Unknown,
         }
     }

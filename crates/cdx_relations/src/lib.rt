@@ -5,8 +5,7 @@ pub mod composition;
 pub mod dependency;
 pub mod json;
 mod parts;
-mod reading;
-mod writing;
+mod xml;
 
 pub use composition::{BomReference, Composition, Compositions};
 pub use dependency::{Dependencies, Dependency};

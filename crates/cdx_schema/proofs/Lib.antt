@@ -51,7 +51,6 @@ pub mod EarlyBalance
 pub mod EarlyFaults
 pub mod EarlyLaws
 pub mod EarlyRoot
-pub mod EarlyFrames
 pub mod EarlyEnds
 pub mod EarlyStated
 pub mod EarlyClosed

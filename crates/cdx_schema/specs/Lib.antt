@@ -3,6 +3,8 @@ pub mod Table
 pub mod Results
 pub mod Faults
 pub mod Depth
+pub mod Depths
+pub mod Groups
 pub mod Plain
 pub mod Held
 pub mod Membership

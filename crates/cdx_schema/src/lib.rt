@@ -2,9 +2,11 @@
 //! what a trip through XML takes, roads of rewritings, and their laws.
 #![tactic(auto)]
 
+pub mod depth;
 pub mod kinded;
 pub mod laws;
 pub mod target;
 
+pub use depth::Depth;
 pub use kinded::{Kinded, Record};
 pub use target::Target;

@@ -4,7 +4,7 @@ use Rattle.cdx_models.specs.declared.bom.SpecVersion.{SpecVersion}
 use Rattle.cdx_models.specs.Trees.{service, Trees}
 use Rattle.cdx_schema.specs.Table.{rows}
 use Rattle.cdx_schema.specs.XmlReading.{Child, children_from, record_plan}
-use Rattle.cdx_json.specs.Groups.{group}
+use Rattle.cdx_schema.specs.Groups.{group}
 use Rattle.cdx_machine.specs.Several.{found_from}
 use Rattle.cdx_machine.specs.declared.frame.Found.{Found}
 use Rattle.cdx_machine.specs.declared.frame.Found.TheVariants.{Unknown}

@@ -23,7 +23,8 @@ use Rattle.cdx_service.specs.declared.service.Service.TheViews.{out-Service}
 use Rattle.cdx_service.specs.declared.service.Services.{Services}
 use Rattle.cdx_service.specs.Trees.{service_tree, services_tree, service_naming, service_access, service_contents, service_fields}
 use Rattle.cdx_service.specs.Laws.{service_tree-out}
-use Rattle.cdx_json.specs.Groups.{group, group_read}
+use Rattle.cdx_schema.specs.Groups.{group}
+use Rattle.cdx_json.specs.Groups.{group_read}
 use Rattle.cdx_service.specs.Groups.{service_by_groups}
 use Rattle.cdx_json.proofs.Groups.{held_three, three_equal, put_split, tree_spelled}
 

@@ -10,7 +10,7 @@ use Rattle.cdx_schema.specs.Kinds.{Row, member, optional}
 use Rattle.cdx_schema.specs.Results.{◌>>=◌}
 use Rattle.cdx_schema.specs.Table.{rows}
 use Rattle.cdx_schema.specs.XmlReading.{find_attribute, attributes_read, ended}
-use Rattle.cdx_json.specs.Groups.{group}
+use Rattle.cdx_schema.specs.Groups.{group}
 use Rattle.cdx_leaf.specs.Attribute.{text_row}
 use Rattle.cdx_leaf.specs.Fault.{FailsAt}
 use Rattle.cdx_leaf.proofs.Attributes.{row_ok, maybe_row}
@@ -21,7 +21,7 @@ use Rattle.cdx_service.specs.declared.service.Service.{Service}
 use Rattle.cdx_service.specs.declared.service.parts.ServiceNaming.{ServiceNaming}
 use Rattle.cdx_service.specs.declared.service.parts.ServiceAccess.{ServiceAccess}
 use Rattle.cdx_service.specs.declared.service.parts.ServiceContents.{ServiceContents}
-use Rattle.cdx_service.specs.declared.frames.part.ServicePart.{ServicePart}
+use Rattle.cdx_service.specs.declared.xml.reading.parts.ServicePart.{ServicePart}
 use Rattle.cdx_service.specs.Trees.{service_tree}
 use Rattle.cdx_service.specs.PartTrees.{service_naming_trees, service_access_trees, service_contents_trees}
 use Rattle.cdx_service.specs.ReadingParts.{naming_part, service_part}

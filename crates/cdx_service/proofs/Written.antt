@@ -8,7 +8,7 @@ use Rattle.cdx_models.specs.Trees.{service, ◌⧺◌}
 use Rattle.cdx_schema.specs.Kinds.{services, a_list, a_record}
 use Rattle.cdx_schema.specs.Table.{rows, list}
 use Rattle.cdx_schema.specs.Trips.{is_passed_over}
-use Rattle.cdx_json.specs.Groups.{group}
+use Rattle.cdx_schema.specs.Groups.{group}
 use Rattle.cdx_write.specs.Listed.{item_put}
 use Rattle.cdx_write.specs.Spelling.{written, inner}
 use Rattle.cdx_write.specs.WillWrite.{will_write}

@@ -3,8 +3,8 @@ use Rattle.std.specs.Prelude.{[], ◌∷◌}
 use Rattle.cdx_models.specs.Trees.{text, Trees, ◌⧺◌, trees, present}
 use Rattle.cdx_models.specs.Records.{entity_tree}
 use Rattle.cdx_service.specs.PartTrees.{service_access_trees, service_contents_trees}
-use Rattle.cdx_service.specs.declared.frames.part.NamingPart.{NamingPart}
-use Rattle.cdx_service.specs.declared.frames.part.ServicePart.{ServicePart}
+use Rattle.cdx_service.specs.declared.xml.reading.parts.NamingPart.{NamingPart}
+use Rattle.cdx_service.specs.declared.xml.reading.parts.ServicePart.{ServicePart}
 
 abbrev pub naming_part : NamingPart → Trees
 naming_part p = trees (present text p.bom_ref ∷ present entity_tree p.provider ∷ present text p.group ∷ present text p.name ∷ present text p.version ∷ present text p.description ∷ [])

@@ -2,20 +2,21 @@
 
 mod children;
 mod names;
-mod part;
 mod putting;
 
 use crate::service::{Service, Services};
+use crate::xml::reading::begin::begin_service;
+use crate::xml::reading::finish::finish_service;
+use crate::xml::reading::parts::ServicePart;
 use cdx_events::OwnedName;
-use cdx_json::Depth;
 use cdx_leaf::{End, Rule, Start};
 use cdx_machine::Found;
 use cdx_models::{SpecVersion, XmlReadError};
 use cdx_nest_machine::{Nested, Reads};
 use cdx_push::{Leaf, LeafKind, LeafValue};
+use cdx_schema::Depth;
 use children::service_child;
 use names::find_in_service;
-use part::{ServicePart, begin_service, finish_service};
 use putting::{push_service, put_service_leaf, put_services};
 use std::alloc::{AllocError, Global};
 

@@ -3,9 +3,8 @@
 
 mod frames;
 mod json;
-mod reading;
 pub mod service;
-mod writing;
+mod xml;
 
 pub use frames::{ServiceFrame, ServiceKind, ServiceValue};
 pub use service::{Service, Services};

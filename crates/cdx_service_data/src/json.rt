@@ -3,7 +3,7 @@
 ghost use Rattle.cdx_schema.specs.Kinds.{an_entry};
 ghost use Rattle.serde_json.specs.View.{items_view};
 ghost use Rattle.cdx_json.specs.ByRows.{list_read};
-ghost use Rattle.cdx_json.specs.Depths.{depth_of};
+ghost use Rattle.cdx_schema.specs.Depths.{depth_of};
 ghost use Rattle.cdx_json.specs.Gives.{Gives};
 ghost use Rattle.cdx_service_data.specs.Records.{data_tree};
 ghost use Rattle.cdx_service_data.specs.Stays.{data_stays};

@@ -3,9 +3,8 @@
 
 mod json;
 mod parts;
-mod reading;
 pub mod service;
-mod writing;
+mod xml;
 
 pub use parts::{DataPart, ServiceDataPart};
 pub use service::{Data, DataClassification, ServiceData};

@@ -232,7 +232,7 @@ fn same_entries<T: Entry + Drop>(one: &List<T>, other: &List<ServiceData>) -> bo
     true
 }
 
-/// The classification of each. Only want of memory is refused.
+/// The classification of each. Only want of memory refuses.
 pub(crate) fn classifications(
     alloc: Global,
     held: &List<ServiceData>,

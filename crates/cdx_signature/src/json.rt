@@ -10,7 +10,7 @@ ghost use Rattle.cdx_signature.specs.Records.{algorithm_tree, signer_tree, signa
 ghost use Rattle.cdx_signature.specs.Signatures.{algorithm_of};
 ghost use Rattle.cdx_schema.specs.Keeping.{kept};
 ghost use Rattle.cdx_schema.specs.JsonReading.{jread, seen};
-ghost use Rattle.cdx_json.specs.Depths.{depth_of};
+ghost use Rattle.cdx_schema.specs.Depths.{depth_of};
 ghost use Rattle.cdx_json.specs.Gives.{Gives};
 ghost use Rattle.serde_json.specs.Data.{no_members, object};
 ghost use Rattle.cdx_models.specs.Trees.{signer, list_tree};

@@ -3,9 +3,8 @@
 
 mod json;
 mod parts;
-mod reading;
 pub mod signature;
-mod writing;
+mod xml;
 
 pub use parts::{SignaturePart, SignerPart};
 pub use signature::{Algorithm, Signature, Signer};

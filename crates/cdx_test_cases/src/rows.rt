@@ -26,10 +26,15 @@ pub fn parted(text: &str) -> (&str, &str) {
 /// words.
 #[derive(Drop)]
 pub struct Case<'a> {
+    /// The row.
     pub line: &'a str,
+    /// The version.
     pub version: SpecVersion,
+    /// What is done with what is given.
     pub word: &'a str,
+    /// What stands before the arrow.
     pub given: &'a str,
+    /// What stands after it.
     pub answer: &'a str,
 }
 

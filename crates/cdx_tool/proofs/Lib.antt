@@ -8,3 +8,4 @@ pub mod MadeRoads
 pub mod MadeBills
 pub mod Printing
 pub mod LoneMember
+pub mod Asked

@@ -14,10 +14,6 @@ use Rattle.cdx_tool.proofs.Settling.{some_told, keeps_itself}
 pub ends_early : (o w : Option (List ℕ)) (c : Option Command) (flushed : Option ℕ) (status : ℕ) → (status ≡ 3) ⊎ (status ≡ 5) → (bytes : List ℕ) × Tells o bytes × Ends (reply_if c bytes) status w w flushed
 ends_early o w c flushed status h = let t = some_told o in (t.0, t.1, inr (inr (h, keeps_itself w)))
 
--- what is owed to a command, whatever the bytes are
-pub road_owed : (o : Option (List ℕ)) (c : Option Command) (r : Reply) → Some a_road ≡ c → (bytes : List ℕ) × Tells o bytes × (r ≡ reply_to bytes) → (bytes : List ℕ) × Tells o bytes × (r ≡ reply_if c bytes)
-road_owed o c r is h = (h.0, h.1, h.2 ∙ ap (λ c. reply_if c h.0) is)
-
 pub make_owed : (o : Option (List ℕ)) (c : Option Command) (n : ℕ) (r : Reply) → Some (a_make n) ≡ c → r ≡ made_reply n → (bytes : List ℕ) × Tells o bytes × (r ≡ reply_if c bytes)
 make_owed o c n r is h = let t = some_told o in (t.0, t.1, h ∙ ap (λ c. reply_if c t.0) is)
 

@@ -1,7 +1,7 @@
 -- How a program of the frame ends.
 use Rattle.std.proofs.Common.{◌≡◌, ℕ, ◌≤◌, ◌<◌, List, [], ◌++◌, length, codes, Option, Some, None, ◌⊎◌, inl, inr, refl, sym, ap, subst, ◌∙◌, arith}
 use Rattle.std.specs.Io.KnownBytes.{Keeps, Consumes, IsAtEnd}
-use Rattle.std.proofs.lemmas.Bool.{lt-ltb, le-ltb}
+use Rattle.std.proofs.lemmas.Bool.{lt-ltb}
 use Rattle.std.proofs.lemmas.List.{length-append, append-nil}
 use Rattle.cdx_request.specs.Replies.{Reply, reply, no_request, limit}
 use Rattle.cdx_tool.specs.Owed.{reply_by, IsSettled}
@@ -25,10 +25,6 @@ all_told : (o n : Option (List ℕ)) (taken : List ℕ) → Consumes o n taken �
 all_told None n taken h end = tt
 all_told (Some told) None taken h end = absurd h
 all_told (Some told) (Some rest) taken h end = sym (h ∙ ap (λ bs. taken ++ bs) end ∙ append-nil taken)
-
-pub owed_to_all : {C : Type 0} (owed : C → List ℕ → Reply) (c : C) (o n : Option (List ℕ)) (taken : List ℕ) (r : Reply) → Consumes o n taken → IsAtEnd n → length taken ≤ limit → r ≡ owed c taken
-    → (bytes : List ℕ) × Tells o bytes × (r ≡ reply_by owed (Some c) bytes)
-owed_to_all owed c o n taken r h end le e = (taken, all_told o n taken h end, e ∙ rw (le-ltb limit (length taken) le) refl)
 
 pub some_told : (o : Option (List ℕ)) → (bytes : List ℕ) × Tells o bytes
 some_told None = ([], tt)

@@ -6,3 +6,4 @@ pub mod Commands
 pub mod Run
 pub mod Owed
 pub mod LoneMember
+pub mod Asks

@@ -18,7 +18,7 @@ use crate::command::Respond;
 use crate::making::answer_made;
 use crate::output::put_answer;
 use crate::responding::answer_source;
-use crate::status::{NO_MEMORY, SINK_FAULT, UNUSABLE};
+use crate::status::Status;
 use crate::words::{Command, read_command};
 use cdx_events::{Sink, Source};
 use std::alloc::{AllocError, Global};
@@ -56,11 +56,11 @@ fn owed<S: Source>(alloc: Global, words: &[String], source: &mut S) -> Result<An
         Some(Command::Road) => answer_source(alloc, &Road, source),
         Some(Command::Make(count)) => match answer_made(alloc, count) {
             Ok(answer) => Ok(answer),
-            Err(_) => Err(NO_MEMORY),
+            Err(_) => Err(Status::NoMemory as u8),
         },
-        None => match refuse(alloc, UNUSABLE, "words") {
+        None => match refuse(alloc, Status::Unusable as u8, "words") {
             Ok(answer) => Ok(answer),
-            Err(_) => Err(NO_MEMORY),
+            Err(_) => Err(Status::NoMemory as u8),
         },
     }
 }
@@ -134,7 +134,7 @@ pub fn run<S: Source, K: Sink>(alloc: Global, words: &[String], source: &mut S, 
         Err(status) => status,
         Ok(answer) => match put_answer(&answer.text, sink) {
             Ok(()) => answer.status,
-            Err(_) => SINK_FAULT,
+            Err(_) => Status::SinkFault as u8,
         },
     }
 }

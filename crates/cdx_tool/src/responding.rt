@@ -13,7 +13,7 @@ use crate::answer::{Answer, LIMIT, refuse};
 use crate::command::Respond;
 use crate::input::{InputError, take_input};
 use crate::output::put_answer;
-use crate::status::{NO_MEMORY, SINK_FAULT, SOURCE_FAULT, TOO_LONG, UNUSABLE};
+use crate::status::Status;
 use cdx_events::{Sink, Source};
 use std::alloc::Global;
 
@@ -38,15 +38,15 @@ pub(crate) fn answer_source<C: Respond, S: Source>(
         × (length taken ≤ limit + 1) }
 {
     match take_input(alloc, source, LIMIT) {
-        Err(InputError::Fault) => Err(SOURCE_FAULT),
-        Err(InputError::Memory(_)) => Err(NO_MEMORY),
-        Err(InputError::TooLong) => match refuse(alloc, TOO_LONG, "too long") {
+        Err(InputError::Fault) => Err(Status::SourceFault as u8),
+        Err(InputError::Memory(_)) => Err(Status::NoMemory as u8),
+        Err(InputError::TooLong) => match refuse(alloc, Status::TooLong as u8, "too long") {
             Ok(answer) => Ok(answer),
-            Err(_) => Err(NO_MEMORY),
+            Err(_) => Err(Status::NoMemory as u8),
         },
         Ok(bytes) => match command.answer(alloc, bytes.as_slice()) {
             Ok(answer) => Ok(answer),
-            Err(_) => Err(NO_MEMORY),
+            Err(_) => Err(Status::NoMemory as u8),
         },
     }
 }
@@ -75,9 +75,9 @@ fn answer_if<C: Respond, S: Source>(
 {
     match command {
         Some(command) => answer_source(alloc, command, source),
-        None => match refuse(alloc, UNUSABLE, "words") {
+        None => match refuse(alloc, Status::Unusable as u8, "words") {
             Ok(answer) => Ok(answer),
-            Err(_) => Err(NO_MEMORY),
+            Err(_) => Err(Status::NoMemory as u8),
         },
     }
 }
@@ -130,7 +130,7 @@ pub fn respond<C: Respond, S: Source, K: Sink>(
         Err(status) => status,
         Ok(answer) => match put_answer(&answer.text, sink) {
             Ok(()) => answer.status,
-            Err(_) => SINK_FAULT,
+            Err(_) => Status::SinkFault as u8,
         },
     }
 }

@@ -4,7 +4,7 @@ use Rattle.cdx_models.specs.Trees.{component, service, Tree, Trees, none, more, 
 use Rattle.cdx_schema.specs.Kinds.{a_record, Row}
 use Rattle.cdx_schema.specs.Table.{rows}
 use Rattle.cdx_schema.specs.Membership.{IsOf}
-use Rattle.cdx_json.specs.Groups.{group}
+use Rattle.cdx_schema.specs.Groups.{group}
 use Rattle.cdx_component.specs.declared.component.Component.{Component}
 use Rattle.cdx_component.specs.declared.component.Component.TheViews.{out-Component}
 use Rattle.cdx_component.specs.Trees.{origin, naming, marks, contents, component_tree, components_tree, pedigree_tree}

@@ -3,7 +3,7 @@
 ghost use Rattle.cdx_models.specs.Trees.{component, pedigree, present};
 ghost use Rattle.cdx_schema.specs.Kinds.{components, optional, a_list, a_record};
 ghost use Rattle.cdx_schema.specs.Membership.{IsOf};
-ghost use Rattle.cdx_json.specs.Groups.{group};
+ghost use Rattle.cdx_schema.specs.Groups.{group};
 ghost use Rattle.cdx_component.specs.Trees.{origin, naming, marks, contents, component_tree, components_tree, pedigree_tree};
 ghost use Rattle.cdx_component.specs.declared.component.Component.{out-Component};
 ghost use Rattle.cdx_whole.specs.Fields.{IsField, AreFields};

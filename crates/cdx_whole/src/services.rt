@@ -3,7 +3,7 @@
 ghost use Rattle.cdx_models.specs.Trees.{service, present};
 ghost use Rattle.cdx_schema.specs.Kinds.{services, optional, a_list, a_record};
 ghost use Rattle.cdx_schema.specs.Membership.{IsOf};
-ghost use Rattle.cdx_json.specs.Groups.{group};
+ghost use Rattle.cdx_schema.specs.Groups.{group};
 ghost use Rattle.cdx_service.specs.Trees.{service_naming, service_access, service_contents, service_tree, services_tree};
 ghost use Rattle.cdx_service.specs.declared.service.Service.{out-Service};
 ghost use Rattle.cdx_whole.specs.Fields.{IsField, AreFields};

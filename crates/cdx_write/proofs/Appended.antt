@@ -1,5 +1,5 @@
 -- Spellings one after the other.
-use Rattle.std.proofs.Common.{◌≡◌, ℕ, ◌+◌, ◌<◌, ◌≤◌, List, [], ◌∷◌, ◌++◌, Result, Ok, Err, length, take, drop, get_or, refl, sym, ap, subst, ◌∙◌, append_assoc}
+use Rattle.std.proofs.Common.{◌≡◌, ℕ, ◌+◌, ◌<◌, ◌≤◌, List, [], ◌∷◌, ◌++◌, Result, Ok, Err, length, take, drop, get_or, sym, ap, subst, ◌∙◌, append_assoc}
 use Rattle.std.specs.List.{flat_map}
 use Rattle.std.proofs.lemmas.List.{take-append-drop, drop_more, append-nil, take_all, take_more}
 use Rattle.std.proofs.lemmas.List.Concat.{flat_map-append}
@@ -16,10 +16,6 @@ partly_first old new a b p = record { part = p.part; rest = p.rest ++ b; new_is 
 pub partly_after : (old mid new a b : List XmlEvent) → mid ≡ old ++ a → Partly mid new b → Partly old new (a ++ b)
 partly_after old mid new a b is p =
     record { part = a ++ p.part; rest = p.rest; new_is = p.new_is ∙ ap (λ x. x ++ p.part) is ∙ append_assoc old a p.part; spelling_is = ap (λ x. a ++ x) p.spelling_is ∙ sym (append_assoc a p.part p.rest) }
-
--- Nothing was written yet.
-pub partly_none : (old s : List XmlEvent) → Partly old old s
-partly_none old s = record { part = []; rest = s; new_is = sym (append-nil old); spelling_is = refl }
 
 pub after_both : {A : Type 0} (old mid new a b : List A) → mid ≡ old ++ a → new ≡ mid ++ b → new ≡ old ++ (a ++ b)
 after_both old mid new a b p q = q ∙ ap (λ x. x ++ b) p ∙ append_assoc old a b
@@ -40,6 +36,28 @@ first_fails old new a b (XmlElementWriteError n) p = p
 -- The last of a record's rows was written.
 pub last_row : (old new a : List XmlEvent) (r : Result (Unit {0}) XmlWriteError) → Appends old new a r → Appends old new (a ++ []) r
 last_row old new a r p = subst (λ s. Appends old new s r) (sym (append-nil a)) p
+
+-- ---- any number of spellings, one after the other
+
+-- What was written brought the writer from old to mid: what is written of `next` from there on is of `so_far next` from old on.
+pub record Reached (old mid : List XmlEvent) (so_far : List XmlEvent → List XmlEvent) : Type 0 where
+  pub then_all : (new next : List XmlEvent) (r : Result (Unit {0}) XmlWriteError) → Appends mid new next r → Appends old new (so_far next) r
+
+pub from : (old : List XmlEvent) → Reached old old (λ next. next)
+from old = record { then_all = λ new next r q. q }
+
+infixl 50 ◌▸◌
+-- One spelling more was written whole; it stands beside the equation, which doesn't determine it.
+pub ◌▸◌ : {old mid now : List XmlEvent} {so_far : List XmlEvent → List XmlEvent} → Reached old mid so_far → (step : (a : List XmlEvent) × (now ≡ mid ++ a)) → Reached old now (λ next. so_far (step.0 ++ next))
+◌▸◌ {mid = mid} {now = now} reached step = record { then_all = λ new next r q. reached.then_all new (step.0 ++ next) r (then_all mid now new step.0 next r step.1 q) }
+
+-- The next spelling was refused, and another would have followed it.
+pub then_fails : {old mid : List XmlEvent} {so_far : List XmlEvent → List XmlEvent} → Reached old mid so_far → (new a b : List XmlEvent) (e : XmlWriteError) → Appends mid new a (Err e) → Appends old new (so_far (a ++ b)) (Err e)
+then_fails {mid = mid} reached new a b e q = reached.then_all new (a ++ b) (Err e) (first_fails mid new a b e q)
+
+-- The next spelling is that of a record's last row.
+pub then_last : {old mid : List XmlEvent} {so_far : List XmlEvent → List XmlEvent} → Reached old mid so_far → (new a : List XmlEvent) (r : Result (Unit {0}) XmlWriteError) → Appends mid new a r → Appends old new (so_far (a ++ [])) r
+then_last {mid = mid} reached new a r q = reached.then_all new (a ++ []) r (last_row mid new a r q)
 
 -- Attributes were added to none.
 pub all_added : {A : Type 0} (none new s : List A) → none ≡ [] → new ≡ none ++ s → new ≡ s

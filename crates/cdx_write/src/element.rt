@@ -16,7 +16,7 @@ use std::alloc::{AllocError, Global};
 
 /// A value that is written as one text: an attribute's value, or an element's content.
 pub trait Lone: Kinded {
-    /// The text. Only want of memory is refused.
+    /// The text. Only want of memory refuses.
     fn xml_text(&self, alloc: Global) -> Result<Text, AllocError>
         ensures { IfOk result (λ r. r ≡ text_of (Self.tree self.now)) };
 

@@ -42,7 +42,7 @@ pub fn write_items<T: Item>(
     Ok(())
 }
 
-/// Appends a list as the element `tag`, with each item under the name `item_tag`. Only want of memory is refused; the
+/// Appends a list as the element `tag`, with each item under the name `item_tag`. Only want of memory refuses; the
 /// writer then has a prefix of that.
 pub fn write_list<T: Item>(
     writer: &mut EventWriter,

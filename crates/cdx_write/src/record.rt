@@ -16,13 +16,13 @@ use std::alloc::AllocError;
 
 /// A record that is written row by row. `write_record` makes of it the spelling of the schema.
 pub trait WrittenRecord: Record {
-    /// The attributes of what a version keeps. Only want of memory is refused.
+    /// The attributes of what a version keeps. Only want of memory refuses.
     fn attributes(&self, target: Target) -> Result<List<OwnedAttribute>, AllocError>
         ensures { IfOk result (λ r.
             r ≡ attributes_written (fields_of (Self.tree self.now)) target.version
             (rows Self.name)) };
 
-    /// Appends the content of what a version keeps. Only want of memory is refused; the writer then has a prefix of
+    /// Appends the content of what a version keeps. Only want of memory refuses; the writer then has a prefix of
     /// that.
     fn write_rows(&self, writer: &mut EventWriter, target: Target) -> WriteResult
         ensures { Appends writer.old writer.new
@@ -30,7 +30,7 @@ pub trait WrittenRecord: Record {
             result };
 }
 
-/// Appends the element of what a version keeps of a record, under the name. Only want of memory is refused; the writer
+/// Appends the element of what a version keeps of a record, under the name. Only want of memory refuses; the writer
 /// then has a prefix of that.
 pub fn write_record<T: WrittenRecord>(
     writer: &mut EventWriter,

@@ -9,7 +9,7 @@ use cdx_events::{EventWriter, List, Namespace, OwnedAttribute, OwnedName, Text, 
 use cdx_models::{SpecVersion, XmlWriteError};
 use std::alloc::Global;
 
-/// What writing answers: only want of memory is refused.
+/// What writing answers: only want of memory refuses.
 pub type WriteResult = Result<(), XmlWriteError>;
 
 /// Appends the start of an element with these attributes.
@@ -30,7 +30,7 @@ pub fn write_opening(
     Ok(())
 }
 
-/// Appends the start of an element without attributes. Only want of memory is refused; the writer is then as before.
+/// Appends the start of an element without attributes. Only want of memory refuses; the writer is then as before.
 pub fn write_start_tag(
     alloc: Global,
     writer: &mut EventWriter,
@@ -41,7 +41,7 @@ pub fn write_start_tag(
     write_opening(alloc, writer, tag, List::new(alloc))
 }
 
-/// Appends the end of an element. Only want of memory is refused; the writer is then as before.
+/// Appends the end of an element. Only want of memory refuses; the writer is then as before.
 pub fn write_close_tag(
     alloc: Global,
     writer: &mut EventWriter,
@@ -66,7 +66,7 @@ pub(crate) fn write_characters(
     Ok(())
 }
 
-/// Appends an element that holds this text alone, also where it is empty. Only want of memory is refused; the writer
+/// Appends an element that holds this text alone, also where it is empty. Only want of memory refuses; the writer
 /// then has a prefix of that.
 pub fn write_simple_tag(
     alloc: Global,
@@ -81,7 +81,7 @@ pub fn write_simple_tag(
     write_close_tag(alloc, writer, tag)
 }
 
-/// Appends an element that holds this text alone, and nothing for no text. Only want of memory is refused; the writer
+/// Appends an element that holds this text alone, and nothing for no text. Only want of memory refuses; the writer
 /// then has a prefix of that.
 pub fn write_simple_option_tag(
     alloc: Global,
@@ -98,7 +98,7 @@ pub fn write_simple_option_tag(
     }
 }
 
-/// Appends the items of a list, in order, between the tags of an element. Only want of memory is refused; the writer
+/// Appends the items of a list, in order, between the tags of an element. Only want of memory refuses; the writer
 /// then has a prefix of that.
 pub fn write_list_tag<X: ToXml>(
     alloc: Global,

@@ -49,7 +49,7 @@ pub trait ToXml: Shown {
     // The name under which it is written, or that it has none.
     ghost tag: { Tag };
 
-    /// Appends the spelling, in the version, of what the version keeps of the value. Only want of memory is refused;
+    /// Appends the spelling, in the version, of what the version keeps of the value. Only want of memory refuses;
     /// the writer then has a prefix of that.
     fn write_xml_element(
         &self,

@@ -4,7 +4,7 @@ ghost use Rattle.std.specs.Prelude.{◌≡◌};
 ghost use Rattle.cdx_models.specs.Trees.{metadata, present};
 ghost use Rattle.cdx_schema.specs.Kinds.{components, a_list, a_record, a_bill};
 ghost use Rattle.cdx_schema.specs.Keeping.{fits};
-ghost use Rattle.cdx_component.specs.Trees.{components_tree};
+ghost use Rattle.cdx_nest.specs.Nested.{components_tree};
 ghost use Rattle.cdx_nest.specs.Trees.{metadata_tree};
 ghost use Rattle.cdx_bom.specs.Trees.{bom_tree};
 

@@ -36,14 +36,14 @@ impl Bom {
         self.output_json(alloc, SpecVersion::V1_3)
     }
 
-    /// What 1.4 keeps of the bill, as a JSON value. Only want of memory is refused.
+    /// What 1.4 keeps of the bill, as a JSON value. Only want of memory refuses.
     pub fn output_as_json_v1_4(&self, alloc: Global) -> Result<Value, JsonWriteError>
         ensures { Makes result (λ v. view v ≡ kept_json SpecVersion.V1_4 (bom_tree self.now)) }
     {
         self.output_json(alloc, SpecVersion::V1_4)
     }
 
-    /// What 1.5 keeps of the bill, as a JSON value. Only want of memory is refused.
+    /// What 1.5 keeps of the bill, as a JSON value. Only want of memory refuses.
     pub fn output_as_json_v1_5(&self, alloc: Global) -> Result<Value, JsonWriteError>
         ensures { Makes result (λ v. view v ≡ kept_json SpecVersion.V1_5 (bom_tree self.now)) }
     {

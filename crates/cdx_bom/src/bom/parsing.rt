@@ -9,7 +9,7 @@ ghost use Rattle.cdx_json.specs.Gives.{Gives};
 ghost use Rattle.cdx_bom.specs.Trees.{bom_tree};
 
 use crate::bom::Bom;
-use crate::bom::json::refuse_floats;
+use crate::json::refuse_floats;
 use cdx_json::FromJson;
 use cdx_models::{JsonReadError, SpecVersion};
 use cdx_schema::laws;

@@ -4,16 +4,14 @@ ghost use Rattle.std.specs.Prelude.{◌≡◌};
 ghost use Rattle.cdx_models.specs.Trees.{present};
 ghost use Rattle.cdx_schema.specs.Depth.{top};
 ghost use Rattle.cdx_schema.specs.Keeping.{is_shallow};
-ghost use Rattle.cdx_json.specs.Depths.{depth_of};
-ghost use Rattle.cdx_component.specs.Trees.{component_tree, components_tree, pedigree_tree};
-ghost use Rattle.cdx_service.specs.Trees.{service_tree, services_tree};
+ghost use Rattle.cdx_schema.specs.Depths.{depth_of};
+ghost use Rattle.cdx_nest.specs.Nested.{component_tree, components_tree, pedigree_tree, service_tree, services_tree};
 ghost use Rattle.cdx_nest.specs.Trees.{tools_tree, metadata_tree};
 ghost use Rattle.cdx_bom.specs.Trees.{bom_tree};
 
 use crate::bom::Bom;
-use cdx_component::Pedigree;
-use cdx_json::Depth;
-use cdx_nest::{Component, Components, Metadata, Service, Services, Tools};
+use cdx_nest::{Component, Components, Metadata, Pedigree, Service, Services, Tools};
+use cdx_schema::Depth;
 
 impl Bom {
     /// Whether no component stands inside 32 components and no service inside 32 services, as in every bill that is

@@ -16,7 +16,8 @@ use cdx_nest::NestKind;
 use cdx_nest_machine::Reads;
 use cdx_push::LeafKind;
 
-/// The child of a bill that has the name, where `v` knows it. The last of several counts, so none is a second one.
+/// The child of a bill that has the name, where the version knows it. The last of several counts, so none is a second
+/// one.
 #[tactic(auto, unfolding(cdx_machine::proofs::OnRows::on_rows), using(cdx_machine::proofs::OnRows::by_rows))]
 pub(crate) fn find_in_bill(version: SpecVersion, name: &OwnedName) -> Found
     ensures { (ts : Trees)
@@ -41,18 +42,8 @@ fn find_relation(version: SpecVersion, name: &OwnedName) -> Found
         "externalReferences" => Found::At(3),
         "dependencies" => Found::At(4),
         "compositions" => Found::At(5),
-        "properties" => {
-            if !SpecVersion::V1_5.is_known_to(version) {
-                return Found::Unknown;
-            }
-            Found::At(6)
-        }
-        "signature" => {
-            if !SpecVersion::V1_4.is_known_to(version) {
-                return Found::Unknown;
-            }
-            Found::At(7)
-        }
+        "properties" => Found::since(SpecVersion::V1_5, version, 6),
+        "signature" => Found::since(SpecVersion::V1_4, version, 7),
         _ => Found::Unknown,
     }
 }

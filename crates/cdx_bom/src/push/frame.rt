@@ -9,16 +9,16 @@ ghost use Rattle.cdx_bom.specs.declared.push.frame.BillValue.TheVariants.{Nest};
 use crate::bom::Bom;
 use crate::push::children::{bill_child, find_in_bill, nest_reads};
 use crate::push::putting::{put_nested, put_relation};
-use crate::reading::part::{BillPart, finish_bill};
-use crate::reading::start::begin_bill;
+use crate::xml::reading::part::{BillPart, finish_bill};
+use crate::xml::reading::start::begin_bill;
 use cdx_events::OwnedName;
-use cdx_json::Depth;
 use cdx_leaf::{End, Rule, Start};
 use cdx_machine::Found;
 use cdx_models::{SpecVersion, XmlReadError};
 use cdx_nest::{NestFrame, NestKind, NestValue};
 use cdx_nest_machine::{Nested, Reads};
 use cdx_push::{Leaf, LeafKind, LeafValue};
+use cdx_schema::Depth;
 use std::alloc::{AllocError, Global};
 
 /// What an element is read as.

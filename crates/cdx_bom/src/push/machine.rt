@@ -3,11 +3,11 @@
 use crate::bom::Bom;
 use crate::push::frame::{BillFrame, BillKind, bill_of};
 use cdx_events::XmlEvent;
-use cdx_json::Depth;
 use cdx_leaf::Start;
 use cdx_models::XmlReadError;
 use cdx_nest_machine::{Keeps, StackMachine};
 use cdx_push_reader::RootMachine;
+use cdx_schema::Depth;
 
 /// Reads a bill, whatever its root's name and namespace are. The frames of the open elements wait in a stack, so depth
 /// takes memory and no recursion.

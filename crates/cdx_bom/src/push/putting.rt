@@ -11,7 +11,7 @@ ghost use Rattle.cdx_bom.specs.Reading.{bill_slots};
 ghost use Rattle.cdx_bom.specs.Frames.{bill_reads};
 ghost use Rattle.cdx_bom.specs.declared.push.frame.BillKind.TheVariants.{Nest};
 
-use crate::reading::part::BillPart;
+use crate::xml::reading::part::BillPart;
 use cdx_nest::NestValue;
 use cdx_push::LeafValue;
 

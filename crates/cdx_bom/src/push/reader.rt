@@ -32,7 +32,7 @@ impl fmt::Debug for PushReader {
 }
 
 impl PushReader {
-    /// A reader of bills of version `v` that was fed nothing yet. It takes no memory.
+    /// A reader of bills of this version that was fed nothing yet. It takes no memory.
     pub fn new(alloc: Global, version: SpecVersion) -> PushReader
         ensures heard { heard ⟦<BillMachine as RootMachine>⟧.holds bom_tree result.fed [] }
         ensures version { reader_version result.fed ≡ version }

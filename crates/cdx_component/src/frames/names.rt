@@ -12,7 +12,8 @@ use cdx_events::OwnedName;
 use cdx_machine::Found;
 use cdx_models::SpecVersion;
 
-/// The child of a component that has the name, where `v` knows it. The last of several counts, so none is a second one.
+/// The child of a component that has the name, where the version knows it. The last of several counts, so none is a second
+/// one.
 #[tactic(auto, unfolding(cdx_machine::proofs::OnRows::on_rows), using(cdx_machine::proofs::OnRows::by_rows))]
 pub(crate) fn find_in_component(version: SpecVersion, name: &OwnedName) -> Found
     ensures { (ts : Trees)
@@ -75,12 +76,7 @@ fn find_contents(version: SpecVersion, name: &OwnedName) -> Found
         "properties" => Found::At(17),
         "components" => Found::At(18),
         "evidence" => Found::At(19),
-        "signature" => {
-            if !SpecVersion::V1_4.is_known_to(version) {
-                return Found::Unknown;
-            }
-            Found::At(20)
-        }
+        "signature" => Found::since(SpecVersion::V1_4, version, 20),
         _ => Found::Unknown,
     }
 }

@@ -14,13 +14,13 @@ ghost use Rattle.cdx_component.specs.ReadingParts.{naming_part, component_part, 
 ghost use Rattle.cdx_component.specs.Frames.{value_kind, value_tree, component_reads, pedigree_reads, reads_of};
 ghost use Rattle.cdx_component.specs.declared.component.parts.Origin.{Origin as OriginRows};
 ghost use Rattle.cdx_component.specs.declared.component.parts.Marks.{Marks as MarksRows};
-ghost use Rattle.cdx_component.specs.declared.reading.parts.NamingPart.{NamingPart as NamingRows};
+ghost use Rattle.cdx_component.specs.declared.xml.reading.parts.NamingPart.{NamingPart as NamingRows};
 ghost use Rattle.cdx_component.specs.declared.frames.ComponentKind.TheVariants.{Components as ListKind};
 
 use crate::component::Components;
 use crate::component::parts::{Contents, Marks, Origin};
 use crate::frames::ComponentValue;
-use crate::reading::parts::{ComponentPart, NamingPart, PedigreePart};
+use crate::xml::reading::parts::{ComponentPart, NamingPart, PedigreePart};
 use cdx_component_parts::Cpe;
 use cdx_push::LeafValue;
 use std::alloc::AllocError;

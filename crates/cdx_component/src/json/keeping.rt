@@ -8,7 +8,7 @@ ghost use Rattle.cdx_json.specs.KeptRows.{rows_held};
 ghost use Rattle.cdx_component.specs.declared.component.Component.{out-Component};
 ghost use Rattle.cdx_component.specs.Trees.{component_tree, components_tree, pedigree_tree, origin, naming, marks, contents};
 ghost use Rattle.cdx_component.specs.PartTrees.{origin_trees, naming_trees, marks_trees, contents_trees};
-ghost use Rattle.cdx_json.specs.Groups.{group};
+ghost use Rattle.cdx_schema.specs.Groups.{group};
 
 use crate::component::parts::{Contents, Marks, Naming, Origin, assemble};
 use crate::component::{Component, Components, Pedigree};

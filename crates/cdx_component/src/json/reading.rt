@@ -5,7 +5,7 @@ ghost use Rattle.cdx_models.specs.Trees.{component, pedigree, present};
 ghost use Rattle.cdx_schema.specs.Kinds.{components, a_list, a_record, optional};
 ghost use Rattle.cdx_schema.specs.JsonReading.{jread, seen};
 ghost use Rattle.cdx_json.specs.ByRows.{member_of, list_read, by_rows};
-ghost use Rattle.cdx_json.specs.Depths.{depth_of};
+ghost use Rattle.cdx_schema.specs.Depths.{depth_of};
 ghost use Rattle.cdx_json.specs.Gives.{Gives};
 ghost use Rattle.cdx_component.specs.Trees.{component_tree, components_tree, pedigree_tree};
 ghost use Rattle.cdx_component.specs.PartTrees.{origin_trees, naming_trees, marks_trees, contents_trees};
@@ -15,10 +15,11 @@ ghost use Rattle.cdx_component.specs.Groups.{component_by_groups};
 use crate::component::parts::{Contents, Marks, Naming, Origin, assemble};
 use crate::component::{Component, Components, Pedigree};
 use cdx_json::{
-    Context, Depth, Members, at_item, at_member, first_row, here, member_not_null, optional_row,
+    Context, Members, at_item, at_member, first_row, here, member_not_null, optional_row,
     optional_row_since, required_row,
 };
 use cdx_models::{JsonKind, JsonReadError, SpecVersion};
+use cdx_schema::Depth;
 use serde_json::Value;
 
 /// The component that a value denotes, or its first fault.

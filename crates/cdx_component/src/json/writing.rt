@@ -11,7 +11,7 @@ ghost use Rattle.cdx_json.specs.KeptRows.{put_kept, rows_put};
 ghost use Rattle.cdx_component.specs.declared.component.Component.{out-Component};
 ghost use Rattle.cdx_component.specs.declared.component.Pedigree.{out-Pedigree};
 ghost use Rattle.cdx_component.specs.Trees.{component_tree, components_tree, pedigree_tree, origin, naming, marks, contents, pedigree_fields};
-ghost use Rattle.cdx_json.specs.Groups.{group};
+ghost use Rattle.cdx_schema.specs.Groups.{group};
 
 use crate::component::{Component, Components, Pedigree};
 use cdx_json::{Members, put_required, put_row, put_row_since};

@@ -5,7 +5,7 @@ use crate::error::Reading;
 use crate::record::XmlRecord;
 use crate::rule::Rule;
 use crate::start::{End, Start};
-use crate::take::take_one;
+use crate::take::{take_one, take_one_since};
 use crate::taken::Taken;
 use cdx_events::EventReader;
 use cdx_models::{SpecVersion, Tool};
@@ -31,12 +31,12 @@ impl Children for Tool {
             "name" => take_one(reader, opened, &mut self.name),
             "version" => take_one(reader, opened, &mut self.version),
             "hashes" => take_one(reader, opened, &mut self.hashes),
-            "externalReferences" => {
-                if !SpecVersion::V1_4.is_known_to(opened.version) {
-                    return Ok(Taken::Unknown);
-                }
-                take_one(reader, opened, &mut self.external_references)
-            }
+            "externalReferences" => take_one_since(
+                reader,
+                opened,
+                SpecVersion::V1_4,
+                &mut self.external_references,
+            ),
             _ => Ok(Taken::Unknown),
         }
     }

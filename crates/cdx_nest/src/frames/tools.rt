@@ -47,7 +47,7 @@ pub(crate) fn begin_tools(alloc: Global) -> ToolsPart
     }
 }
 
-/// The child of tools that `v` knows by the name: services and components are known from 1.5 on.
+/// The child of tools that the version knows by the name: services and components are known from 1.5 on.
 #[tactic(auto, unfolding(cdx_machine::proofs::OnRows::on_rows), using(cdx_machine::proofs::OnRows::by_rows))]
 pub(crate) fn find_in_tools(version: SpecVersion, name: &OwnedName) -> Found
     ensures { (ts : Trees)
@@ -55,18 +55,8 @@ pub(crate) fn find_in_tools(version: SpecVersion, name: &OwnedName) -> Found
 {
     match name.local_name.as_str() {
         "tool" => Found::At(0),
-        "services" => {
-            if !SpecVersion::V1_5.is_known_to(version) {
-                return Found::Unknown;
-            }
-            Found::At(1)
-        }
-        "components" => {
-            if !SpecVersion::V1_5.is_known_to(version) {
-                return Found::Unknown;
-            }
-            Found::At(2)
-        }
+        "services" => Found::since(SpecVersion::V1_5, version, 1),
+        "components" => Found::since(SpecVersion::V1_5, version, 2),
         _ => Found::Unknown,
     }
 }

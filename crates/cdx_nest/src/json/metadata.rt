@@ -4,12 +4,13 @@ ghost use Rattle.std.specs.Prelude.{◌≡◌, IfOk, OnOk};
 ghost use Rattle.serde_json.specs.View.{members_view};
 ghost use Rattle.cdx_models.specs.Trees.{metadata};
 ghost use Rattle.cdx_schema.specs.JsonReading.{seen};
-ghost use Rattle.cdx_json.specs.Depths.{depth_of};
+ghost use Rattle.cdx_schema.specs.Depths.{depth_of};
 ghost use Rattle.cdx_json.specs.Gives.{Gives};
 ghost use Rattle.cdx_json.specs.KeptRows.{rows_held, rows_put};
 ghost use Rattle.cdx_nest.specs.Trees.{metadata_tree, makers, terms};
 ghost use Rattle.cdx_nest.specs.PartTrees.{makers_trees, terms_trees};
-ghost use Rattle.cdx_json.specs.Groups.{group, group_read};
+ghost use Rattle.cdx_schema.specs.Groups.{group};
+ghost use Rattle.cdx_json.specs.Groups.{group_read};
 ghost use Rattle.cdx_nest.specs.Groups.{metadata_by_groups};
 
 use crate::metadata::Metadata;

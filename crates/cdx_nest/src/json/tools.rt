@@ -10,7 +10,7 @@ ghost use Rattle.cdx_schema.specs.Keeping.{kept, keep};
 ghost use Rattle.cdx_schema.specs.JsonReading.{seen, tools_read};
 ghost use Rattle.cdx_schema.specs.JsonSpelling.{jspell};
 ghost use Rattle.cdx_json.specs.ByRows.{by_rows};
-ghost use Rattle.cdx_json.specs.Depths.{depth_of};
+ghost use Rattle.cdx_schema.specs.Depths.{depth_of};
 ghost use Rattle.cdx_json.specs.Gives.{Gives};
 ghost use Rattle.cdx_models.specs.Trees.{fields_of};
 ghost use Rattle.cdx_json.specs.KeptRows.{rows_put};

@@ -4,7 +4,7 @@ ghost use Rattle.std.specs.Prelude.{◌≡◌};
 ghost use Rattle.cdx_models.specs.Trees.{service, Trees};
 ghost use Rattle.cdx_models.specs.declared.bom.SpecVersion.{SpecVersion};
 ghost use Rattle.cdx_schema.specs.XmlReading.{children_from, record_plan};
-ghost use Rattle.cdx_json.specs.Groups.{group};
+ghost use Rattle.cdx_schema.specs.Groups.{group};
 ghost use Rattle.cdx_machine.specs.Several.{found_from};
 
 use cdx_events::OwnedName;
@@ -50,23 +50,14 @@ fn find_contents(version: SpecVersion, name: &OwnedName) -> Found
     match name.local_name.as_str() {
         "properties" => Found::At(11),
         "services" => Found::At(12),
-        "signature" => {
-            if !SpecVersion::V1_4.is_known_to(version) {
-                return Found::Unknown;
-            }
-            Found::At(13)
-        }
-        "trustZone" => {
-            if !SpecVersion::V1_5.is_known_to(version) {
-                return Found::Unknown;
-            }
-            Found::At(14)
-        }
+        "signature" => Found::since(SpecVersion::V1_4, version, 13),
+        "trustZone" => Found::since(SpecVersion::V1_5, version, 14),
         _ => Found::Unknown,
     }
 }
 
-/// The child of a service that has the name, where `v` knows it. The last of several counts, so none is a second one.
+/// The child of a service that has the name, where the version knows it. The last of several counts, so none is a second
+/// one.
 pub(crate) fn find_in_service(version: SpecVersion, name: &OwnedName) -> Found
     ensures { (ts : Trees) → result ≡
         found_from 0 (record_plan service).children ts version name.now.local_name }

@@ -13,8 +13,8 @@ ghost use Rattle.cdx_service.specs.Trees.{service_tree, services_listed};
 ghost use Rattle.cdx_service.specs.ReadingParts.{service_part};
 
 use crate::frames::ServiceValue;
-use crate::frames::part::ServicePart;
 use crate::service::Services;
+use crate::xml::reading::parts::ServicePart;
 use cdx_push::LeafValue;
 use std::alloc::AllocError;
 

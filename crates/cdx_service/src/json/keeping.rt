@@ -8,7 +8,7 @@ ghost use Rattle.cdx_json.specs.KeptRows.{rows_held};
 ghost use Rattle.cdx_service.specs.declared.service.Service.{out-Service};
 ghost use Rattle.cdx_service.specs.Trees.{service_tree, services_tree, service_naming, service_access, service_contents};
 ghost use Rattle.cdx_service.specs.PartTrees.{service_naming_trees, service_access_trees, service_contents_trees};
-ghost use Rattle.cdx_json.specs.Groups.{group};
+ghost use Rattle.cdx_schema.specs.Groups.{group};
 
 use crate::service::parts::{ServiceAccess, ServiceContents, ServiceNaming, assemble};
 use crate::service::{Service, Services};

@@ -5,7 +5,7 @@ ghost use Rattle.cdx_models.specs.Trees.{service, present};
 ghost use Rattle.cdx_schema.specs.Kinds.{services, a_list, a_record, optional};
 ghost use Rattle.cdx_schema.specs.JsonReading.{jread, seen};
 ghost use Rattle.cdx_json.specs.ByRows.{member_of, list_read};
-ghost use Rattle.cdx_json.specs.Depths.{depth_of};
+ghost use Rattle.cdx_schema.specs.Depths.{depth_of};
 ghost use Rattle.cdx_json.specs.Gives.{Gives};
 ghost use Rattle.cdx_service.specs.Trees.{service_tree, services_tree};
 ghost use Rattle.cdx_service.specs.PartTrees.{service_naming_trees, service_access_trees, service_contents_trees};
@@ -15,10 +15,11 @@ ghost use Rattle.cdx_service.specs.Groups.{service_by_groups};
 use crate::service::parts::{ServiceAccess, ServiceContents, ServiceNaming, assemble};
 use crate::service::{Service, Services};
 use cdx_json::{
-    Context, Depth, Members, at_item, at_member, here, member_not_null, optional_list_row,
-    optional_row, optional_row_since, required_row,
+    Context, Members, at_item, at_member, here, member_not_null, optional_list_row, optional_row,
+    optional_row_since, required_row,
 };
 use cdx_models::{JsonKind, JsonReadError, SpecVersion};
+use cdx_schema::Depth;
 use serde_json::Value;
 
 /// The service that a value denotes, or its first fault.

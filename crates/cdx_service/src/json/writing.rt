@@ -9,7 +9,7 @@ ghost use Rattle.cdx_schema.specs.JsonSpelling.{jspell};
 ghost use Rattle.cdx_json.specs.KeptRows.{put_kept, rows_put};
 ghost use Rattle.cdx_service.specs.declared.service.Service.{out-Service};
 ghost use Rattle.cdx_service.specs.Trees.{service_tree, services_tree, service_naming, service_access, service_contents};
-ghost use Rattle.cdx_json.specs.Groups.{group};
+ghost use Rattle.cdx_schema.specs.Groups.{group};
 
 use crate::service::{Service, Services};
 use cdx_json::{Members, put_optional_list, put_required, put_row, put_row_since};

@@ -9,7 +9,7 @@ ghost use Rattle.cdx_request.specs.Replies.{documents_value as documents_in};
 ghost use Rattle.cdx_tool.specs.Shows.{doc_shown};
 
 use crate::events::events_to_json;
-use crate::shown::{Shown, items_to_json};
+use crate::json_item::{JsonItem, items_to_json};
 use cdx_bom::Doc;
 use cdx_events::List as Items;
 use serde_json::{Map, Value, put};
@@ -24,7 +24,7 @@ pub fn only(alloc: Global, name: &str, value: Value) -> Result<Value, AllocError
     Ok(Value::Object(map))
 }
 
-impl Shown for Doc {
+impl JsonItem for Doc {
     ghost shown = { doc_shown };
 
     fn to_json(&self, alloc: Global) -> Result<Value, AllocError> {

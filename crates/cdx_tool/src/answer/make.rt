@@ -15,7 +15,7 @@ use super::refused::{imbalance_value, refusal_value};
 use super::text::documents_line;
 use super::{Answer, LIMIT};
 use crate::request::{Request, RequestError, take_request};
-use crate::status::{REFUSED, SERVED, TOO_LONG, UNUSABLE};
+use crate::status::Status;
 use cdx_bom::{Doc, RoadError, into_road};
 use cdx_events::{List as Items, Text};
 use serde_json::{Category, Value, json};
@@ -77,7 +77,7 @@ fn answer_refused(alloc: Global, error: RoadError) -> Result<Answer, AllocError>
         RoadError::Memory(error) => Err(error),
         error => {
             let value = refusal_value(alloc, &error)?;
-            answer_value(alloc, REFUSED, &value)
+            answer_value(alloc, Status::Refused as u8, &value)
         }
     }
 }
@@ -89,7 +89,7 @@ fn answer_documents(alloc: Global, docs: &Items<Doc>) -> Result<Answer, AllocErr
 {
     let text = documents_line(alloc, docs)?;
     Ok(Answer {
-        status: SERVED,
+        status: Status::Served as u8,
         text,
     })
 }
@@ -112,7 +112,7 @@ fn answer_unbalanced(alloc: Global, place: usize) -> Result<Answer, AllocError>
     ensures { IfOk result (λ a. reply_of a ≡ reply 1 (unbalanced_at place)) }
 {
     let value = imbalance_value(alloc, place)?;
-    answer_value(alloc, REFUSED, &value)
+    answer_value(alloc, Status::Refused as u8, &value)
 }
 
 fn answer_asked(alloc: Global, value: Value) -> Result<Answer, AllocError>
@@ -120,7 +120,7 @@ fn answer_asked(alloc: Global, value: Value) -> Result<Answer, AllocError>
 {
     match take_request(alloc, value) {
         Ok(request) => answer_request(alloc, request),
-        Err(RequestError::Shape) => refuse(alloc, UNUSABLE, "shape"),
+        Err(RequestError::Shape) => refuse(alloc, Status::Unusable as u8, "shape"),
         Err(RequestError::Unbalanced { place }) => answer_unbalanced(alloc, place),
         Err(RequestError::Memory(error)) => Err(error),
     }
@@ -131,7 +131,7 @@ pub(crate) fn answer_within(alloc: Global, bytes: &[u8]) -> Result<Answer, Alloc
     ensures { IfOk result (λ a. reply_of a ≡ reply_to_request (request_in bytes.now)) }
 {
     match read_json(alloc, bytes)? {
-        None => refuse(alloc, UNUSABLE, "not JSON"),
+        None => refuse(alloc, Status::Unusable as u8, "not JSON"),
         Some(value) => answer_asked(alloc, value),
     }
 }
@@ -149,7 +149,7 @@ pub fn answer_bytes(alloc: Global, bytes: &[u8]) -> Result<Answer, AllocError>
     ensures { IfOk result (λ a. reply_of a ≡ reply_to bytes.now) }
 {
     if bytes.len() > LIMIT {
-        return refuse(alloc, TOO_LONG, "too long");
+        return refuse(alloc, Status::TooLong as u8, "too long");
     }
     answer_within(alloc, bytes)
 }

@@ -4,7 +4,7 @@ ghost use Rattle.std.specs.Prelude.{◌≡◌, [], ◌∷◌, ◌++◌, map as e
 ghost use Rattle.serde_json.specs.View.{view, members_view};
 ghost use Rattle.cdx_request.specs.EventValues.{with_optional_text, with_name, attribute_value, with_attributes, one_text, event_value, events_value};
 
-use crate::shown::{Shown, items_to_json};
+use crate::json_item::{JsonItem, items_to_json};
 use cdx_events::{
     EventReader, Events, List as Items, OwnedAttribute, OwnedName, Text, XmlEvent as Event,
 };
@@ -42,7 +42,7 @@ fn put_name(
     put_text(alloc, map, "prefix", &name.prefix)
 }
 
-impl Shown for OwnedAttribute {
+impl JsonItem for OwnedAttribute {
     ghost shown = { attribute_value };
 
     fn to_json(&self, alloc: Global) -> Result<Value, AllocError> {
@@ -81,7 +81,7 @@ fn text_to_json(alloc: Global, name: &str, text: &str) -> Result<Value, AllocErr
     Ok(Value::Object(map))
 }
 
-impl Shown for Event {
+impl JsonItem for Event {
     ghost shown = { event_value };
 
     fn to_json(&self, alloc: Global) -> Result<Value, AllocError> {

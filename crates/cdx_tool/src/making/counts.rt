@@ -17,7 +17,7 @@ ghost use Rattle.cdx_tool.specs.Shows.{reply_of};
 
 use super::made;
 use crate::answer::{Answer, answer_value};
-use crate::status::SERVED;
+use crate::status::Status;
 use cdx_bom::{Doc, Form, Hop, RoadError, into_road};
 use cdx_json::ToJson;
 use cdx_models::SpecVersion;
@@ -59,7 +59,7 @@ fn answer_counts(alloc: Global, docs: &[Doc], count: u32) -> Result<Answer, Allo
 {
     let bytes = count_bytes(alloc, docs)?;
     let value = counts_value(alloc, bytes, count, count_events(docs))?;
-    answer_value(alloc, SERVED, &value)
+    answer_value(alloc, Status::Served as u8, &value)
 }
 
 // A made bill in JSON 1.5.

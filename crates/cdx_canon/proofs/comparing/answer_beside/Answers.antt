@@ -1,6 +1,6 @@
 use Rattle.std.proofs.Common.{subst}
 use Rattle.serde_json.specs.View.{view}
-use Rattle.cdx_ask.specs.Asks.{asked_of}
+use Rattle.cdx_tool.specs.Asks.{asked_of}
 use Rattle.cdx_canon.specs.Sides.{ReadsSide}
 use Rattle.cdx_canon.proofs.Replied.{answered_so, sides_shaped, shapeless_right}
 use Rattle.cdx_canon.proofs.comparing.answer_beside.Goals as goal

@@ -1,6 +1,6 @@
 use Rattle.std.proofs.Common.{subst}
 use Rattle.serde_json.specs.View.{view}
-use Rattle.cdx_ask.specs.Asks.{asked_of}
+use Rattle.cdx_tool.specs.Asks.{asked_of}
 use Rattle.cdx_canon.specs.Sides.{ReadsSide}
 use Rattle.cdx_canon.proofs.Replied.{answered_so, shapeless_left}
 use Rattle.cdx_canon.proofs.comparing.answer_both.Goals as goal

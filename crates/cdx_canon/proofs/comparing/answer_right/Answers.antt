@@ -1,6 +1,6 @@
 use Rattle.std.proofs.Common.{sym, ap}
 use Rattle.cdx_bom.specs.Trees.{bom_tree}
-use Rattle.cdx_ask.specs.Asks.{bill_of}
+use Rattle.cdx_tool.specs.Asks.{bill_of}
 use Rattle.cdx_canon.specs.Answers.{reply_beside}
 use Rattle.cdx_canon.proofs.Replied.{answered_so, told}
 use Rattle.cdx_canon.proofs.comparing.answer_right.Goals as goal

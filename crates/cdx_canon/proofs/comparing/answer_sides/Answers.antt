@@ -1,5 +1,5 @@
 use Rattle.std.proofs.Common.{codes, sym, ap}
-use Rattle.cdx_ask.specs.Asks.{bill_of}
+use Rattle.cdx_tool.specs.Asks.{bill_of}
 use Rattle.cdx_canon.specs.Answers.{reply_on, reply_beside}
 use Rattle.cdx_canon.proofs.Replied.{answered_so}
 use Rattle.cdx_canon.proofs.comparing.answer_sides.Goals as goal

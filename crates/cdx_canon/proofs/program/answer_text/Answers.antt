@@ -1,6 +1,6 @@
 use Rattle.std.proofs.Common.{ap, sym}
 use Rattle.serde_json.specs.View.{view}
-use Rattle.cdx_ask.specs.Asks.{bill_in, reply_to_bill}
+use Rattle.cdx_tool.specs.Asks.{bill_in, reply_to_bill}
 use Rattle.cdx_canon.specs.Answers.{canonical_answer}
 use Rattle.cdx_canon.proofs.Replied.{answered_so}
 use Rattle.cdx_canon.proofs.program.answer_text.Goals as goal

@@ -1,12 +1,12 @@
 use Rattle.std.proofs.Common.{◌≡◌, ◌≤◌, ◌⊎◌, vec_len}
-use Rattle.cdx_gate.specs.Gate.{kept, IsFlushed}
+use Rattle.cdx_gate.specs.Gate.{most_held, IsFlushed}
 use Rattle.cdx_gate.proofs.Owed.{TakenSoFar}
 use Rattle.cdx_gate.proofs.serving.serve_lines.Given as goal
 
 -- the lines that were ended are answered, and nothing failed
 abbrev pub invariant-loop-count : goal.invariant-loop-count
 invariant-loop-count g l = record {
-  few : vec_len l.line ≤ kept;
+  few : vec_len l.line ≤ most_held;
   within : l.left ≤ l.limit;
   so_far : TakenSoFar l.limit l.left (g.S.Source.left l.fn.source) (g.S.Source.left l.source) (g.K.Sink.written l.fn.sink) (g.K.Sink.written l.sink) l.line.items;
   flushed : (l.sink ≡ l.fn.sink) ⊎ IsFlushed (g.K.Sink.written l.sink) (g.K.Sink.flushed l.sink);

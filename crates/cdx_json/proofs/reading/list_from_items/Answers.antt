@@ -4,7 +4,7 @@ use Rattle.cdx_models.specs.Trees.{items}
 use Rattle.cdx_schema.specs.Results.{◌>>=◌}
 use Rattle.cdx_schema.specs.JsonReading.{items_read}
 use Rattle.cdx_json.proofs.Loops.{goes_on, stops, ends}
-use Rattle.cdx_json.specs.Depths.{depth_of}
+use Rattle.cdx_schema.specs.Depths.{depth_of}
 use Rattle.cdx_json.proofs.reading.list_from_items.Goals as goal
 
 pub returns-in-Err : goal.returns-in-Err

@@ -3,7 +3,7 @@ use Rattle.serde_json.specs.View.{items_view}
 use Rattle.cdx_models.specs.Trees.{each}
 use Rattle.cdx_schema.specs.JsonReading.{items_read}
 use Rattle.cdx_json.proofs.Loops.{with_front}
-use Rattle.cdx_json.specs.Depths.{depth_of}
+use Rattle.cdx_schema.specs.Depths.{depth_of}
 use Rattle.cdx_json.proofs.reading.list_from_items.Given as goal
 
 abbrev pub invariant-loop-i : goal.invariant-loop-i

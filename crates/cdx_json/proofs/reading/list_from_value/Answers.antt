@@ -1,6 +1,6 @@
 use Rattle.serde_json.specs.View.{view, items_view}
 use Rattle.cdx_models.specs.Trees.{list_tree}
-use Rattle.cdx_json.specs.Depths.{depth_of}
+use Rattle.cdx_schema.specs.Depths.{depth_of}
 use Rattle.cdx_json.proofs.Values.{list_err, list_gives}
 use Rattle.cdx_json.proofs.reading.list_from_value.Goals as goal
 

@@ -1,7 +1,7 @@
 use Rattle.serde_json.specs.View.{view, members_view}
 use Rattle.cdx_models.specs.Trees.{list_tree}
 use Rattle.cdx_schema.specs.Kinds.{else_empty, a_list}
-use Rattle.cdx_json.specs.Depths.{depth_of}
+use Rattle.cdx_schema.specs.Depths.{depth_of}
 use Rattle.cdx_json.proofs.Rows.{left_out_list, no_null_list, live_ok, live_err}
 use Rattle.cdx_json.proofs.reading.list_row.Goals as goal
 

@@ -1,7 +1,7 @@
 use Rattle.serde_json.specs.View.{view, members_view}
 use Rattle.cdx_models.specs.Trees.{list_tree}
 use Rattle.cdx_schema.specs.Kinds.{optional, a_list}
-use Rattle.cdx_json.specs.Depths.{depth_of}
+use Rattle.cdx_schema.specs.Depths.{depth_of}
 use Rattle.cdx_json.proofs.Rows.{may_none, live_ok, live_err}
 use Rattle.cdx_json.proofs.reading.optional_list_row.Goals as goal
 

@@ -2,7 +2,7 @@ use Rattle.serde_json.specs.View.{members_view}
 use Rattle.cdx_models.specs.Trees.{present, list_tree}
 use Rattle.cdx_schema.specs.Kinds.{a_list, optional}
 use Rattle.cdx_schema.specs.JsonReading.{seen}
-use Rattle.cdx_json.specs.Depths.{depth_of}
+use Rattle.cdx_schema.specs.Depths.{depth_of}
 use Rattle.cdx_json.specs.ByRows.{member_of}
 use Rattle.cdx_json.proofs.Rows.{late_gives, late_absent}
 use Rattle.cdx_json.proofs.reading.optional_list_row_since.Goals as goal

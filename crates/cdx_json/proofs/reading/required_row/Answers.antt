@@ -1,7 +1,7 @@
 use Rattle.serde_json.specs.View.{view, members_view}
 use Rattle.cdx_schema.specs.Kinds.{required}
 use Rattle.cdx_json.proofs.Rows.{must_none, must_null, live_ok, live_err}
-use Rattle.cdx_json.specs.Depths.{depth_of}
+use Rattle.cdx_schema.specs.Depths.{depth_of}
 use Rattle.cdx_json.proofs.reading.required_row.Goals as goal
 
 pub returns-in-None-member : goal.returns-in-None-member

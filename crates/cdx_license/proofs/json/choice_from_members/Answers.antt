@@ -1,7 +1,7 @@
 use Rattle.std.proofs.Common.{◌∙◌}
 use Rattle.std.proofs.lemmas.Result.{err_from_is_err_and}
 use Rattle.serde_json.specs.View.{members_view}
-use Rattle.cdx_json.specs.Depths.{depth_of}
+use Rattle.cdx_schema.specs.Depths.{depth_of}
 use Rattle.cdx_license.proofs.Licensed.{reads_license, reads_expression}
 use Rattle.cdx_license.proofs.json.choice_from_members.Goals as goal
 

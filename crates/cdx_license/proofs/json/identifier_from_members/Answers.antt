@@ -4,7 +4,7 @@ use Rattle.serde_json.specs.View.{members_view}
 use Rattle.cdx_models.specs.Trees.{spdx_id, license_name}
 use Rattle.cdx_schema.specs.Results.{◌>>=◌}
 use Rattle.cdx_schema.specs.JsonReading.{seen}
-use Rattle.cdx_json.specs.Depths.{depth_of}
+use Rattle.cdx_schema.specs.Depths.{depth_of}
 use Rattle.cdx_json.proofs.Rows.{fails_then}
 use Rattle.cdx_license.proofs.Licensed.{reads_id, reads_name, lacks_id, as_identifier}
 use Rattle.cdx_license.proofs.json.identifier_from_members.Goals as goal

@@ -3,7 +3,7 @@ use Rattle.cdx_bom.specs.Docs.{hops_of}
 use Rattle.cdx_bom.specs.Trees.{bom_tree}
 use Rattle.cdx_request.specs.Replies.{Reply}
 use Rattle.cdx_tool.specs.Shows.{reply_of}
-use Rattle.cdx_ask.specs.Asks.{billed}
+use Rattle.cdx_tool.specs.Asks.{billed}
 use Rattle.cdx_losses.specs.Report.{carried, answer_to}
 use Rattle.cdx_losses.proofs.Reported.{lacks, same_bill, bill_reply}
 use Rattle.cdx_losses.proofs.answering.answer_request.Goals as goal

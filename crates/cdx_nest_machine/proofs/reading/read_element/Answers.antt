@@ -1,7 +1,7 @@
 use Rattle.std.proofs.Common.{◌+◌, None, sym, ◌∙◌, subst}
 use Rattle.std.proofs.lemmas.Result.{err_from_is_err_and}
 use Rattle.cdx_events.specs.declared.name.Namespace.{Namespace}
-use Rattle.cdx_json.specs.Depths.{depth_of}
+use Rattle.cdx_schema.specs.Depths.{depth_of}
 use Rattle.cdx_leaf.specs.Reading.{behind_end}
 use Rattle.cdx_events.specs.Nodes.{element, no_nodes}
 use Rattle.cdx_schema.specs.XmlReading.{xread}

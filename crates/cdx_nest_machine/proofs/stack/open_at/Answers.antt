@@ -1,6 +1,6 @@
 use Rattle.std.proofs.Common.{◌+◌}
 use Rattle.std.proofs.lemmas.Result.{err_from_is_err_and}
-use Rattle.cdx_json.specs.Depths.{depth_of}
+use Rattle.cdx_schema.specs.Depths.{depth_of}
 use Rattle.cdx_nest_machine.proofs.Stacks.{begin_refuses}
 use Rattle.cdx_nest_machine.proofs.stack.open_at.Goals as goal
 

@@ -1,6 +1,6 @@
 use Rattle.std.proofs.Common.{[], ◌∷◌, ◌++◌, None, Ok, sym, ◌∙◌, subst}
 use Rattle.cdx_events.specs.declared.name.Namespace.{Namespace}
-use Rattle.cdx_json.specs.Depths.{depth_of}
+use Rattle.cdx_schema.specs.Depths.{depth_of}
 use Rattle.cdx_leaf.proofs.Whole.{start_is}
 use Rattle.cdx_machine.specs.Heard.{Answers, IsListening}
 use Rattle.cdx_nest.specs.Frames.{nest_kind, value_tree}

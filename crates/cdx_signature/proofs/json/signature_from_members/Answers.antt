@@ -6,7 +6,7 @@ use Rattle.cdx_schema.specs.Kinds.{signer_list, chain_list}
 use Rattle.cdx_schema.specs.Table.{list}
 use Rattle.cdx_schema.specs.Results.{◌>>=◌}
 use Rattle.cdx_schema.specs.JsonReading.{seen}
-use Rattle.cdx_json.specs.Depths.{depth_of}
+use Rattle.cdx_schema.specs.Depths.{depth_of}
 use Rattle.cdx_json.proofs.Rows.{fails_then}
 use Rattle.cdx_signature.proofs.Signed.{reads_signers, reads_chain, reads_single, as_signers}
 use Rattle.cdx_signature.proofs.json.signature_from_members.Goals as goal

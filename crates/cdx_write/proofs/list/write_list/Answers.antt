@@ -4,7 +4,7 @@ use Rattle.cdx_models.specs.Trees.{list_tree}
 use Rattle.cdx_schema.specs.Kinds.{a_list}
 use Rattle.cdx_write.specs.Spelling.{written, inner}
 use Rattle.cdx_write.specs.Writing.{start_tag, end_tag}
-use Rattle.cdx_write.proofs.Appended.{first_fails, then_all}
+use Rattle.cdx_write.proofs.Appended.{first_fails, from, then_fails, ◌▸◌}
 use Rattle.cdx_write.proofs.RowWords.{appends_same}
 use Rattle.cdx_write.proofs.Lists.{list_is}
 use Rattle.cdx_write.proofs.list.write_list.Goals as goal
@@ -26,8 +26,7 @@ returns-in_err-write_items g c = λ l is.
     let new = c.write_items.new.writer in
     let content = inner t c.args.target.version (a_list l) in
     rw (p.1, p.2) (appends_same c.args.writer.now new (start_tag tag ∷ content ++ end_tag tag ∷ []) (written t c.args.target.version tag (a_list l)) (Err _) (list_is g.T.HasTree.tree tag l c.args.target.version c.args.held.now)
-    (then_all c.args.writer.now c.write_start_tag.new.writer new (start_tag tag ∷ []) (content ++ end_tag tag ∷ []) (Err _) c.in_ok-write_start_tag.ensures
-    (first_fails c.write_start_tag.new.writer new content (end_tag tag ∷ []) _ (c.in_err-write_items.ensures l is))))
+    (then_fails (from c.args.writer.now ▸ (start_tag tag ∷ [], c.in_ok-write_start_tag.ensures)) new content (end_tag tag ∷ []) _ (c.in_err-write_items.ensures l is)))
 
 pub returns : goal.returns
 returns g c = λ l is.
@@ -36,5 +35,4 @@ returns g c = λ l is.
     let new = c.write_close_tag.new.writer in
     let content = inner t c.args.target.version (a_list l) in
     appends_same c.args.writer.now new (start_tag tag ∷ content ++ end_tag tag ∷ []) (written t c.args.target.version tag (a_list l)) c.write_close_tag.result (list_is g.T.HasTree.tree tag l c.args.target.version c.args.held.now)
-    (then_all c.args.writer.now c.write_start_tag.new.writer new (start_tag tag ∷ []) (content ++ end_tag tag ∷ []) c.write_close_tag.result c.in_ok-write_start_tag.ensures
-    (then_all c.write_start_tag.new.writer c.write_items.new.writer new content (end_tag tag ∷ []) c.write_close_tag.result (c.in_ok-write_items.ensures l is) c.write_close_tag.ensures))
+    ((from c.args.writer.now ▸ (start_tag tag ∷ [], c.in_ok-write_start_tag.ensures) ▸ (content, c.in_ok-write_items.ensures l is)).then_all new (end_tag tag ∷ []) c.write_close_tag.result c.write_close_tag.ensures)

@@ -6,7 +6,7 @@ use Rattle.cdx_schema.specs.Table.{rows}
 use Rattle.cdx_write.specs.Spelling.{written}
 use Rattle.cdx_write.specs.WrittenRows.{rows_written}
 use Rattle.cdx_write.specs.Writing.{opening, end_tag}
-use Rattle.cdx_write.proofs.Appended.{first_fails, then_all}
+use Rattle.cdx_write.proofs.Appended.{first_fails, from, then_fails, ◌▸◌}
 use Rattle.cdx_write.proofs.RowWords.{appends_same}
 use Rattle.cdx_write.proofs.RowsLaws.{record_made}
 use Rattle.cdx_write.proofs.record.write_record.Goals as goal
@@ -31,8 +31,7 @@ returns-in_err-write_rows g c =
     let content = rows_written (fields_of t) c.args.target.version (rows g.T.Record.name) in
     let same = record_made g.T.Record.name t c.args.target.version tag c.in_ok-attributes.attributes (g.met.T.Record.is_record c.args.held.now) g.T.Record.plain c.in_ok-attributes.ensures in
     rw (p.1, p.2) (appends_same c.args.writer.now c.write_rows.new.writer (start ∷ content ++ end_tag tag ∷ []) (written t c.args.target.version tag (a_record g.T.Record.name)) (Err _) same
-    (then_all c.args.writer.now c.write_opening.new.writer c.write_rows.new.writer (start ∷ []) (content ++ end_tag tag ∷ []) (Err _) c.in_ok-write_opening.ensures
-    (first_fails c.write_opening.new.writer c.write_rows.new.writer content (end_tag tag ∷ []) _ c.in_err-write_rows.ensures)))
+    (then_fails (from c.args.writer.now ▸ (start ∷ [], c.in_ok-write_opening.ensures)) c.write_rows.new.writer content (end_tag tag ∷ []) _ c.in_err-write_rows.ensures))
 
 pub returns : goal.returns
 returns g c =
@@ -43,5 +42,4 @@ returns g c =
     let content = rows_written (fields_of t) c.args.target.version (rows g.T.Record.name) in
     let same = record_made g.T.Record.name t c.args.target.version tag c.in_ok-attributes.attributes (g.met.T.Record.is_record c.args.held.now) g.T.Record.plain c.in_ok-attributes.ensures in
     appends_same c.args.writer.now new (start ∷ content ++ end_tag tag ∷ []) (written t c.args.target.version tag (a_record g.T.Record.name)) c.write_close_tag.result same
-    (then_all c.args.writer.now c.write_opening.new.writer new (start ∷ []) (content ++ end_tag tag ∷ []) c.write_close_tag.result c.in_ok-write_opening.ensures
-    (then_all c.write_opening.new.writer c.write_rows.new.writer new content (end_tag tag ∷ []) c.write_close_tag.result c.in_ok-write_rows.ensures c.write_close_tag.ensures))
+    ((from c.args.writer.now ▸ (start ∷ [], c.in_ok-write_opening.ensures) ▸ (content, c.in_ok-write_rows.ensures)).then_all new (end_tag tag ∷ []) c.write_close_tag.result c.write_close_tag.ensures)

@@ -4,7 +4,7 @@ use Rattle.std.proofs.lemmas.List.{append-nil}
 use Rattle.std.proofs.lemmas.Result.{err_from_is_err_and}
 use Rattle.cdx_write.specs.Writing.{simple_tag}
 use Rattle.cdx_write.specs.Writing.{start_tag, end_tag}
-use Rattle.cdx_write.proofs.Appended.{first_fails, then_all, item_fails, items_end}
+use Rattle.cdx_write.proofs.Appended.{first_fails, then_all, item_fails, items_end, from, ◌▸◌}
 use Rattle.cdx_write.proofs.RowWords.{appends_same}
 use Rattle.cdx_write.proofs.tags.write_list_string_tag.Goals as goal
 
@@ -33,5 +33,4 @@ returns c =
     let begun = c.args.writer.now ++ start_tag tag ∷ [] in
     let new = c.write_close_tag.new.writer in
     let all = items_end (simple_tag c.args.child_tag.now) begun c.loop-item.writer c.as_slice-item-items.result.now c.args.list.now c.loop-item.item-index c.as_slice-item-items.ensures c.loop-item-test.false c.loop-item.invariant in
-    then_all c.args.writer.now begun new (start_tag tag ∷ []) (flat_map (simple_tag c.args.child_tag.now) c.args.list.now ++ end_tag tag ∷ []) c.write_close_tag.result refl
-    (then_all begun c.loop-item.writer new (flat_map (simple_tag c.args.child_tag.now) c.args.list.now) (end_tag tag ∷ []) c.write_close_tag.result all c.write_close_tag.ensures)
+    (from c.args.writer.now ▸ (start_tag tag ∷ [], refl) ▸ (flat_map (simple_tag c.args.child_tag.now) c.args.list.now, all)).then_all new (end_tag tag ∷ []) c.write_close_tag.result c.write_close_tag.ensures

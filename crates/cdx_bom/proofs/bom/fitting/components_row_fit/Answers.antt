@@ -1,6 +1,6 @@
 use Rattle.std.proofs.Common.{sym}
 use Rattle.cdx_schema.specs.Kinds.{components, a_list}
-use Rattle.cdx_component.specs.Trees.{components_tree}
+use Rattle.cdx_nest.specs.Nested.{components_tree}
 use Rattle.cdx_bom.proofs.Fitting.{nothing_fits}
 use Rattle.cdx_bom.proofs.bom.fitting.components_row_fit.Goals as goal
 

@@ -1,8 +1,8 @@
 use Rattle.std.proofs.Common.{sym, ap, ◌∙◌, arith}
 use Rattle.cdx_models.specs.Trees.{each}
 use Rattle.cdx_schema.specs.Keeping.{is_shallow, are_shallow}
-use Rattle.cdx_json.specs.Depths.{depth_of}
-use Rattle.cdx_component.specs.Trees.{component_tree}
+use Rattle.cdx_schema.specs.Depths.{depth_of}
+use Rattle.cdx_nest.specs.Nested.{component_tree}
 use Rattle.cdx_bom.proofs.Nested.{component_too_deep, component_levels, components_level, then_both, else_neither, from-goes, from-stops, from-end}
 use Rattle.cdx_bom.proofs.bom.shallow.+components_shallow.Goals as goal
 

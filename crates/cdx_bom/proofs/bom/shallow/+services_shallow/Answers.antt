@@ -1,8 +1,8 @@
 use Rattle.std.proofs.Common.{sym, ap, ◌∙◌, arith}
 use Rattle.cdx_models.specs.Trees.{each}
 use Rattle.cdx_schema.specs.Keeping.{are_shallow}
-use Rattle.cdx_json.specs.Depths.{depth_of}
-use Rattle.cdx_service.specs.Trees.{service_tree}
+use Rattle.cdx_schema.specs.Depths.{depth_of}
+use Rattle.cdx_nest.specs.Nested.{service_tree}
 use Rattle.cdx_bom.proofs.Nested.{service_too_deep, service_levels, services_level, from-goes, from-stops, from-end}
 use Rattle.cdx_bom.proofs.bom.shallow.+services_shallow.Goals as goal
 

@@ -1,7 +1,7 @@
 use Rattle.std.proofs.Common.{◌≡◌}
 use Rattle.cdx_schema.specs.Keeping.{is_shallow}
-use Rattle.cdx_json.specs.Depths.{depth_of}
-use Rattle.cdx_service.specs.Trees.{service_tree, services_tree}
+use Rattle.cdx_schema.specs.Depths.{depth_of}
+use Rattle.cdx_nest.specs.Nested.{service_tree, services_tree}
 use Rattle.cdx_bom.proofs.Nested.{from}
 use Rattle.cdx_bom.proofs.bom.shallow.+services_shallow.Given as goal
 

@@ -1,6 +1,6 @@
 use Rattle.std.proofs.Common.{sym}
 use Rattle.cdx_schema.specs.Keeping.{is_shallow}
-use Rattle.cdx_json.specs.Depths.{depth_of}
+use Rattle.cdx_schema.specs.Depths.{depth_of}
 use Rattle.cdx_nest.specs.Trees.{object_tree}
 use Rattle.cdx_bom.proofs.Nested.{tool_list_levels, object_levels, then_both, else_neither}
 use Rattle.cdx_bom.proofs.bom.shallow.tools_are_shallow.Goals as goal

@@ -5,7 +5,7 @@ use Rattle.cdx_schema.specs.Table.{rows, list}
 use Rattle.cdx_schema.specs.Results.{◌>>=◌}
 use Rattle.cdx_schema.specs.JsonReading.{items_read}
 use Rattle.cdx_json.specs.ByRows.{rows_made}
-use Rattle.cdx_json.specs.Depths.{depth_of}
+use Rattle.cdx_schema.specs.Depths.{depth_of}
 use Rattle.cdx_json.proofs.Rows.{may_none, live_ok, live_err, fails_then}
 use Rattle.cdx_json.proofs.Loops.{goes_on, stops, ends}
 use Rattle.cdx_models.specs.Trees.{component, pedigree, items}

@@ -2,7 +2,7 @@ use Rattle.std.proofs.Common.{◌≡◌, ◌+◌, ◌-◌, ◌*◌, drop}
 use Rattle.serde_json.specs.View.{items_view}
 use Rattle.cdx_schema.specs.Kinds.{a_record}
 use Rattle.cdx_schema.specs.JsonReading.{items_read}
-use Rattle.cdx_json.specs.Depths.{depth_of}
+use Rattle.cdx_schema.specs.Depths.{depth_of}
 use Rattle.cdx_json.proofs.Loops.{with_front}
 use Rattle.cdx_models.specs.Trees.{component, each}
 use Rattle.cdx_component.specs.Trees.{component_tree, listed_components}

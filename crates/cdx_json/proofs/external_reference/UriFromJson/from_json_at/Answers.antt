@@ -2,7 +2,7 @@ use Rattle.std.proofs.Common.{ap, sym, ◌∙◌, Ok}
 use Rattle.serde_json.specs.View.{view}
 use Rattle.cdx_models.specs.Trees.{text}
 use Rattle.cdx_models.specs.Addresses.{uri_text}
-use Rattle.cdx_json.specs.Depths.{depth_of}
+use Rattle.cdx_schema.specs.Depths.{depth_of}
 use Rattle.cdx_json.proofs.Values.{text_ok, text_err}
 use Rattle.cdx_models.proofs.AddressTexts.{text_of_uri as uri_back}
 use Rattle.cdx_json.proofs.external_reference.UriFromJson.from_json_at.Goals as goal

@@ -1,6 +1,6 @@
 use Rattle.serde_json.specs.View.{view}
 use Rattle.cdx_json.proofs.Values.{boolean_ok, boolean_err}
-use Rattle.cdx_json.specs.Depths.{depth_of}
+use Rattle.cdx_schema.specs.Depths.{depth_of}
 use Rattle.cdx_json.proofs.reading.BoolFromJson.from_json_at.Goals as goal
 
 pub returns-in-None : goal.returns-in-None

@@ -1,6 +1,6 @@
 use Rattle.serde_json.specs.View.{view}
 use Rattle.cdx_json.proofs.Values.{text_ok, text_err}
-use Rattle.cdx_json.specs.Depths.{depth_of}
+use Rattle.cdx_schema.specs.Depths.{depth_of}
 use Rattle.cdx_json.proofs.reading.TextFromJson.from_json_at.Goals as goal
 
 pub returns-in-None : goal.returns-in-None

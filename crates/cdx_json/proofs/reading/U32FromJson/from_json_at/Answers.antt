@@ -1,6 +1,6 @@
 use Rattle.serde_json.specs.View.{view}
 use Rattle.cdx_json.proofs.Values.{number_ok, large_err, below_zero_err, no_integer_err}
-use Rattle.cdx_json.specs.Depths.{depth_of}
+use Rattle.cdx_schema.specs.Depths.{depth_of}
 use Rattle.cdx_json.proofs.reading.U32FromJson.from_json_at.Goals as goal
 
 pub returns-then-held-lt4294967296 : goal.returns-then-held-lt4294967296

@@ -1,7 +1,7 @@
 use Rattle.cdx_schema.proofs.PlainNames.{plain_name}
 use Rattle.serde_json.specs.View.{view, members_view}
 use Rattle.cdx_json.proofs.Values.{record_err, record_gives}
-use Rattle.cdx_json.specs.Depths.{depth_of}
+use Rattle.cdx_schema.specs.Depths.{depth_of}
 use Rattle.cdx_json.proofs.traits.AnyFromJson.from_json_at.Goals as goal
 
 pub returns-in-None : goal.returns-in-None

@@ -1,6 +1,6 @@
 use Rattle.serde_json.specs.View.{view, members_view}
 use Rattle.cdx_license.specs.Records.{choice_tree}
-use Rattle.cdx_json.specs.Depths.{depth_of}
+use Rattle.cdx_schema.specs.Depths.{depth_of}
 use Rattle.cdx_license.proofs.Licensed.{choice_err, choice_gives}
 use Rattle.cdx_license.proofs.json.LicenseChoiceFromJson.from_json_at.Goals as goal
 

@@ -1,5 +1,5 @@
 use Rattle.serde_json.specs.View.{members_view}
-use Rattle.cdx_json.specs.Depths.{depth_of}
+use Rattle.cdx_schema.specs.Depths.{depth_of}
 use Rattle.cdx_nest.proofs.ToolValues.{object_gives}
 use Rattle.cdx_nest.proofs.json.tools.tools_from_object.Goals as goal
 

@@ -1,7 +1,7 @@
 use Rattle.std.proofs.Common.{Ok, refl, [], ◌∷◌}
 use Rattle.std.proofs.lemmas.Result.{err_from_is_err_and}
 use Rattle.cdx_events.specs.declared.event.XmlEvent.TheVariants.{StartElement}
-use Rattle.cdx_json.specs.Depths.{depth_of}
+use Rattle.cdx_schema.specs.Depths.{depth_of}
 use Rattle.cdx_machine.proofs.Heard.{opens_ok}
 use Rattle.cdx_nest_machine.proofs.HeardStack.{stack_opens}
 use Rattle.cdx_nest.specs.Frames.{nest_kind}

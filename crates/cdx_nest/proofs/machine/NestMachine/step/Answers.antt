@@ -1,6 +1,6 @@
 use Rattle.std.proofs.Common.{Some, None, Ok, Err, refl, sym, ◌∙◌}
 use Rattle.std.proofs.lemmas.Result.{err_from_is_err_and}
-use Rattle.cdx_json.specs.Depths.{depth_of}
+use Rattle.cdx_schema.specs.Depths.{depth_of}
 use Rattle.cdx_machine.proofs.Hearing.{listener_can, listener_answers, listener_heard}
 use Rattle.cdx_machine.proofs.Yielding.{waits, fails}
 use Rattle.cdx_nest.specs.Frames.{nest_kind, value_kind, value_tree}

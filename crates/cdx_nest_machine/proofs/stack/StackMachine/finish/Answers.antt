@@ -1,5 +1,5 @@
 use Rattle.std.proofs.Common.{◌+◌, reverse}
-use Rattle.cdx_json.specs.Depths.{depth_of}
+use Rattle.cdx_schema.specs.Depths.{depth_of}
 use Rattle.cdx_nest_machine.specs.Frames.{leaf_holds, shape_of}
 use Rattle.cdx_nest_machine.proofs.Machine.{whole_ends, yields, of_root}
 use Rattle.cdx_nest_machine.proofs.stack.StackMachine.finish.Goals as goal

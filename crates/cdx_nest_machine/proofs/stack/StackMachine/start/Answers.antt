@@ -1,4 +1,4 @@
-use Rattle.cdx_json.specs.Depths.{depth_of}
+use Rattle.cdx_schema.specs.Depths.{depth_of}
 use Rattle.cdx_nest_machine.specs.Frames.{leaf_holds, shape_of}
 use Rattle.cdx_nest_machine.proofs.Machine.{began}
 use Rattle.cdx_nest_machine.proofs.stack.StackMachine.start.Goals as goal

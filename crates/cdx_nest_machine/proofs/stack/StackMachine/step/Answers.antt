@@ -1,6 +1,6 @@
 use Rattle.std.proofs.Common.{reverse, false, Ok, refl, sym, ◌∙◌}
 use Rattle.std.proofs.lemmas.Result.{err_from_is_err_and}
-use Rattle.cdx_json.specs.Depths.{depth_of}
+use Rattle.cdx_schema.specs.Depths.{depth_of}
 use Rattle.cdx_machine.specs.declared.frame.Inside.TheVariants.{Nothing, Read, Skipped}
 use Rattle.cdx_machine.specs.Begun.{next}
 use Rattle.cdx_nest_machine.specs.Frames.{leaf_holds, shape_of}

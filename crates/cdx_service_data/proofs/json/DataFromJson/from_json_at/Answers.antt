@@ -1,5 +1,5 @@
 use Rattle.serde_json.specs.View.{view, items_view}
-use Rattle.cdx_json.specs.Depths.{depth_of}
+use Rattle.cdx_schema.specs.Depths.{depth_of}
 use Rattle.cdx_service_data.specs.Records.{data_tree}
 use Rattle.cdx_service_data.proofs.DataEntries.{data_gives, data_err}
 use Rattle.cdx_service_data.proofs.json.DataFromJson.from_json_at.Goals as goal

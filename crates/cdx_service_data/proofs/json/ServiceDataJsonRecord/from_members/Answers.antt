@@ -4,7 +4,7 @@ use Rattle.serde_json.specs.View.{members_view}
 use Rattle.cdx_schema.specs.JsonReading.{seen}
 use Rattle.cdx_schema.specs.Table.{rows}
 use Rattle.cdx_json.specs.ByRows.{rows_made}
-use Rattle.cdx_json.specs.Depths.{depth_of}
+use Rattle.cdx_schema.specs.Depths.{depth_of}
 use Rattle.cdx_json.proofs.Rows.{fails_then}
 use Rattle.cdx_service_data.proofs.DataEntries.{own_classification, own_fails}
 use Rattle.cdx_service_data.proofs.json.ServiceDataJsonRecord.from_members.Goals as goal

@@ -2,7 +2,7 @@ use Rattle.std.proofs.Common.{ap, sym, ◌∙◌, Ok}
 use Rattle.serde_json.specs.View.{view}
 use Rattle.cdx_models.specs.Trees.{text}
 use Rattle.cdx_signature.specs.Signatures.{algorithm_name}
-use Rattle.cdx_json.specs.Depths.{depth_of}
+use Rattle.cdx_schema.specs.Depths.{depth_of}
 use Rattle.cdx_json.proofs.Values.{text_ok, text_err}
 use Rattle.cdx_signature.proofs.Algorithms.{name_of_algorithm as algorithm_back}
 use Rattle.cdx_signature.proofs.json.AlgorithmFromJson.from_json_at.Goals as goal

@@ -1,12 +1,8 @@
 use Rattle.cdx_schema.specs.Table.{rows, list}
 use Rattle.cdx_write.specs.WrittenRows.{rows_written}
-use Rattle.cdx_write.proofs.Appended.{then_all, last_row}
+use Rattle.cdx_write.proofs.Appended.{from, then_last, ◌▸◌}
 use Rattle.cdx_write.proofs.tool.ToolWrittenRecord.write_rows.Goals as goal
 
 pub returns : goal.returns
 unfolding rows_written rows list
-returns c = then_all c.args.writer.now c.put_child.new.writer c.put_child_since.new.writer _ _ c.put_child_since.result (c.in_ok-put_child.ensures)
-    (then_all c.put_child.new.writer c.put_child-2.new.writer c.put_child_since.new.writer _ _ c.put_child_since.result (c.in_ok-put_child-2.ensures)
-    (then_all c.put_child-2.new.writer c.put_child-3.new.writer c.put_child_since.new.writer _ _ c.put_child_since.result (c.in_ok-put_child-3.ensures)
-    (then_all c.put_child-3.new.writer c.put_child-4.new.writer c.put_child_since.new.writer _ _ c.put_child_since.result (c.in_ok-put_child-4.ensures)
-    (last_row c.put_child-4.new.writer c.put_child_since.new.writer _ c.put_child_since.result (c.put_child_since.ensures)))))
+returns c = then_last (from c.args.writer.now ▸ (_, c.in_ok-put_child.ensures) ▸ (_, c.in_ok-put_child-2.ensures) ▸ (_, c.in_ok-put_child-3.ensures) ▸ (_, c.in_ok-put_child-4.ensures)) c.put_child_since.new.writer _ c.put_child_since.result c.put_child_since.ensures

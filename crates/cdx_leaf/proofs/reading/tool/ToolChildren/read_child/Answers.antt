@@ -6,7 +6,7 @@ use Rattle.cdx_schema.specs.Kinds as kinds
 use Rattle.cdx_schema.specs.Table.{rows, list}
 use Rattle.cdx_schema.specs.XmlReading.{record_plan, last}
 use Rattle.cdx_leaf.specs.Parts.{tool_slots}
-use Rattle.cdx_leaf.proofs.ChildSteps.{takes_one, takes_none, differs}
+use Rattle.cdx_leaf.proofs.ChildSteps.{takes_one, takes_one_since, takes_none, differs}
 use Rattle.cdx_leaf.proofs.reading.tool.ToolChildren.read_child.Goals as goal
 
 pub returns-in-vendor-clause-takes : goal.returns-in-vendor-clause-takes
@@ -29,15 +29,10 @@ unfolding rows list
 returns-in-hashes-clause-takes c =
     takes_one (record_plan tool) c.args.opened.now.version c.args.opened.now.element.now c.args.opened.now.attributes.now (tool_slots c.args.self.now) _ c.args.reader.now c.take_one-in-hashes.new.reader _ (λ d. d) _ c.take_one-in-hashes.result (sym c.as_str.ensures ∙ c.in-hashes.is) refl refl refl c.take_one-in-hashes.ensures
 
-pub returns-then-not-is_known_to-clause-takes : goal.returns-then-not-is_known_to-clause-takes
-unfolding rows
-returns-then-not-is_known_to-clause-takes c =
-    takes_none (record_plan tool) c.args.opened.now.version c.args.opened.now.element.now c.args.opened.now.attributes.now (tool_slots c.args.self.now) c.args.reader.now (λ d. d) (rw ((sym c.as_str.ensures ∙ c.in-externalReferences.is), sym c.if-not-is_known_to.ensures) refl)
-
-pub returns-else-not-is_known_to-clause-takes : goal.returns-else-not-is_known_to-clause-takes
+pub returns-in-externalReferences-clause-takes : goal.returns-in-externalReferences-clause-takes
 unfolding rows list
-returns-else-not-is_known_to-clause-takes c =
-    takes_one (record_plan tool) c.args.opened.now.version c.args.opened.now.element.now c.args.opened.now.attributes.now (tool_slots c.args.self.now) _ c.args.reader.now c.take_one-in-externalReferences.new.reader (record { name = codes "externalReferences"; since = V1_4; kind = kinds.a_list kinds.external_references; field = 4; place = last }) (λ d. d) _ c.take_one-in-externalReferences.result (sym c.as_str.ensures ∙ c.in-externalReferences.is) (rw (sym c.if-not-is_known_to.ensures) refl) refl refl c.take_one-in-externalReferences.ensures
+returns-in-externalReferences-clause-takes c =
+    takes_one_since (record_plan tool) c.args.opened.now.version c.args.opened.now.element.now c.args.opened.now.attributes.now (tool_slots c.args.self.now) _ c.args.reader.now c.take_one_since.new.reader (record { name = codes "externalReferences"; since = V1_4; kind = kinds.a_list kinds.external_references; field = 4; place = last }) (λ d. d) _ c.take_one_since.result (sym c.as_str.ensures ∙ c.in-externalReferences.is) refl refl refl c.take_one_since.ensures.known (λ e. let u = c.take_one_since.ensures.unknown e in (rw (u.0) refl, u.1, u.2))
 
 pub returns-in_default-clause-takes : goal.returns-in_default-clause-takes
 unfolding rows

@@ -1,7 +1,7 @@
 use Rattle.std.proofs.Common.{sym, subst}
 use Rattle.serde_json.specs.View.{members_view}
 use Rattle.cdx_schema.specs.JsonReading.{seen}
-use Rattle.cdx_json.specs.Depths.{depth_of}
+use Rattle.cdx_schema.specs.Depths.{depth_of}
 use Rattle.cdx_json.specs.Gives.{Gives}
 use Rattle.cdx_nest.specs.Trees.{metadata_tree}
 use Rattle.cdx_nest.proofs.Grouped.{metadata_in_groups}

@@ -2,7 +2,7 @@ use Rattle.std.proofs.lemmas.Result.{err_from_is_err_and}
 use Rattle.serde_json.specs.View.{view, items_view, members_view}
 use Rattle.cdx_models.specs.Trees.{list_tree}
 use Rattle.cdx_models.specs.Records.{tool_tree}
-use Rattle.cdx_json.specs.Depths.{depth_of}
+use Rattle.cdx_schema.specs.Depths.{depth_of}
 use Rattle.cdx_nest.proofs.ToolValues.{tools_ok, tools_err, tools_wrong, tools_gives}
 use Rattle.cdx_nest.proofs.json.tools.ToolsFromJson.from_json_at.Goals as goal
 

@@ -1,7 +1,7 @@
 use Rattle.std.proofs.Common.{ap, sym, ◌∙◌, Ok}
 use Rattle.serde_json.specs.View.{view}
 use Rattle.cdx_models.specs.Trees.{text}
-use Rattle.cdx_json.specs.Depths.{depth_of}
+use Rattle.cdx_schema.specs.Depths.{depth_of}
 use Rattle.cdx_json.proofs.Values.{reference_ok, reference_err}
 use Rattle.cdx_relations.proofs.json.composition.BomReferenceFromJson.from_json_at.Goals as goal
 

@@ -1,0 +1,25 @@
+use Rattle.std.proofs.Common.{Ok, ap, sym}
+use Rattle.std.proofs.lemmas.Result.{err_from_is_err_and}
+use Rattle.cdx_json.proofs.Rows.{fails_then}
+use Rattle.cdx_bom.specs.Groups.{bill_by_groups}
+use Rattle.cdx_bom.proofs.json.bom_from_members.Goals as goal
+
+pub returns-in_err-check_format : goal.returns-in_err-check_format
+unfolding bill_by_groups
+returns-in_err-check_format c =
+    let p = err_from_is_err_and c.from_residual.result c.from_residual.ensures.1 in
+    rw (p.1, p.2) (fails_then _ _ _ c.in_err-check_format.ensures)
+
+pub returns-in_err-inventory : goal.returns-in_err-inventory
+unfolding bill_by_groups
+returns-in_err-inventory c =
+    let p = err_from_is_err_and c.from_residual-in_err-inventory.result c.from_residual-in_err-inventory.ensures.1 in
+    rw (p.1, p.2, c.in_ok-check_format.ensures) (fails_then _ _ _ c.in_err-inventory.ensures)
+
+pub returns-in-Ok : goal.returns-in-Ok
+unfolding bill_by_groups
+returns-in-Ok c = rw (c.in_ok-check_format.ensures, c.in_ok-inventory.ensures, c.in-Ok.ensures) (ap Ok (sym c.assemble.ensures))
+
+pub returns-in-Err : goal.returns-in-Err
+unfolding bill_by_groups
+returns-in-Err c = rw (c.in_ok-check_format.ensures, c.in_ok-inventory.ensures) (fails_then _ _ _ c.in-Err.ensures)

@@ -1,0 +1,4 @@
+//! Whole bills in XML.
+
+pub(crate) mod reading;
+pub(crate) mod writing;

@@ -1,7 +1,0 @@
-use Rattle.std.proofs.Common.{refl}
-use Rattle.cdx_schema.specs.Table.{rule}
-use Rattle.cdx_code.proofs.reading.CommitChildren.rule.Goals as goal
-
-pub returns : goal.returns
-unfolding rule
-returns c = refl

@@ -1,0 +1,7 @@
+use Rattle.std.proofs.Common.{refl}
+use Rattle.cdx_schema.specs.Table.{rule}
+use Rattle.cdx_code.proofs.xml.reading.IdentifiableActionChildren.rule.Goals as goal
+
+pub returns : goal.returns
+unfolding rule
+returns c = refl

@@ -1,0 +1,8 @@
+use Rattle.std.proofs.Common.{refl}
+use Rattle.cdx_schema.specs.Table.{rows}
+use Rattle.cdx_schema.specs.XmlReading.{ended}
+use Rattle.cdx_code.proofs.xml.reading.IdentifiableActionXmlRecord.finish.Goals as goal
+
+pub returns : goal.returns
+unfolding rows ended
+returns c = refl

@@ -1,0 +1,4 @@
+//! Commits in XML.
+
+mod reading;
+mod writing;

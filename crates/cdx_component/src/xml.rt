@@ -1,0 +1,4 @@
+//! Components, pedigrees and lists of components in XML.
+
+pub(crate) mod reading;
+mod writing;

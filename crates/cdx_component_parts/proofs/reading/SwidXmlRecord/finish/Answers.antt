@@ -1,8 +1,0 @@
-use Rattle.std.proofs.Common.{refl}
-use Rattle.cdx_schema.specs.Table.{rows}
-use Rattle.cdx_schema.specs.XmlReading.{ended}
-use Rattle.cdx_component_parts.proofs.reading.SwidXmlRecord.finish.Goals as goal
-
-pub returns : goal.returns
-unfolding rows ended
-returns c = refl

@@ -1,0 +1,4 @@
+//! The leaf records of components in XML.
+
+mod reading;
+mod writing;

@@ -1,0 +1,4 @@
+//! Licenses in XML.
+
+mod reading;
+mod writing;

@@ -1,0 +1,4 @@
+//! Worked examples of what roads take of a bill, as tests.
+
+mod expect;
+mod losses;

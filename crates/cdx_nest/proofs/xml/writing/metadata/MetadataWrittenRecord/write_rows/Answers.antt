@@ -1,0 +1,54 @@
+use Rattle.std.proofs.Common.{refl}
+use Rattle.std.proofs.lemmas.Result.{err_from_is_err_and}
+use Rattle.cdx_schema.specs.Kinds.{authors}
+use Rattle.cdx_schema.specs.Table.{rows, list}
+use Rattle.cdx_write.specs.WrittenRows.{rows_written}
+use Rattle.cdx_write.proofs.Appended.{first_fails, from, then_fails, then_last, ◌▸◌}
+use Rattle.cdx_nest.proofs.xml.writing.metadata.MetadataWrittenRecord.write_rows.Goals as goal
+
+pub returns-in_err-put_child : goal.returns-in_err-put_child
+unfolding rows_written rows list
+returns-in_err-put_child c =
+    let p = err_from_is_err_and c.from_residual.result c.from_residual.ensures.1 in
+    rw (p.1, p.2) (first_fails c.args.writer.now c.put_child.new.writer _ _ _ c.in_err-put_child.ensures)
+
+pub returns-in_err-put_child-2 : goal.returns-in_err-put_child-2
+unfolding rows_written rows list
+returns-in_err-put_child-2 c =
+    let p = err_from_is_err_and c.from_residual-in_err-put_child-2.result c.from_residual-in_err-put_child-2.ensures.1 in
+    rw (p.1, p.2) (then_fails (from c.args.writer.now ▸ (_, c.in_ok-put_child.ensures)) c.put_child-2.new.writer _ _ _ c.in_err-put_child-2.ensures)
+
+pub returns-in_err-put_list : goal.returns-in_err-put_list
+unfolding rows_written rows list
+returns-in_err-put_list c =
+    let p = err_from_is_err_and c.from_residual-in_err-put_list.result c.from_residual-in_err-put_list.ensures.1 in
+    rw (p.1, p.2) (then_fails (from c.args.writer.now ▸ (_, c.in_ok-put_child.ensures) ▸ (_, c.in_ok-put_child-2.ensures)) c.put_list.new.writer _ _ _ (c.in_err-put_list.ensures authors (refl, refl)))
+
+pub returns-in_err-put_child-3 : goal.returns-in_err-put_child-3
+unfolding rows_written rows list
+returns-in_err-put_child-3 c =
+    let p = err_from_is_err_and c.from_residual-in_err-put_child-3.result c.from_residual-in_err-put_child-3.ensures.1 in
+    rw (p.1, p.2) (then_fails (from c.args.writer.now ▸ (_, c.in_ok-put_child.ensures) ▸ (_, c.in_ok-put_child-2.ensures) ▸ (_, c.in_ok-put_list.ensures authors (refl, refl))) c.put_child-3.new.writer _ _ _ c.in_err-put_child-3.ensures)
+
+pub returns-in_err-put_child-4 : goal.returns-in_err-put_child-4
+unfolding rows_written rows list
+returns-in_err-put_child-4 c =
+    let p = err_from_is_err_and c.from_residual-in_err-put_child-4.result c.from_residual-in_err-put_child-4.ensures.1 in
+    rw (p.1, p.2) (then_fails (from c.args.writer.now ▸ (_, c.in_ok-put_child.ensures) ▸ (_, c.in_ok-put_child-2.ensures) ▸ (_, c.in_ok-put_list.ensures authors (refl, refl)) ▸ (_, c.in_ok-put_child-3.ensures)) c.put_child-4.new.writer _ _ _ c.in_err-put_child-4.ensures)
+
+pub returns-in_err-put_child-5 : goal.returns-in_err-put_child-5
+unfolding rows_written rows list
+returns-in_err-put_child-5 c =
+    let p = err_from_is_err_and c.from_residual-in_err-put_child-5.result c.from_residual-in_err-put_child-5.ensures.1 in
+    rw (p.1, p.2) (then_fails (from c.args.writer.now ▸ (_, c.in_ok-put_child.ensures) ▸ (_, c.in_ok-put_child-2.ensures) ▸ (_, c.in_ok-put_list.ensures authors (refl, refl)) ▸ (_, c.in_ok-put_child-3.ensures) ▸ (_, c.in_ok-put_child-4.ensures)) c.put_child-5.new.writer _ _ _ c.in_err-put_child-5.ensures)
+
+pub returns-in_err-put_child-6 : goal.returns-in_err-put_child-6
+unfolding rows_written rows list
+returns-in_err-put_child-6 c =
+    let p = err_from_is_err_and c.from_residual-in_err-put_child-6.result c.from_residual-in_err-put_child-6.ensures.1 in
+    rw (p.1, p.2) (then_fails (from c.args.writer.now ▸ (_, c.in_ok-put_child.ensures) ▸ (_, c.in_ok-put_child-2.ensures) ▸ (_, c.in_ok-put_list.ensures authors (refl, refl)) ▸ (_, c.in_ok-put_child-3.ensures) ▸ (_, c.in_ok-put_child-4.ensures) ▸ (_, c.in_ok-put_child-5.ensures)) c.put_child-6.new.writer _ _ _ c.in_err-put_child-6.ensures)
+
+pub returns : goal.returns
+unfolding rows_written rows list
+returns c =
+    then_last (from c.args.writer.now ▸ (_, c.in_ok-put_child.ensures) ▸ (_, c.in_ok-put_child-2.ensures) ▸ (_, c.in_ok-put_list.ensures authors (refl, refl)) ▸ (_, c.in_ok-put_child-3.ensures) ▸ (_, c.in_ok-put_child-4.ensures) ▸ (_, c.in_ok-put_child-5.ensures) ▸ (_, c.in_ok-put_child-6.ensures)) c.put_child-7.new.writer _ c.put_child-7.result c.put_child-7.ensures

@@ -1,0 +1,4 @@
+//! Tools and metadata in XML.
+
+mod reading;
+mod writing;

@@ -1,5 +1,0 @@
-use Rattle.cdx_write.proofs.Hollow.{diff_hollow}
-use Rattle.cdx_patch.proofs.writing.patch.DiffFilled.is_hollow.Goals as goal
-
-pub returns : goal.returns
-returns c = diff_hollow _ _ c.has_content.result c.has_content.ensures

@@ -1,0 +1,4 @@
+//! Patches and issues in XML.
+
+mod reading;
+mod writing;

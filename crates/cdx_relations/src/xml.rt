@@ -1,0 +1,4 @@
+//! Dependencies and compositions in XML.
+
+mod reading;
+mod writing;

@@ -1,0 +1,4 @@
+//! Services and lists of services in XML.
+
+pub(crate) mod reading;
+mod writing;

@@ -1,0 +1,11 @@
+use Rattle.std.proofs.Common.{refl}
+use Rattle.std.specs.Prelude.{codes}
+use Rattle.cdx_models.specs.declared.bom.SpecVersion.TheVariants.{V1_3}
+use Rattle.cdx_schema.specs.Kinds.{member}
+use Rattle.cdx_schema.specs.Table.{rows}
+use Rattle.cdx_leaf.proofs.Attributes.{row_ok, rows_end, maybe_row}
+use Rattle.cdx_service_data.proofs.xml.reading.ServiceDataXmlRecord.begin.Goals as goal
+
+pub returns : goal.returns
+unfolding rows
+returns c = row_ok c.args.opened.now.attributes.now c.args.opened.now.version c.args.opened.now.element.now.local_name c.args.opened.now.place _ _ _ _ (maybe_row c.args.opened.now.attributes.now c.args.opened.now.version c.args.opened.now.element.now.local_name c.args.opened.now.place (codes "name") (member (codes "name")) _ V1_3 _ c.in_ok-attribute_or_none.ensures) (row_ok c.args.opened.now.attributes.now c.args.opened.now.version c.args.opened.now.element.now.local_name c.args.opened.now.place _ _ _ _ (maybe_row c.args.opened.now.attributes.now c.args.opened.now.version c.args.opened.now.element.now.local_name c.args.opened.now.place (codes "description") (member (codes "description")) _ V1_3 _ c.in_ok-attribute_or_none-2.ensures) (row_ok c.args.opened.now.attributes.now c.args.opened.now.version c.args.opened.now.element.now.local_name c.args.opened.now.place _ _ _ _ refl (rows_end c.args.opened.now.attributes.now c.args.opened.now.version c.args.opened.now.element.now.local_name c.args.opened.now.place)))

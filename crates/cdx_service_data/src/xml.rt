@@ -1,0 +1,4 @@
+//! The data of services in XML.
+
+mod reading;
+mod writing;

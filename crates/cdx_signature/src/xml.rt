@@ -1,0 +1,4 @@
+//! Signatures in XML.
+
+mod reading;
+mod writing;

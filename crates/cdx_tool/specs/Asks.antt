@@ -1,0 +1,98 @@
+-- A question about one bill: the document that it stands in, and the version in which that is read.
+use Rattle.std.specs.Prelude.{◌≡◌, ◌==◌, ℕ, List, codes, if◌then◌else◌, Option, Some, None, Result, Ok, Err}
+use Rattle.serde_json.specs.Data.{Data}
+use Rattle.serde_json.specs.Find.{get}
+use Rattle.cdx_models.specs.declared.bom.SpecVersion.{SpecVersion}
+use Rattle.cdx_models.specs.Trees.{Tree}
+use Rattle.cdx_schema.specs.Roads.{Doc, Refusal, denotes}
+use Rattle.cdx_request.specs.Parts.{member_count, version_at}
+use Rattle.cdx_request.specs.Refusals.{refusal_value}
+use Rattle.cdx_request.specs.Requests.{Misread, not_json, shape, unbalanced, document_in_json, doc_in}
+use Rattle.cdx_request.specs.Replies.{Reply, reply, reply_to_misread}
+use Rattle.cdx_bom.specs.declared.bom.Bom.{Bom}
+use Rattle.cdx_bom.specs.declared.doc.RoadError.TheVariants as error
+use Rattle.cdx_bom.specs.Docs.{IsDoc, refusal_of}
+use Rattle.cdx_bom.specs.Trees.{bom_tree}
+use Rattle.cdx_tool.specs.declared.request.RequestError.TheVariants as misreading
+use Rattle.cdx_tool.specs.declared.question.Question.{Question}
+use Rattle.cdx_tool.specs.declared.question.NoBill.{NoBill}
+use Rattle.cdx_tool.specs.declared.question.NoBill.TheVariants as lack
+
+-- ---- the question that a value is
+
+pub record Asked : Type 0 where
+  pub from : SpecVersion
+  pub doc : Doc
+
+abbrev pub asking : SpecVersion → Result Doc Misread → Result Asked Misread
+asking from (Ok doc) = Ok (record { from = from; doc = doc })
+asking from (Err e) = Err e
+
+abbrev pub asked_parts : Option SpecVersion → Option Data → Result Asked Misread
+asked_parts None doc = Err shape
+asked_parts (Some from) None = Err shape
+asked_parts (Some from) (Some doc) = asking from (doc_in doc)
+
+-- An object with `from` and `doc`, and no other member. Its shape comes before the balance of its events.
+abbrev pub asked_of : Data → Result Asked Misread
+asked_of d = if member_count d == 2 then asked_parts (version_at (codes "from") d) (get (codes "doc") d) else Err shape
+
+-- ---- the bill that it asks about
+
+-- why there is none
+pub data Lack : Type 0 where
+  misread : Misread → Lack
+  bill_refused : Refusal → Lack
+
+abbrev pub billed : Result Tree Refusal → Result Tree Lack
+billed (Ok b) = Ok b
+billed (Err r) = Err (bill_refused r)
+
+abbrev pub bill_of : Result Asked Misread → Result Tree Lack
+bill_of (Ok a) = billed (denotes a.doc a.from)
+bill_of (Err e) = Err (misread e)
+
+-- The bill that a value asks about. Why it is no question comes before its document's first fault.
+abbrev pub bill_in : Data → Result Tree Lack
+bill_in d = bill_of (asked_of d)
+
+-- The bytes are a question about the bill.
+abbrev pub AsksFor : List ℕ → Tree → Type 0
+AsksFor bytes b = (d : Data) × (document_in_json bytes ≡ Some d) × (bill_in d ≡ Ok b)
+
+-- ---- what is answered where there is none
+
+abbrev pub reply_to_lack : Lack → Reply
+reply_to_lack (misread e) = reply_to_misread e
+reply_to_lack (bill_refused r) = reply 1 (refusal_value r)
+
+-- f is what is answered to a bill
+abbrev pub reply_to_bill : (Tree → Data) → Result Tree Lack → Reply
+reply_to_bill f (Ok b) = reply 0 (f b)
+reply_to_bill f (Err l) = reply_to_lack l
+
+abbrev pub reply_if_read : (Tree → Data) → Option Data → Reply
+reply_if_read f None = reply_to_misread not_json
+reply_if_read f (Some d) = reply_to_bill f (bill_in d)
+
+-- The reply to the bytes of a question about a bill.
+abbrev pub reply_asking : (Tree → Data) → List ℕ → Reply
+reply_asking f bytes = reply_if_read f (document_in_json bytes)
+
+-- ---- what the calls give
+
+abbrev pub IsQuestion : Question → Asked → Type 0
+IsQuestion q a = (q.from ≡ a.from) × IsDoc q.doc a.doc
+
+-- The error is what is owed: a lack. Want of memory alone is free.
+abbrev pub Lacks : Result Tree Lack → NoBill → Type 0
+Lacks owed (lack.Misread (misreading.Memory m)) = Unit {0}
+Lacks owed (lack.Misread misreading.Shape) = owed ≡ Err (misread shape)
+Lacks owed (lack.Misread (misreading.Unbalanced place)) = owed ≡ Err (misread (unbalanced place))
+Lacks owed (lack.Refused (error.Memory m)) = Unit {0}
+Lacks owed (lack.Refused e) = (r : Refusal) × (refusal_of e ≡ Some r) × (owed ≡ Err (bill_refused r))
+
+-- The answer is what is owed: the bill, or why there is none.
+abbrev pub GivesBill : Result Tree Lack → Result Bom NoBill → Type 0
+GivesBill owed (Ok bill) = owed ≡ Ok (bom_tree bill)
+GivesBill owed (Err e) = Lacks owed e
