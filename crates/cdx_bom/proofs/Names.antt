@@ -7,7 +7,7 @@ use Rattle.cdx_schema.specs.Table.{rows, list}
 use Rattle.cdx_schema.specs.Held.{held_kind}
 use Rattle.cdx_schema.specs.Depth.{Depth, inside, name_too_deep}
 use Rattle.cdx_schema.specs.Keeping.{has_versions, items_have_versions, rows_have_versions, is_there, is_shallow, are_shallow}
-use Rattle.cdx_schema.specs.Trips.{settled, items_settled, rows_settled, settled_items}
+use Rattle.cdx_schema.specs.Trips.{settled, items_settled, rows_settled, list_settled}
 
 abbrev pub no_more : Trees → List Row → Bool
 no_more none rs = true
@@ -208,7 +208,7 @@ held_without (a_list l) e = listed_without l
 held_without a_tools e = absurd (false≢true (ap not e))
 held_without _ e = refl
 
-items_as_is : (k : Kind) (ts : Trees) → is_tools k ≡ false → settled_items k ts ≡ items ts
+items_as_is : (k : Kind) (ts : Trees) → is_tools k ≡ false → list_settled k ts ≡ items ts
 items_as_is a_tools ts e = absurd (false≢true (ap not e))
 items_as_is _ ts e = refl
 

@@ -14,7 +14,7 @@ use Rattle.cdx_relations.specs.Records.{dependencies_tree, compositions_tree}
 use Rattle.cdx_schema.specs.Table.{rows}
 use Rattle.cdx_schema.specs.Depth.{Depth, top, inside, name_too_deep}
 use Rattle.cdx_schema.specs.Keeping.{is_shallow, are_shallow}
-use Rattle.cdx_nest.specs.Nested.{Component, Component-F, Pedigree-F, out-Component, out-Pedigree, Components, Pedigree, origin, naming, marks, contents, component_tree, components_tree, pedigree_tree, component_fields, pedigree_fields, listed_components, component_tree-out, components_tree-out, pedigree_tree-out, Service, Service-F, out-Service, Services, service_naming, service_access, service_contents, service_tree, services_tree, service_fields, services_listed, service_tree-out, services_tree-out}
+use Rattle.cdx_nest.specs.Nested.{Component, Component-F, Pedigree-F, out-Component, out-Pedigree, Components, Pedigree, origin, naming, marks, component_contents, component_tree, components_tree, pedigree_tree, component_fields, pedigree_fields, component_items, component_tree-out, components_tree-out, pedigree_tree-out, Service, Service-F, out-Service, Services, service_naming, service_access, service_contents, service_tree, services_tree, service_fields, service_items, service_tree-out, services_tree-out}
 use Rattle.cdx_models.specs.declared.tool.Tool.{Tool}
 use Rattle.cdx_nest.specs.declared.metadata.Metadata.{Metadata}
 use Rattle.cdx_nest.specs.Trees.{object_tree, tools_tree, makers, terms, metadata_tree}
@@ -70,7 +70,7 @@ level_before (more t ts) us d h =
 level : {A : Type 0} (f : A → Tree) (o : Option A) (d : Depth) → ((x : A) → lacks is_counted (f x) ≡ true) → is_shallow (present f o) d ≡ true
 level f o d h = is_level (present f o) d (row_lacks is_counted f h o)
 
-contents_levels : {C L P : Type 0} (l : L → Tree) (p : P → Tree) (c : Component-F C L P) (d : Depth) → are_shallow (contents l p c) d ≡ (is_shallow (present p c.pedigree) d && is_shallow (present l c.components) d)
+contents_levels : {C L P : Type 0} (l : L → Tree) (p : P → Tree) (c : Component-F C L P) (d : Depth) → are_shallow (component_contents l p c) d ≡ (is_shallow (present p c.pedigree) d && is_shallow (present l c.components) d)
 unfolding is_shallow
 contents_levels l p c d = rw (
   level references_tree c.external_references d (references_lack is_counted counted_spare),
@@ -82,9 +82,9 @@ contents_levels l p c d = rw (
 
 component_fields_level : {C L P : Type 0} (l : L → Tree) (p : P → Tree) (c : Component-F C L P) (d : Depth) → are_shallow (component_fields l p c) d ≡ (is_shallow (present p c.pedigree) d && is_shallow (present l c.components) d)
 component_fields_level l p c d =
-    level_before (origin c) (naming c ⧺ (marks c ⧺ contents l p c)) d (origin_lack is_counted counted_spare c)
-    ∙ level_before (naming c) (marks c ⧺ contents l p c) d (naming_lack is_counted counted_spare c)
-    ∙ level_before (marks c) (contents l p c) d (marks_lack is_counted counted_spare c)
+    level_before (origin c) (naming c ⧺ (marks c ⧺ component_contents l p c)) d (origin_lack is_counted counted_spare c)
+    ∙ level_before (naming c) (marks c ⧺ component_contents l p c) d (naming_lack is_counted counted_spare c)
+    ∙ level_before (marks c) (component_contents l p c) d (marks_lack is_counted counted_spare c)
     ∙ contents_levels l p c d
 
 component_level : (c : Component) (d : Depth) → is_shallow (component_tree c) d
@@ -142,7 +142,7 @@ pub pedigree_levels : (p : Pedigree) (d : Depth) → is_shallow (pedigree_tree p
 unfolding is_shallow
 pedigree_levels p d = ap (λ t. is_shallow t d) (pedigree_tree-out p) ∙ pedigree_fields_level components_tree (out-Pedigree p) d
 
-pub components_level : (cs : Components) (d : Depth) → is_shallow (components_tree cs) d ≡ are_shallow (each component_tree (listed_components cs)) d
+pub components_level : (cs : Components) (d : Depth) → is_shallow (components_tree cs) d ≡ are_shallow (each component_tree (component_items cs)) d
 unfolding is_shallow
 components_level cs d = ap (λ t. is_shallow t d) (components_tree-out cs)
 
@@ -175,7 +175,7 @@ service_levels s d h =
     ∙ ap (λ b. not b && is_shallow (present services_tree (out-Service s).services) (inside service d)) (service_not_deep d h)
     ∙ ap (is_shallow (present services_tree (out-Service s).services)) (inside_service d)
 
-pub services_level : (ss : Services) (d : Depth) → is_shallow (services_tree ss) d ≡ are_shallow (each service_tree (services_listed ss)) d
+pub services_level : (ss : Services) (d : Depth) → is_shallow (services_tree ss) d ≡ are_shallow (each service_tree (service_items ss)) d
 unfolding is_shallow
 services_level ss d = ap (λ t. is_shallow t d) (services_tree-out ss)
 

@@ -10,7 +10,7 @@ use Rattle.cdx_push.specs.declared.kinds.LeafKind.TheVariants.{Properties, Exter
 use Rattle.cdx_nest.specs.declared.frames.NestKind.{NestKind}
 use Rattle.cdx_nest.specs.declared.frames.NestKind.TheVariants.{Metadata, Components, Services}
 use Rattle.cdx_nest.specs.Frames as nests
-use Rattle.cdx_bom.specs.Frames.{nest_reads, bill_reads, reader_of, IsNest}
+use Rattle.cdx_bom.specs.Frames.{nest_reads, bill_readers, reader_of, IsNest}
 use Rattle.cdx_bom.specs.declared.push.frame.BillKind.{BillKind}
 use Rattle.cdx_bom.specs.declared.push.frame.BillKind.TheVariants.{Nest, Bill}
 
@@ -51,7 +51,7 @@ nest_in_nest (Some (Nested n)) k e = (n, sym (ap (nested_or k) (some_same e)))
 no_leaf : (l : LeafKind) (k : BillKind) → Some (Leaf l) ≡ Some (Nested k) → IsNest k
 no_leaf l k e = absurd (let wrong : Leaf l ≡ Nested k = some_same e in cc)
 
-nest_in_bill : (i : ℕ) (k : BillKind) → at_position bill_reads i ≡ Some (Nested k) → IsNest k
+nest_in_bill : (i : ℕ) (k : BillKind) → at_position bill_readers i ≡ Some (Nested k) → IsNest k
 nest_in_bill zero k e = (Metadata, sym (ap (nested_or k) (some_same e)))
 nest_in_bill (suc zero) k e = (Components, sym (ap (nested_or k) (some_same e)))
 nest_in_bill (suc (suc zero)) k e = (Services, sym (ap (nested_or k) (some_same e)))

@@ -7,12 +7,12 @@ use Rattle.cdx_code.specs.Records.{commits_tree}
 use Rattle.cdx_patch.specs.Records.{patches_tree}
 use Rattle.cdx_component_parts.specs.Records.{evidence_tree}
 use Rattle.cdx_schema.specs.Table.{rows}
-use Rattle.cdx_nest.specs.Nested.{Component, Component-F, Pedigree-F, ind-Component, fold-roll-Components, former-Component-pedigree, former-Component-components, Components, Pedigree, origin, naming, marks, contents, component_tree, components_tree, pedigree_tree, component_step, components_step, pedigree_step, component_fields, pedigree_fields, listed_components, component_tree-roll, components_tree-out, pedigree_tree-roll, Service, Service-F, ind-Service, fold-roll-Services, former-Service-services, Services, service_naming, service_access, service_contents, service_tree, services_tree, service_step, services_step, service_fields, services_listed, service_tree-roll, services_tree-out}
+use Rattle.cdx_nest.specs.Nested.{Component, Component-F, Pedigree-F, ind-Component, fold-roll-Components, former-Component-pedigree, former-Component-components, Components, Pedigree, origin, naming, marks, component_contents, component_tree, components_tree, pedigree_tree, component_step, components_step, pedigree_step, component_fields, pedigree_fields, component_items, component_tree-roll, components_tree-out, pedigree_tree-roll, Service, Service-F, ind-Service, fold-roll-Services, former-Service-services, Services, service_naming, service_access, service_contents, service_tree, services_tree, service_step, services_step, service_fields, service_items, service_tree-roll, services_tree-out}
 use Rattle.cdx_bom.proofs.Names.{lacks, all_lack, SparesLeaves, both_hold, appended_lack}
 use Rattle.cdx_bom.proofs.Leaves.{texts_lack, row_lacks, list_lacks, references_lack, properties_lack, evidence_lacks, signature_lacks, commits_lack, patches_lack}
 use Rattle.cdx_bom.proofs.Nested.{origin_lack, naming_lack, marks_lack, service_naming_lack, service_access_lack}
 
-contents_lack : {C L P : Type 0} (Q : Name → Bool) → SparesLeaves Q → (l : L → Tree) (p : P → Tree) (c : Component-F C L P) → lacks Q (present p c.pedigree) ≡ true → lacks Q (present l c.components) ≡ true → all_lack Q (contents l p c) ≡ true
+contents_lack : {C L P : Type 0} (Q : Name → Bool) → SparesLeaves Q → (l : L → Tree) (p : P → Tree) (c : Component-F C L P) → lacks Q (present p c.pedigree) ≡ true → lacks Q (present l c.components) ≡ true → all_lack Q (component_contents l p c) ≡ true
 unfolding lacks
 contents_lack Q h l p c i j =
     rw (i, row_lacks Q references_tree (references_lack Q h) c.external_references, row_lacks Q properties_tree (properties_lack Q h) c.properties, j, row_lacks Q evidence_tree (evidence_lacks Q h) c.evidence, row_lacks Q signature_tree (signature_lacks Q h) c.signature) refl
@@ -21,9 +21,9 @@ component_fields_lack : {C L P : Type 0} (Q : Name → Bool) → SparesLeaves Q 
     → lacks Q (fields component (component_fields l p c)) ≡ true
 unfolding lacks rows
 component_fields_lack Q h q l p c i j =
-    let rest = appended_lack Q (marks c) (contents l p c) (marks_lack Q h c) (contents_lack Q h l p c i j) in
-    let named = appended_lack Q (naming c) (marks c ⧺ contents l p c) (naming_lack Q h c) rest in
-    both_hold (not (Q component)) (all_lack Q (component_fields l p c)) (ap not q) (appended_lack Q (origin c) (naming c ⧺ (marks c ⧺ contents l p c)) (origin_lack Q h c) named)
+    let rest = appended_lack Q (marks c) (component_contents l p c) (marks_lack Q h c) (contents_lack Q h l p c i j) in
+    let named = appended_lack Q (naming c) (marks c ⧺ component_contents l p c) (naming_lack Q h c) rest in
+    both_hold (not (Q component)) (all_lack Q (component_fields l p c)) (ap not q) (appended_lack Q (origin c) (naming c ⧺ (marks c ⧺ component_contents l p c)) (origin_lack Q h c) named)
 
 services_fields_lack : {S L : Type 0} (Q : Name → Bool) → SparesLeaves Q → Q service ≡ false → (l : L → Tree) (s : Service-F S L) → lacks Q (present l s.services) ≡ true → lacks Q (fields service (service_fields l s)) ≡ true
 unfolding lacks rows
@@ -80,7 +80,7 @@ component_lacks Q h q =
 
 pub components_lack : (Q : Name → Bool) → SparesLeaves Q → Q component ≡ false → (cs : Components) → lacks Q (components_tree cs) ≡ true
 unfolding lacks
-components_lack Q h q cs = ap (lacks Q) (components_tree-out cs) ∙ list_lacks Q component_tree (component_lacks Q h q) (listed_components cs)
+components_lack Q h q cs = ap (lacks Q) (components_tree-out cs) ∙ list_lacks Q component_tree (component_lacks Q h q) (component_items cs)
 
 pub service_lacks : (Q : Name → Bool) → SparesLeaves Q → Q service ≡ false → (s : Service) → lacks Q (service_tree s) ≡ true
 service_lacks Q h q =
@@ -89,4 +89,4 @@ service_lacks Q h q =
     (λ x y is. ap (lacks Q) (fold-roll-Services Tree Tree service_step services_step x) ∙ subst (λ z. lacks Q (items (trees (map service_tree z.items.items))) ≡ true) is (known_items Q service_tree y.items.items))
 
 pub services_lack : (Q : Name → Bool) → SparesLeaves Q → Q service ≡ false → (ss : Services) → lacks Q (services_tree ss) ≡ true
-services_lack Q h q ss = ap (lacks Q) (services_tree-out ss) ∙ list_lacks Q service_tree (service_lacks Q h q) (services_listed ss)
+services_lack Q h q ss = ap (lacks Q) (services_tree-out ss) ∙ list_lacks Q service_tree (service_lacks Q h q) (service_items ss)

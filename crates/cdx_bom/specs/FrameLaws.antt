@@ -13,7 +13,7 @@ use Rattle.cdx_nest_machine.specs.declared.nested.Reads.TheVariants.{Leaf, Neste
 use Rattle.cdx_nest.specs.Frames as nests
 use Rattle.cdx_nest.specs.FrameLaws as nest_laws
 use Rattle.cdx_nest.specs.declared.frames.NestKind.{NestKind}
-use Rattle.cdx_bom.specs.Frames.{kind_of, nest_reads, bill_reads, reader_of}
+use Rattle.cdx_bom.specs.Frames.{kind_of, nest_reads, bill_readers, reader_of}
 use Rattle.cdx_bom.specs.declared.push.frame.BillKind.{BillKind}
 use Rattle.cdx_bom.specs.declared.push.frame.BillKind.TheVariants.{Nest, Bill}
 
@@ -30,7 +30,7 @@ nest_children_read k i row h =
 pub children_by_rows : (s : BillKind) → ReadsEach leaf_kind_of kind_of (reader_of s) (plan_of (kind_of s)).children
 unfolding rows
 children_by_rows (Nest k) = nest_children_read k
-children_by_rows Bill = reads_listed leaf_kind_of kind_of bill_reads (plan_of (kind_of Bill)).children refl
+children_by_rows Bill = reads_listed leaf_kind_of kind_of bill_readers (plan_of (kind_of Bill)).children refl
 
 pub kinds_nested : (s : BillKind) → IsNested (kind_of s)
 unfolding rows

@@ -50,12 +50,12 @@ nest_reads (Leaf l) = Leaf l
 nest_reads (Nested k) = Nested (kinds.Nest k)
 
 -- in the order of the rows that are children
-abbrev pub bill_reads : List (Reads LeafKind BillKind)
-bill_reads = Nested (kinds.Nest Metadata) ∷ Nested (kinds.Nest Components) ∷ Nested (kinds.Nest Services) ∷ Leaf ExternalReferences ∷ Leaf Dependencies ∷ Leaf Compositions ∷ Leaf Properties ∷ Leaf Signature ∷ []
+abbrev pub bill_readers : List (Reads LeafKind BillKind)
+bill_readers = Nested (kinds.Nest Metadata) ∷ Nested (kinds.Nest Components) ∷ Nested (kinds.Nest Services) ∷ Leaf ExternalReferences ∷ Leaf Dependencies ∷ Leaf Compositions ∷ Leaf Properties ∷ Leaf Signature ∷ []
 
 abbrev pub reader_of : BillKind → ℕ → Option (Reads LeafKind BillKind)
 reader_of (kinds.Nest k) i = option_map nest_reads (nests.reader_of k i)
-reader_of kinds.Bill i = at_position bill_reads i
+reader_of kinds.Bill i = at_position bill_readers i
 
 -- The value is of something that stands in a bill.
 abbrev pub IsNest : BillKind → Type 0

@@ -16,8 +16,8 @@ fields_stay V1_3 l ts = refl
 fields_stay V1_4 l ts = refl
 fields_stay V1_5 l ts = refl
 
-pub bill_stays : (w l : SpecVersion) (x : Bom) → is_absent (kept w l (bom_tree x) a_bill) ≡ false
-bill_stays w l x = fields_stay w l _
+pub kept_bill_there : (w l : SpecVersion) (x : Bom) → is_absent (kept w l (bom_tree x) a_bill) ≡ false
+kept_bill_there w l x = fields_stay w l _
 
 pub label_stays : (w l : SpecVersion) (x : Label) → is_absent (kept w l (named_tree x) a_version) ≡ false
 unfolding kept

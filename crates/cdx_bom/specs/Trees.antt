@@ -18,12 +18,12 @@ label_tree v = text (label v)
 abbrev pub identity : Bom → Trees
 identity b = trees (label_tree b.spec_version ∷ number b.version ∷ present urn_tree b.serial_number ∷ [])
 
-abbrev pub contents : Bom → Trees
-contents b = trees (present components_tree b.components ∷ present services_tree b.services ∷ [])
+abbrev pub bill_contents : Bom → Trees
+bill_contents b = trees (present components_tree b.components ∷ present services_tree b.services ∷ [])
 
 -- with a tree that stands for the metadata
 abbrev pub inventory_with : Tree → Bom → Trees
-inventory_with t b = identity b ⧺ more t (contents b)
+inventory_with t b = identity b ⧺ more t (bill_contents b)
 
 abbrev pub inventory_groups : Bom → Trees
 inventory_groups b = inventory_with (present metadata_tree b.metadata) b

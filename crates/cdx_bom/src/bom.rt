@@ -2,8 +2,8 @@
 
 ghost use Rattle.cdx_schema.specs.Kinds.{a_bill};
 ghost use Rattle.std.specs.Prelude.{◌≡◌, refl, None, ◌↔◌, IsTrue};
-ghost use Rattle.cdx_models.specs.Same.{same};
-ghost use Rattle.cdx_models.specs.SameLaws.{same_laws};
+ghost use Rattle.cdx_models.specs.Equal.{equal};
+ghost use Rattle.cdx_models.specs.EqualLaws.{equal_laws};
 ghost use Rattle.cdx_bom.specs.Trees.{bom_tree};
 
 pub(crate) mod compared;
@@ -21,7 +21,7 @@ use cdx_nest::{Components, Metadata, Services};
 use cdx_relations::{Compositions, Dependencies};
 use cdx_schema::Kinded;
 use cdx_signature::Signature;
-use compared::same_bom;
+use compared::equal_bom;
 use copied::copy_bom;
 use std::alloc::{AllocError, Global};
 
@@ -114,7 +114,7 @@ impl HasTree for Bom {
     }
 
     fn agrees(&self, other: &Bom) -> bool {
-        same_bom(self, other)
+        equal_bom(self, other)
     }
 }
 
@@ -123,14 +123,14 @@ impl Kinded for Bom {
 }
 
 impl PartialEq for Bom {
-    ghost eq = { λ a b. same (bom_tree a) (bom_tree b) };
+    ghost eq = { λ a b. equal (bom_tree a) (bom_tree b) };
 
-    ghost laws = { same_laws bom_tree };
+    ghost laws = { equal_laws bom_tree };
 
     fn eq(&self, other: &Bom) -> bool
-        ensures test { result ≡ same (bom_tree self.now) (bom_tree other.now) }
+        ensures test { result ≡ equal (bom_tree self.now) (bom_tree other.now) }
         ensures equality { IsTrue result ↔ (bom_tree self.now ≡ bom_tree other.now) }
     {
-        self.same(other)
+        self.equals(other)
     }
 }

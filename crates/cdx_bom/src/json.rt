@@ -11,7 +11,7 @@ ghost use Rattle.cdx_schema.specs.Depths.{depth_of};
 ghost use Rattle.cdx_json.specs.Gives.{Gives};
 ghost use Rattle.cdx_bom.specs.Trees.{bom_tree};
 ghost use Rattle.cdx_bom.specs.Groups.{format_text, format_of, bill_by_groups};
-ghost use Rattle.cdx_bom.specs.Stays.{bill_stays};
+ghost use Rattle.cdx_bom.specs.Stays.{kept_bill_there};
 
 mod floats;
 mod keeping;
@@ -42,7 +42,7 @@ impl FromJson for Bom {
 }
 
 impl Kept for Bom {
-    ghost stays = { bill_stays };
+    ghost stays = { kept_bill_there };
 
     fn kept_as(&self, keeping: Keeping) -> Result<Bom, AllocError> {
         let relations = keep_relations(self, keeping)?;

@@ -19,7 +19,7 @@ use Rattle.cdx_nest.specs.declared.tools.Tools.{Tools}
 use Rattle.cdx_nest.specs.declared.tools.Tools.TheVariants as variant
 use Rattle.cdx_nest.specs.Trees.{tools_tree, makers, terms, metadata_tree}
 use Rattle.cdx_bom.specs.declared.bom.Bom.{Bom}
-use Rattle.cdx_bom.specs.Trees.{inventory_groups, contents, relations, inventory_with, bom_tree}
+use Rattle.cdx_bom.specs.Trees.{inventory_groups, bill_contents, relations, inventory_with, bom_tree}
 use Rattle.cdx_bom.proofs.Names.{SparesLeaves, lacks, all_lack, appended_lack}
 use Rattle.cdx_bom.proofs.Leaves.{texts_lack, row_lacks, list_lacks, urn_lacks, contact_lacks, entity_lacks, licenses_lack, tool_lacks, properties_lack}
 use Rattle.cdx_bom.proofs.Whole.{component_lacks, components_lack, services_lack}
@@ -154,7 +154,7 @@ spelled_as_is b m e f = spelled_same b (ap (λ o. settled (present metadata_tree
 pub spelled_anew : (b : Bom) (m : Metadata) → b.metadata ≡ Some m
     → with_part (codes "metadata") (jspell (settled (metadata_tree m) (a_record metadata)) V1_5 (a_record metadata)) (value (keep V1_5 (bom_tree b) a_bill)) ≡ value (plain (bom_tree b))
 spelled_anew b m e =
-    let whole = metadata_anew (text (label V1_5)) (number b.version) (present urn_tree b.serial_number) (makers m ⧺ terms m) (makers_settled m) (contents b ⧺ relations b) in
+    let whole = metadata_anew (text (label V1_5)) (number b.version) (present urn_tree b.serial_number) (makers m ⧺ terms m) (makers_settled m) (bill_contents b ⧺ relations b) in
     let settle : settled (metadata_tree m) (a_record metadata) ≡ fields metadata (makers_settled m) = metadata_is m in
     ap (λ t. with_part (codes "metadata") (jspell t V1_5 (a_record metadata)) (value (keep V1_5 (bom_tree b) a_bill))) settle
     ∙ (ap (λ t. with_part (codes "metadata") (jspell (fields metadata (makers_settled m)) V1_5 (a_record metadata)) (value t)) (kept_is b ∙ ap (λ o. described b (present metadata_tree o)) e)

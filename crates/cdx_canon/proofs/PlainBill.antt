@@ -9,7 +9,7 @@ use Rattle.cdx_schema.specs.Held.{held_kind}
 use Rattle.cdx_schema.specs.Table.{rows}
 use Rattle.cdx_schema.specs.Depth.{Depth, inside, name_too_deep}
 use Rattle.cdx_schema.specs.Keeping.{is_shallow, are_shallow}
-use Rattle.cdx_schema.specs.Trips.{settled, items_settled, rows_settled, settled_items}
+use Rattle.cdx_schema.specs.Trips.{settled, items_settled, rows_settled, list_settled}
 use Rattle.cdx_schema.specs.Membership.{IsOfAll, AreOfAll, AreFieldsAll, IsListKind, IsRecordOf, may_lack}
 use Rattle.cdx_schema.proofs.Alike.{settled_there, settled_more}
 use Rattle.cdx_schema.proofs.TrippedOf.{more_is}
@@ -36,7 +36,7 @@ use Rattle.cdx_schema.proofs.Sound.{both}
 
 -- ---- settling twice
 
-none_twice : (k : Kind) → settled (settled_items k none) k ≡ settled_items k none
+none_twice : (k : Kind) → settled (list_settled k none) k ≡ list_settled k none
 unfolding settled rows
 none_twice a_tools = refl
 none_twice _ = refl
@@ -52,7 +52,7 @@ mutual
   settled_twice (items none) k = none_twice k
   settled_twice (items (more t ts)) k =
       ap (λ x. settled x k) (settled_more k (settled t (held_kind k)) (items_settled ts (held_kind k)))
-      ∙ ap (settled_items k) (more_is (settled_twice t (held_kind k)) (items_settled_twice ts (held_kind k)))
+      ∙ ap (list_settled k) (more_is (settled_twice t (held_kind k)) (items_settled_twice ts (held_kind k)))
   settled_twice (fields n ts) k = ap (fields n) (rows_settled_twice ts (rows n))
 
   items_settled_twice : (ts : Trees) (k : Kind) → items_settled (items_settled ts k) k ≡ items_settled ts k
@@ -66,7 +66,7 @@ mutual
 
 -- ---- its kind
 
-list_of_settled : (Q : List ℕ → Type 0) (k : Kind) (ts : Trees) → IsListKind k → AreOfAll Q ts (held_kind k) → IsOfAll Q (settled_items k ts) k
+list_of_settled : (Q : List ℕ → Type 0) (k : Kind) (ts : Trees) → IsListKind k → AreOfAll Q ts (held_kind k) → IsOfAll Q (list_settled k ts) k
 unfolding rows
 list_of_settled Q a_tools none is h = (refl, (inl (refl, refl), (inl (refl, refl), tt)))
 list_of_settled Q a_tools (more t ts) is h = (is, h)
@@ -120,7 +120,7 @@ mutual
 
 -- ---- its depth
 
-list_depth : (k : Kind) (ts : Trees) (d : Depth) → is_shallow (settled_items k ts) d ≡ are_shallow ts d
+list_depth : (k : Kind) (ts : Trees) (d : Depth) → is_shallow (list_settled k ts) d ≡ are_shallow ts d
 unfolding is_shallow
 list_depth a_tools none d = refl
 list_depth a_tools (more t ts) d = refl

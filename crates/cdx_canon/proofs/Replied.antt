@@ -6,7 +6,7 @@ use Rattle.std.specs.declared.alloc.AllocError.{AllocError}
 use Rattle.serde_json.specs.Data.{Data, string, Members}
 use Rattle.serde_json.specs.Written.{has_float}
 use Rattle.cdx_models.specs.Trees.{Tree}
-use Rattle.cdx_models.specs.SameLaws.{same-Decides}
+use Rattle.cdx_models.specs.EqualLaws.{equal-Decides}
 use Rattle.cdx_request.specs.Refusals.{refused as refusal}
 use Rattle.cdx_request.specs.Requests.{Misread, not_json, shape, unbalanced, document_in_json}
 use Rattle.cdx_request.specs.Replies.{Reply, reply, line_of, no_request, reply_to_misread, limit}
@@ -14,7 +14,7 @@ use Rattle.cdx_tool.specs.Owed.{reply_by, IsSettled}
 use Rattle.cdx_tool.specs.Run.{Tells, Ends}
 use Rattle.cdx_tool.specs.Shows.{reply_of}
 use Rattle.cdx_tool.specs.declared.answer.Answer.{Answer}
-use Rattle.cdx_tool.specs.Asks.{Asked, asked_of, Lack, misread, bill_refused, bill_of, bill_in, reply_to_lack, reply_to_bill, AsksFor}
+use Rattle.cdx_tool.specs.Asks.{Inquiry, inquiry_of, WhyNoBill, misread, bill_refused, bill_of, bill_in, reply_to_lack, reply_to_bill, AsksFor}
 use Rattle.cdx_canon.specs.Canon.{plain, canon}
 use Rattle.cdx_canon.specs.Answers.{canonical_answer, is_equal, equality_answer, refused_on, Pair, pair_of, reply_on, reply_beside, reply_to_bills, is_shaped, reply_to_sides, reply_to_pair, reply_if_value, owed, AsksForBoth, TellsEqual}
 use Rattle.cdx_canon.specs.Plain.{with_part}
@@ -30,20 +30,20 @@ told b c = reply 0 (equality_answer (is_equal b c))
 
 -- ---- each reply has status 0, 1 or 2
 
-on_settled : (side : List ℕ) (next : Tree → Reply) (r : Result Tree Lack) → ((b : Tree) → IsSettled (next b).status) → IsSettled (reply_on side next r).status
+on_settled : (side : List ℕ) (next : Tree → Reply) (r : Result Tree WhyNoBill) → ((b : Tree) → IsSettled (next b).status) → IsSettled (reply_on side next r).status
 on_settled side next (Ok b) h = h b
 on_settled side next (Err (bill_refused r)) h = inr (inl refl)
 on_settled side next (Err (misread not_json)) h = inr (inr refl)
 on_settled side next (Err (misread shape)) h = inr (inr refl)
 on_settled side next (Err (misread (unbalanced place))) h = inr (inl refl)
 
-if_settled : (shaped : Bool) (left right : Result Tree Lack) → IsSettled (cond shaped (reply_to_bills left right) (reply_to_misread shape)).status
+if_settled : (shaped : Bool) (left right : Result Tree WhyNoBill) → IsSettled (cond shaped (reply_to_bills left right) (reply_to_misread shape)).status
 if_settled true left right = on_settled (codes "left") (reply_beside right) left (λ b. on_settled (codes "right") (told b) right (λ c. inl refl))
 if_settled false left right = inr (inr refl)
 
 pub pair_settled : (p : Option Pair) → IsSettled (reply_to_pair p).status
 pair_settled None = inr (inr refl)
-pair_settled (Some p) = if_settled (is_shaped (asked_of p.left) && is_shaped (asked_of p.right)) (bill_of (asked_of p.left)) (bill_of (asked_of p.right))
+pair_settled (Some p) = if_settled (is_shaped (inquiry_of p.left) && is_shaped (inquiry_of p.right)) (bill_of (inquiry_of p.left)) (bill_of (inquiry_of p.right))
 
 -- ---- status 0
 
@@ -55,30 +55,30 @@ misread_unserved not_json h = no_0 1 h
 misread_unserved shape h = no_0 1 h
 misread_unserved (unbalanced place) h = no_0 0 h
 
-lack_unserved : (l : Lack) → (reply_to_lack l).status ≡ 0 → ⊥
+lack_unserved : (l : WhyNoBill) → (reply_to_lack l).status ≡ 0 → ⊥
 lack_unserved (misread e) h = misread_unserved e h
 lack_unserved (bill_refused r) h = no_0 0 h
 
 -- the reply to one bill
-billed : (f : Tree → Data) (r : Result Tree Lack) → (reply_to_bill f r).status ≡ 0 → (b : Tree) × (r ≡ Ok b) × ((reply_to_bill f r).text ≡ line_of (f b))
+billed : (f : Tree → Data) (r : Result Tree WhyNoBill) → (reply_to_bill f r).status ≡ 0 → (b : Tree) × (r ≡ Ok b) × ((reply_to_bill f r).text ≡ line_of (f b))
 billed f (Ok b) h = (b, refl, refl)
 billed f (Err l) h = absurd (lack_unserved l h)
 
 -- the reply to one side goes on from its bill
-goes_on : (side : List ℕ) (next : Tree → Reply) (r : Result Tree Lack) → (reply_on side next r).status ≡ 0 → (b : Tree) × (r ≡ Ok b) × (reply_on side next r ≡ next b)
+goes_on : (side : List ℕ) (next : Tree → Reply) (r : Result Tree WhyNoBill) → (reply_on side next r).status ≡ 0 → (b : Tree) × (r ≡ Ok b) × (reply_on side next r ≡ next b)
 goes_on side next (Ok b) h = (b, refl, refl)
 goes_on side next (Err (bill_refused r)) h = absurd (no_0 0 h)
 goes_on side next (Err (misread not_json)) h = absurd (no_0 1 h)
 goes_on side next (Err (misread shape)) h = absurd (no_0 1 h)
 goes_on side next (Err (misread (unbalanced place))) h = absurd (no_0 0 h)
 
-bills_told : (left right : Result Tree Lack) → (reply_to_bills left right).status ≡ 0 → (b : Tree) × (c : Tree) × (left ≡ Ok b) × (right ≡ Ok c) × (reply_to_bills left right ≡ told b c)
+bills_told : (left right : Result Tree WhyNoBill) → (reply_to_bills left right).status ≡ 0 → (b : Tree) × (c : Tree) × (left ≡ Ok b) × (right ≡ Ok c) × (reply_to_bills left right ≡ told b c)
 bills_told left right h =
     let l = goes_on (codes "left") (reply_beside right) left h in
     let r = goes_on (codes "right") (told l.0) right (ap (λ (x : Reply). x.status) (sym l.2) ∙ h) in
     (l.0, r.0, l.1, r.1, l.2 ∙ r.2)
 
-sides_told : (shaped : Bool) (left right : Result Tree Lack) → (cond shaped (reply_to_bills left right) (reply_to_misread shape)).status ≡ 0
+sides_told : (shaped : Bool) (left right : Result Tree WhyNoBill) → (cond shaped (reply_to_bills left right) (reply_to_misread shape)).status ≡ 0
     → (b : Tree) × (c : Tree) × (left ≡ Ok b) × (right ≡ Ok c) × (cond shaped (reply_to_bills left right) (reply_to_misread shape) ≡ told b c)
 sides_told true left right h = bills_told left right h
 sides_told false left right h = absurd (no_0 1 h)
@@ -86,7 +86,7 @@ sides_told false left right h = absurd (no_0 1 h)
 pair_told : (o : Option Pair) → (reply_to_pair o).status ≡ 0 → (p : Pair) × (b : Tree) × (c : Tree) × (o ≡ Some p) × (bill_in p.left ≡ Ok b) × (bill_in p.right ≡ Ok c) × (reply_to_pair o ≡ told b c)
 pair_told None h = absurd (no_0 1 h)
 pair_told (Some p) h =
-    let t = sides_told (is_shaped (asked_of p.left) && is_shaped (asked_of p.right)) (bill_of (asked_of p.left)) (bill_of (asked_of p.right)) h in
+    let t = sides_told (is_shaped (inquiry_of p.left) && is_shaped (inquiry_of p.right)) (bill_of (inquiry_of p.left)) (bill_of (inquiry_of p.right)) h in
     (p, t.0, t.1, refl, t.2, t.3, t.4)
 
 text_value : (o : Option Data) → (reply_if_value Text o).status ≡ 0 → (d : Data) × (b : Tree) × (o ≡ Some d) × (bill_in d ≡ Ok b) × ((reply_if_value Text o).text ≡ line_of (canonical_answer b))
@@ -100,8 +100,8 @@ equal_value (Some d) h = let t = pair_told (pair_of d) h in (d, t.0, t.1, t.2, r
 
 -- the line tells whether the plain bills are equal
 tells_equal : (before now : Option (List ℕ)) (b c : Tree) (is : Bool) → is_equal b c ≡ is → Appends before now (line_of (equality_answer is)) → TellsEqual before now b c
-tells_equal before now b c true is put = inl ((same-Decides (plain b) (plain c)).0 is, put)
-tells_equal before now b c false is put = inr ((λ e. false≢true (sym is ∙ (same-Decides (plain b) (plain c)).1 e)), put)
+tells_equal before now b c true is put = inl ((equal-Decides (plain b) (plain c)).0 is, put)
+tells_equal before now b c false is put = inr ((λ e. false≢true (sym is ∙ (equal-Decides (plain b) (plain c)).1 e)), put)
 
 -- ---- how a run of status 0 ends
 
@@ -143,17 +143,17 @@ equal_served o left before now words bytes status flushed is zero_is tells end e
 
 -- ---- the two sides
 
-pub sides_shaped : (l r : Result Asked Misread) (left right : Side) → IsSide l left → IsSide r right → reply_to_bills (bill_of l) (bill_of r) ≡ reply_to_sides l r
+pub sides_shaped : (l r : Result Inquiry Misread) (left right : Side) → IsSide l left → IsSide r right → reply_to_bills (bill_of l) (bill_of r) ≡ reply_to_sides l r
 sides_shaped l r left right is_left is_right = rw (is_shaped_side l left is_left, is_shaped_side r right is_right) refl
   where
-    is_shaped_side : (owed : Result Asked Misread) (s : Side) → IsSide owed s → is_shaped owed ≡ true
+    is_shaped_side : (owed : Result Inquiry Misread) (s : Side) → IsSide owed s → is_shaped owed ≡ true
     is_shaped_side owed (variant.Question q) is = ap is_shaped is.1
     is_shaped_side owed (variant.Unbalanced place) is = ap is_shaped is
 
-pub shapeless_left : (l r : Result Asked Misread) → l ≡ Err shape → reply_to_misread shape ≡ reply_to_sides l r
+pub shapeless_left : (l r : Result Inquiry Misread) → l ≡ Err shape → reply_to_misread shape ≡ reply_to_sides l r
 shapeless_left l r is = rw is refl
 
-pub shapeless_right : (l r : Result Asked Misread) → r ≡ Err shape → reply_to_misread shape ≡ reply_to_sides l r
+pub shapeless_right : (l r : Result Inquiry Misread) → r ≡ Err shape → reply_to_misread shape ≡ reply_to_sides l r
 shapeless_right l r is = rw is (unshaped (is_shaped l) _)
   where
     unshaped : (b : Bool) (x : Reply) → reply_to_misread shape ≡ cond (b && false) x (reply_to_misread shape)

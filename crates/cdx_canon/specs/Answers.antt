@@ -6,7 +6,7 @@ use Rattle.serde_json.specs.Data.{Data, boolean, object, Members, no_members, me
 use Rattle.serde_json.specs.Find.{get}
 use Rattle.cdx_models.specs.declared.bom.SpecVersion.TheVariants.{V1_5}
 use Rattle.cdx_models.specs.Trees.{Tree}
-use Rattle.cdx_models.specs.Same.{same}
+use Rattle.cdx_models.specs.Equal.{equal}
 use Rattle.cdx_schema.specs.Kinds.{a_bill}
 use Rattle.cdx_schema.specs.JsonSpelling.{jspell}
 use Rattle.cdx_request.specs.Parts.{member_count}
@@ -14,7 +14,7 @@ use Rattle.cdx_request.specs.Refusals.{only, a_text, refusal_members, unbalanced
 use Rattle.cdx_request.specs.Requests.{Misread, not_json, shape, unbalanced, document_in_json}
 use Rattle.cdx_request.specs.Replies.{Reply, line_of, reply, reply_to_misread}
 use Rattle.cdx_tool.specs.Owed.{reply_by}
-use Rattle.cdx_tool.specs.Asks.{Asked, asked_of, Lack, misread, bill_refused, bill_of, bill_in, reply_to_bill}
+use Rattle.cdx_tool.specs.Asks.{Inquiry, inquiry_of, WhyNoBill, misread, bill_refused, bill_of, bill_in, reply_to_bill}
 use Rattle.cdx_canon.specs.Canon.{plain}
 use Rattle.cdx_canon.specs.Words.{command_of}
 use Rattle.cdx_canon.specs.declared.words.Command.{Command}
@@ -28,9 +28,9 @@ canonical_answer b = jspell (plain b) V1_5 a_bill
 
 -- ---- `equal`
 
--- Whether two bills have one plain bill, so that they are the same but for the label.
+-- Whether two bills have one plain bill, so that they are the equal but for the label.
 abbrev pub is_equal : Tree → Tree → Bool
-is_equal b c = same (plain b) (plain c)
+is_equal b c = equal (plain b) (plain c)
 
 abbrev pub equality_answer : Bool → Data
 equality_answer b = only (codes "equal") (boolean b)
@@ -54,31 +54,31 @@ abbrev pub refused_on : List ℕ → Members → Data
 refused_on side ms = object (member (codes "refused") (object ms) (a_text (codes "side") side no_members))
 
 -- What is replied to one side: what goes on from its bill, or why there is none. A value that is no question has no side.
-abbrev pub reply_on : List ℕ → (Tree → Reply) → Result Tree Lack → Reply
+abbrev pub reply_on : List ℕ → (Tree → Reply) → Result Tree WhyNoBill → Reply
 reply_on side next (Ok b) = next b
 reply_on side next (Err (bill_refused r)) = reply 1 (refused_on side (refusal_members r))
 reply_on side next (Err (misread (unbalanced place))) = reply 1 (refused_on side (unbalanced_members place))
 reply_on side next (Err (misread e)) = reply_to_misread e
 
 -- to the right side, beside the left side's bill
-abbrev pub reply_beside : Result Tree Lack → Tree → Reply
+abbrev pub reply_beside : Result Tree WhyNoBill → Tree → Reply
 reply_beside right b = reply_on (codes "right") (λ c. reply 0 (equality_answer (is_equal b c))) right
 
 -- The left side comes first: all that is refused of it comes before all that is refused of the right side.
-abbrev pub reply_to_bills : Result Tree Lack → Result Tree Lack → Reply
+abbrev pub reply_to_bills : Result Tree WhyNoBill → Result Tree WhyNoBill → Reply
 reply_to_bills left right = reply_on (codes "left") (reply_beside right) left
 
-abbrev pub is_shaped : Result Asked Misread → Bool
+abbrev pub is_shaped : Result Inquiry Misread → Bool
 is_shaped (Err shape) = false
 is_shaped _ = true
 
 -- But the shape of both sides comes before anything else.
-abbrev pub reply_to_sides : Result Asked Misread → Result Asked Misread → Reply
+abbrev pub reply_to_sides : Result Inquiry Misread → Result Inquiry Misread → Reply
 reply_to_sides left right = if is_shaped left && is_shaped right then reply_to_bills (bill_of left) (bill_of right) else reply_to_misread shape
 
 abbrev pub reply_to_pair : Option Pair → Reply
 reply_to_pair None = reply_to_misread shape
-reply_to_pair (Some p) = reply_to_sides (asked_of p.left) (asked_of p.right)
+reply_to_pair (Some p) = reply_to_sides (inquiry_of p.left) (inquiry_of p.right)
 
 -- ---- what is replied
 

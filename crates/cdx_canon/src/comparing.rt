@@ -12,7 +12,7 @@ ghost use Rattle.cdx_request.specs.Replies.{Reply, reply};
 ghost use Rattle.cdx_bom.specs.Docs.{refusal_of};
 ghost use Rattle.cdx_bom.specs.Trees.{bom_tree};
 ghost use Rattle.cdx_tool.specs.Shows.{reply_of};
-ghost use Rattle.cdx_tool.specs.Asks.{Asked, asked_of, bill_of as bill_owed, GivesBill, Lack, Lacks};
+ghost use Rattle.cdx_tool.specs.Asks.{Inquiry, inquiry_of, bill_of as bill_owed, GivesBill, WhyNoBill, Lacks};
 ghost use Rattle.cdx_canon.specs.Answers.{is_equal, equality_answer, pair_of, refused_on, reply_on, reply_beside, reply_to_bills, reply_to_sides, reply_to_pair};
 ghost use Rattle.cdx_canon.specs.Sides.{pair_view, IsSide, ReadsSide};
 
@@ -59,7 +59,7 @@ fn take_pair(value: Value) -> Option<(Value, Value)>
 
 // The question that a value is, if it has the shape of one. That its events break is kept for later.
 fn read_side(alloc: Global, value: Value) -> Result<Option<Side>, AllocError>
-    ensures { IfOk result (ReadsSide (asked_of (view value))) }
+    ensures { IfOk result (ReadsSide (inquiry_of (view value))) }
 {
     match read_question(alloc, value) {
         Ok(question) => Ok(Some(Side::Question(question))),
@@ -70,7 +70,7 @@ fn read_side(alloc: Global, value: Value) -> Result<Option<Side>, AllocError>
 }
 
 fn bill_of(alloc: Global, side: Side) -> Result<Bom, NoBill>
-    ensures { (owed : Owed Asked Misread) → IsSide owed side → GivesBill (bill_owed owed) result }
+    ensures { (owed : Owed Inquiry Misread) → IsSide owed side → GivesBill (bill_owed owed) result }
 {
     match side {
         Side::Question(question) => Ok(into_bill(alloc, question.doc, question.from)?),
@@ -110,8 +110,8 @@ fn answer_refused(alloc: Global, side: &str, error: &RoadError) -> Result<Answer
 
 // The answer where a side has no bill.
 fn answer_lack_on(alloc: Global, side: &str, lack: NoBill) -> Result<Answer, AllocError>
-    requires { (owed : Owed Tree Lack) × Lacks owed lack }
-    ensures { (owed : Owed Tree Lack) (next : Tree → Reply) → Lacks owed lack
+    requires { (owed : Owed Tree WhyNoBill) × Lacks owed lack }
+    ensures { (owed : Owed Tree WhyNoBill) (next : Tree → Reply) → Lacks owed lack
         → IfOk result (λ a. reply_of a ≡ reply_on side.now next owed) }
 {
     match lack {
@@ -147,8 +147,8 @@ fn answer_equal(alloc: Global, left: Bom, right: Bom) -> Result<Answer, AllocErr
 
 // What is answered to the right side, beside the left side's bill.
 fn answer_right(alloc: Global, left: Bom, right: Side) -> Result<Answer, AllocError>
-    requires { (r : Owed Asked Misread) × IsSide r right }
-    ensures { (r : Owed Asked Misread) → IsSide r right
+    requires { (r : Owed Inquiry Misread) × IsSide r right }
+    ensures { (r : Owed Inquiry Misread) → IsSide r right
         → IfOk result (λ a. reply_of a ≡ reply_beside (bill_owed r) (bom_tree left)) }
 {
     match bill_of(alloc, right) {
@@ -159,9 +159,9 @@ fn answer_right(alloc: Global, left: Bom, right: Side) -> Result<Answer, AllocEr
 
 // The left side comes first.
 fn answer_sides(alloc: Global, left: Side, right: Side) -> Result<Answer, AllocError>
-    requires left { (l : Owed Asked Misread) × IsSide l left }
-    requires right { (r : Owed Asked Misread) × IsSide r right }
-    ensures { (l : Owed Asked Misread) (r : Owed Asked Misread) → IsSide l left → IsSide r right
+    requires left { (l : Owed Inquiry Misread) × IsSide l left }
+    requires right { (r : Owed Inquiry Misread) × IsSide r right }
+    ensures { (l : Owed Inquiry Misread) (r : Owed Inquiry Misread) → IsSide l left → IsSide r right
         → IfOk result (λ a. reply_of a ≡ reply_to_bills (bill_owed l) (bill_owed r)) }
 {
     match bill_of(alloc, left) {
@@ -172,9 +172,9 @@ fn answer_sides(alloc: Global, left: Side, right: Side) -> Result<Answer, AllocE
 
 // The same of a right side that has yet to be read. Its shape comes before all that is refused of either side.
 fn answer_beside(alloc: Global, left: Side, right: Value) -> Result<Answer, AllocError>
-    requires { (l : Owed Asked Misread) × IsSide l left }
-    ensures { (l : Owed Asked Misread) → IsSide l left
-        → IfOk result (λ a. reply_of a ≡ reply_to_sides l (asked_of (view right))) }
+    requires { (l : Owed Inquiry Misread) × IsSide l left }
+    ensures { (l : Owed Inquiry Misread) → IsSide l left
+        → IfOk result (λ a. reply_of a ≡ reply_to_sides l (inquiry_of (view right))) }
 {
     let right = read_side(alloc, right)?;
     match right {
@@ -185,7 +185,7 @@ fn answer_beside(alloc: Global, left: Side, right: Value) -> Result<Answer, Allo
 
 fn answer_both(alloc: Global, left: Value, right: Value) -> Result<Answer, AllocError>
     ensures { IfOk result
-        (λ a. reply_of a ≡ reply_to_sides (asked_of (view left)) (asked_of (view right))) }
+        (λ a. reply_of a ≡ reply_to_sides (inquiry_of (view left)) (inquiry_of (view right))) }
 {
     let left = read_side(alloc, left)?;
     match left {

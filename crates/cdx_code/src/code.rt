@@ -3,12 +3,12 @@
 ghost use Rattle.cdx_models.specs.Trees.{action, commit};
 ghost use Rattle.cdx_schema.specs.Kinds.{a_list, commits};
 ghost use Rattle.std.specs.Prelude.{refl, ◌≡◌, ◌↔◌, IsTrue};
-ghost use Rattle.cdx_models.specs.Same.{same};
-ghost use Rattle.cdx_models.specs.SameLaws.{same_laws};
+ghost use Rattle.cdx_models.specs.Equal.{equal};
+ghost use Rattle.cdx_models.specs.EqualLaws.{equal_laws};
 ghost use Rattle.cdx_code.specs.Records.{action_tree, commit_tree, commits_tree};
 
 use cdx_events::{List, Text};
-use cdx_models::{HasTree, copy_row, same_row};
+use cdx_models::{HasTree, copy_row, equal_row};
 use cdx_schema::{Kinded, Record};
 use std::alloc::{AllocError, Global};
 
@@ -37,9 +37,9 @@ impl HasTree for IdentifiableAction {
     }
 
     fn agrees(&self, other: &IdentifiableAction) -> bool {
-        same_row(&self.timestamp, &other.timestamp)
-            && same_row(&self.name, &other.name)
-            && same_row(&self.email, &other.email)
+        equal_row(&self.timestamp, &other.timestamp)
+            && equal_row(&self.name, &other.name)
+            && equal_row(&self.email, &other.email)
     }
 }
 
@@ -52,15 +52,15 @@ impl Record for IdentifiableAction {
 }
 
 impl PartialEq for IdentifiableAction {
-    ghost eq = { λ a b. same (action_tree a) (action_tree b) };
+    ghost eq = { λ a b. equal (action_tree a) (action_tree b) };
 
-    ghost laws = { same_laws action_tree };
+    ghost laws = { equal_laws action_tree };
 
     fn eq(&self, other: &IdentifiableAction) -> bool
-        ensures test { result ≡ same (action_tree self.now) (action_tree other.now) }
+        ensures test { result ≡ equal (action_tree self.now) (action_tree other.now) }
         ensures equality { IsTrue result ↔ (action_tree self.now ≡ action_tree other.now) }
     {
-        self.same(other)
+        self.equals(other)
     }
 }
 
@@ -108,11 +108,11 @@ impl HasTree for Commit {
     }
 
     fn agrees(&self, other: &Commit) -> bool {
-        same_row(&self.uid, &other.uid)
-            && same_row(&self.url, &other.url)
-            && same_row(&self.author, &other.author)
-            && same_row(&self.committer, &other.committer)
-            && same_row(&self.message, &other.message)
+        equal_row(&self.uid, &other.uid)
+            && equal_row(&self.url, &other.url)
+            && equal_row(&self.author, &other.author)
+            && equal_row(&self.committer, &other.committer)
+            && equal_row(&self.message, &other.message)
     }
 }
 
@@ -125,15 +125,15 @@ impl Record for Commit {
 }
 
 impl PartialEq for Commit {
-    ghost eq = { λ a b. same (commit_tree a) (commit_tree b) };
+    ghost eq = { λ a b. equal (commit_tree a) (commit_tree b) };
 
-    ghost laws = { same_laws commit_tree };
+    ghost laws = { equal_laws commit_tree };
 
     fn eq(&self, other: &Commit) -> bool
-        ensures test { result ≡ same (commit_tree self.now) (commit_tree other.now) }
+        ensures test { result ≡ equal (commit_tree self.now) (commit_tree other.now) }
         ensures equality { IsTrue result ↔ (commit_tree self.now ≡ commit_tree other.now) }
     {
-        self.same(other)
+        self.equals(other)
     }
 }
 
@@ -160,14 +160,14 @@ impl Kinded for Commits {
 }
 
 impl PartialEq for Commits {
-    ghost eq = { λ a b. same (commits_tree a) (commits_tree b) };
+    ghost eq = { λ a b. equal (commits_tree a) (commits_tree b) };
 
-    ghost laws = { same_laws commits_tree };
+    ghost laws = { equal_laws commits_tree };
 
     fn eq(&self, other: &Commits) -> bool
-        ensures test { result ≡ same (commits_tree self.now) (commits_tree other.now) }
+        ensures test { result ≡ equal (commits_tree self.now) (commits_tree other.now) }
         ensures equality { IsTrue result ↔ (commits_tree self.now ≡ commits_tree other.now) }
     {
-        self.same(other)
+        self.equals(other)
     }
 }

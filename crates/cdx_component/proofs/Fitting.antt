@@ -19,7 +19,7 @@ use Rattle.cdx_component.specs.declared.component.Component.TheOpen.{Component-F
 use Rattle.cdx_component.specs.declared.component.Component.TheViews.{out-Component, out-Pedigree}
 use Rattle.cdx_component.specs.declared.component.Components.{Components}
 use Rattle.cdx_component.specs.declared.component.Pedigree.{Pedigree}
-use Rattle.cdx_component.specs.Trees.{component_tree, components_tree, pedigree_tree, component_fields, pedigree_fields, listed_components}
+use Rattle.cdx_component.specs.Trees.{component_tree, components_tree, pedigree_tree, component_fields, pedigree_fields, component_items}
 use Rattle.cdx_component.specs.Laws.{component_tree-out, components_tree-out, pedigree_tree-out}
 use Rattle.cdx_component.proofs.LeavesFit.{text_fit, text_fits, boolean_fits, row_fits, entity_fits, hashes_fit, licenses_fit, references_fit, properties_fit, signature_fits, commits_fit, patches_fit, swid_fits, evidence_fits}
 
@@ -75,7 +75,7 @@ pub pedigree_has : (p : Pedigree) → has_versions (pedigree_tree p) (a_record p
     ≡ (has_versions (present components_tree (out-Pedigree p).ancestors) (a_list components) && (has_versions (present components_tree (out-Pedigree p).descendants) (a_list components) && has_versions (present components_tree (out-Pedigree p).variants) (a_list components)))
 pedigree_has p = ap (λ t. has_versions t (a_record pedigree)) (pedigree_tree-out p) ∙ pedigree_level_has (out-Pedigree p)
 
-pub components_have : (cs : Components) → has_versions (components_tree cs) (a_list components) ≡ items_have_versions (each component_tree (listed_components cs)) (a_record component)
+pub components_have : (cs : Components) → has_versions (components_tree cs) (a_list components) ≡ items_have_versions (each component_tree (component_items cs)) (a_record component)
 unfolding has_versions list
 components_have cs = ap (λ t. has_versions t (a_list components)) (components_tree-out cs)
 

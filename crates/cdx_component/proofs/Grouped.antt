@@ -21,7 +21,7 @@ use Rattle.cdx_component.specs.declared.component.Component.TheOpen.{Component-F
 use Rattle.cdx_component.specs.declared.component.Component.TheViews.{out-Component, out-Pedigree, roll-Pedigree}
 use Rattle.cdx_component.specs.declared.component.Components.{Components}
 use Rattle.cdx_component.specs.declared.component.Pedigree.{Pedigree}
-use Rattle.cdx_component.specs.Trees.{component_tree, components_tree, pedigree_tree, origin, naming, marks, contents, component_fields, pedigree_fields}
+use Rattle.cdx_component.specs.Trees.{component_tree, components_tree, pedigree_tree, origin, naming, marks, component_contents, component_fields, pedigree_fields}
 use Rattle.cdx_component.specs.Laws.{component_tree-out, pedigree_tree-out, pedigree_tree-roll}
 use Rattle.cdx_schema.specs.Groups.{group}
 use Rattle.cdx_json.specs.Groups.{group_read}
@@ -56,11 +56,11 @@ marks_count x = refl
 
 pub component_kept : (w l : SpecVersion) (t : Tree) (c : Component) (a b d e : Trees) → t ≡ fields component (a ⧺ (b ⧺ (d ⧺ e)))
     → a ≡ rows_held w l (origin (out-Component c)) (group 0 component) → b ≡ rows_held w l (naming (out-Component c)) (group 1 component)
-    → d ≡ rows_held w l (marks (out-Component c)) (group 2 component) → e ≡ rows_held w l (contents components_tree pedigree_tree (out-Component c)) (group 3 component)
+    → d ≡ rows_held w l (marks (out-Component c)) (group 2 component) → e ≡ rows_held w l (component_contents components_tree pedigree_tree (out-Component c)) (group 3 component)
     → t ≡ kept w l (component_tree c) (a_record component)
 component_kept w l t c a b d e is p q r s =
     let x = out-Component c in
-    is ∙ ap (fields component) (four_equal a b d e _ _ _ _ p q r s ∙ sym (held_four w l component (origin x) (naming x) (marks x) (contents components_tree pedigree_tree x) (group 0 component) (group 1 component) (group 2 component) (group 3 component) component_rows (origin_counts x) (naming_counts x) (marks_count x)))
+    is ∙ ap (fields component) (four_equal a b d e _ _ _ _ p q r s ∙ sym (held_four w l component (origin x) (naming x) (marks x) (component_contents components_tree pedigree_tree x) (group 0 component) (group 1 component) (group 2 component) (group 3 component) component_rows (origin_counts x) (naming_counts x) (marks_count x)))
     ∙ record_held w l component (fields component (component_fields components_tree pedigree_tree x)) refl ∙ ap (λ u. kept w l u (a_record component)) (sym (component_tree-out c))
 
 pub pedigree_kept : (w l : SpecVersion) (x : Pedigree-F Component Components Pedigree) (p : Pedigree) → pedigree_fields components_tree x ≡ rows_held w l (pedigree_fields components_tree (out-Pedigree p)) (rows pedigree)
@@ -69,12 +69,12 @@ pedigree_kept w l x p e =
     pedigree_tree-roll x ∙ ap (fields pedigree) e ∙ record_held w l pedigree (fields pedigree (pedigree_fields components_tree (out-Pedigree p))) refl ∙ ap (λ u. kept w l u (a_record pedigree)) (sym (pedigree_tree-out p))
 
 pub component_spelled : (m : BTreeMap (String Global) Value) (c : Component) (w : SpecVersion)
-    → members_view m.entries ≡ rows_put (contents components_tree pedigree_tree (out-Component c)) w (group 3 component) (rows_put (marks (out-Component c)) w (group 2 component) (rows_put (naming (out-Component c)) w (group 1 component) (rows_put (origin (out-Component c)) w (group 0 component) no_members)))
+    → members_view m.entries ≡ rows_put (component_contents components_tree pedigree_tree (out-Component c)) w (group 3 component) (rows_put (marks (out-Component c)) w (group 2 component) (rows_put (naming (out-Component c)) w (group 1 component) (rows_put (origin (out-Component c)) w (group 0 component) no_members)))
     → view (object_of m) ≡ jspell (keep w (component_tree c) (a_record component)) w (a_record component)
 unfolding rows
 component_spelled m c w e =
     let x = out-Component c in
-    let last = contents components_tree pedigree_tree x in
+    let last = component_contents components_tree pedigree_tree x in
     tree_spelled m component w (component_tree c) (component_fields components_tree pedigree_tree x) (component_tree-out c) refl
     (e ∙ sym (put_split w (origin x) (naming x ⧺ (marks x ⧺ last)) (group 0 component) (group 1 component ++ (group 2 component ++ group 3 component)) no_members refl
     ∙ put_split w (naming x) (marks x ⧺ last) (group 1 component) (group 2 component ++ group 3 component) _ refl

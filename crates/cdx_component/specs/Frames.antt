@@ -8,7 +8,7 @@ use Rattle.cdx_nest_machine.specs.declared.nested.Reads.{Reads}
 use Rattle.cdx_nest_machine.specs.declared.nested.Reads.TheVariants.{Leaf, Nested}
 use Rattle.cdx_push.specs.declared.kinds.LeafKind.{LeafKind}
 use Rattle.cdx_push.specs.declared.kinds.LeafKind.TheVariants.{Text, Flag, Entity, Hashes, Properties, Commits, Patches, ExternalReferences, Licenses, Signature, Swid, Evidence}
-use Rattle.cdx_component.specs.Trees.{component_tree, components_tree, pedigree_tree, listed_components}
+use Rattle.cdx_component.specs.Trees.{component_tree, components_tree, pedigree_tree, component_items}
 use Rattle.cdx_component.specs.ReadingParts.{component_part, pedigree_part}
 use Rattle.cdx_component.specs.declared.frames.ComponentKind.{ComponentKind}
 use Rattle.cdx_component.specs.declared.frames.ComponentKind.TheVariants.{Component, Components, Pedigree}
@@ -42,7 +42,7 @@ frame_kind (frames.Pedigree x) = Pedigree
 
 abbrev pub frame_fields : ComponentFrame → Trees
 frame_fields (frames.Component x) = component_part x
-frame_fields (frames.Components x) = listing_slots component_tree (listed_components x)
+frame_fields (frames.Components x) = listing_slots component_tree (component_items x)
 frame_fields (frames.Pedigree x) = pedigree_part x
 
 -- ---- what reads each child, in the order of the rows that are children

@@ -9,7 +9,7 @@ use Rattle.cdx_component.specs.declared.component.Component.TheFolds.{fold-roll-
 use Rattle.cdx_component.specs.declared.component.Components.{Components}
 use Rattle.cdx_component.specs.declared.component.Pedigree.{Pedigree}
 use Rattle.cdx_models.specs.Trees.{as_is}
-use Rattle.cdx_component.specs.Trees.{component_step, components_step, pedigree_step, component_tree, components_tree, pedigree_tree, listed_components, component_fields, pedigree_fields}
+use Rattle.cdx_component.specs.Trees.{component_step, components_step, pedigree_step, component_tree, components_tree, pedigree_tree, component_items, component_fields, pedigree_fields}
 
 mapped-pedigree : (h : Pedigree → Tree) (o : Option Pedigree) → present as_is (former-Component-pedigree.map Pedigree Tree h o) ≡ present h o
 mapped-pedigree h None = refl
@@ -27,7 +27,7 @@ pub component_tree-out : (c : Component) → component_tree c ≡ fields compone
 component_tree-out c =
     fold_out-Component Tree Tree Tree component_step components_step pedigree_step c ∙ simp (mapped-pedigree pedigree_tree (out-Component c).pedigree, mapped-components components_tree (out-Component c).components)
 
-pub components_tree-out : (cs : Components) → components_tree cs ≡ list_tree component_tree (listed_components cs)
+pub components_tree-out : (cs : Components) → components_tree cs ≡ list_tree component_tree (component_items cs)
 components_tree-out cs = fold_out-Components Tree Tree Tree component_step components_step pedigree_step cs
 
 pub pedigree_tree-roll : (x : Pedigree-F Component Components Pedigree) → pedigree_tree (roll-Pedigree x) ≡ fields pedigree (pedigree_fields components_tree x)

@@ -24,11 +24,11 @@ naming c = trees (present text c.group ∷ text c.name ∷ present text c.versio
 abbrev pub marks : {C L P : Type 0} → Component-F C L P → Trees
 marks c = trees (present licenses_tree c.licenses ∷ present text c.copyright ∷ present cpe_tree c.cpe ∷ present text c.purl ∷ present swid_tree c.swid ∷ present boolean c.modified ∷ [])
 
-abbrev pub contents : {C L P : Type 0} → (L → Tree) → (P → Tree) → Component-F C L P → Trees
-contents components pedigree c = trees (present pedigree c.pedigree ∷ present references_tree c.external_references ∷ present properties_tree c.properties ∷ present components c.components ∷ present evidence_tree c.evidence ∷ present signature_tree c.signature ∷ [])
+abbrev pub component_contents : {C L P : Type 0} → (L → Tree) → (P → Tree) → Component-F C L P → Trees
+component_contents components pedigree c = trees (present pedigree c.pedigree ∷ present references_tree c.external_references ∷ present properties_tree c.properties ∷ present components c.components ∷ present evidence_tree c.evidence ∷ present signature_tree c.signature ∷ [])
 
 abbrev pub component_fields : {C L P : Type 0} → (L → Tree) → (P → Tree) → Component-F C L P → Trees
-component_fields components pedigree c = origin c ⧺ (naming c ⧺ (marks c ⧺ contents components pedigree c))
+component_fields components pedigree c = origin c ⧺ (naming c ⧺ (marks c ⧺ component_contents components pedigree c))
 
 abbrev pub pedigree_fields : {C L P : Type 0} → (L → Tree) → Pedigree-F C L P → Trees
 pedigree_fields components p = trees (present components p.ancestors ∷ present components p.descendants ∷ present components p.variants ∷ present commits_tree p.commits ∷ present patches_tree p.patches ∷ present text p.notes ∷ [])
@@ -54,5 +54,5 @@ abbrev pub pedigree_tree : Pedigree → Tree
 pedigree_tree = fold-Pedigree Tree Tree Tree component_step components_step pedigree_step
 
 -- the items of a list of components
-abbrev pub listed_components : Components → List Component
-listed_components cs = (out-Components cs).items.items
+abbrev pub component_items : Components → List Component
+component_items cs = (out-Components cs).items.items

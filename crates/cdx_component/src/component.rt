@@ -3,9 +3,9 @@
 ghost use Rattle.std.specs.Prelude.{◌≡◌, [], ◌∷◌, ◌++◌, IfOk, OnOk, OnErr, length, slice_get, option_copied, is_some, nat_lt, ◌↔◌, IsTrue};
 ghost use Rattle.cdx_models.specs.Trees.{component, pedigree};
 ghost use Rattle.cdx_schema.specs.Kinds.{components, a_list, a_record};
-ghost use Rattle.cdx_models.specs.Same.{same};
-ghost use Rattle.cdx_models.specs.SameLaws.{same_laws};
-ghost use Rattle.cdx_component.specs.Trees.{component_tree, components_tree, pedigree_tree, listed_components};
+ghost use Rattle.cdx_models.specs.Equal.{equal};
+ghost use Rattle.cdx_models.specs.EqualLaws.{equal_laws};
+ghost use Rattle.cdx_component.specs.Trees.{component_tree, components_tree, pedigree_tree, component_items};
 ghost use Rattle.cdx_component.specs.Laws.{component_there, components_there, pedigree_there};
 
 mod compared;
@@ -21,7 +21,7 @@ use cdx_models::{ExternalReferences, HasTree, Hashes, OrganizationalEntity, Prop
 use cdx_patch::Patches;
 use cdx_schema::Kinded;
 use cdx_signature::Signature;
-use compared::{same_component, same_components, same_pedigree};
+use compared::{equal_component, equal_components, equal_pedigree};
 use copied::{copy_component, copy_components, copy_pedigree};
 pub use fitting::component_row_has_versions;
 use std::alloc::{AllocError, Global};
@@ -156,7 +156,7 @@ impl Drop for Pedigree {
 impl Components {
     /// The empty list. It takes no memory.
     pub fn new(alloc: Global) -> Components
-        ensures { listed_components result ≡ [] }
+        ensures { component_items result ≡ [] }
     {
         Components {
             items: Vec::new(alloc),
@@ -165,7 +165,7 @@ impl Components {
 
     /// The empty list, with room for so many components. Only want of memory refuses.
     pub fn with_capacity(alloc: Global, capacity: usize) -> Result<Components, AllocError>
-        ensures { IfOk result (λ l. listed_components l ≡ []) }
+        ensures { IfOk result (λ l. component_items l ≡ []) }
     {
         let items = Vec::with_capacity(alloc, capacity)?;
         Ok(Components { items })
@@ -174,8 +174,8 @@ impl Components {
     /// Appends a component. Where memory runs out, the list is as before and the component is dropped.
     pub fn push(&mut self, item: Component) -> Result<(), AllocError>
         ensures ok { OnOk result
-            (listed_components self.new ≡ listed_components self.old ++ item ∷ []) }
-        ensures err { OnErr result (listed_components self.new ≡ listed_components self.old) }
+            (component_items self.new ≡ component_items self.old ++ item ∷ []) }
+        ensures err { OnErr result (component_items self.new ≡ component_items self.old) }
     {
         self.items.push(item)?;
         Ok(())
@@ -183,22 +183,22 @@ impl Components {
 
     /// How many components there are. It takes no memory.
     pub fn len(&self) -> usize
-        ensures { result ≡ length (listed_components self.now) }
+        ensures { result ≡ length (component_items self.now) }
     {
         self.items.len()
     }
 
     /// The component at a place, counted from 0, or `None` exactly from the length on. It takes no memory.
     pub fn get(&self, at: usize) -> Option<&Component>
-        ensures item { option_copied result ≡ slice_get (listed_components self.now) at }
-        ensures there { is_some result ≡ nat_lt at (length (listed_components self.now)) }
+        ensures item { option_copied result ≡ slice_get (component_items self.now) at }
+        ensures there { is_some result ≡ nat_lt at (length (component_items self.now)) }
     {
         self.items.get(at)
     }
 
     /// The components. It takes no memory.
     pub fn as_slice(&self) -> &[Component]
-        ensures { result.now ≡ listed_components self.now }
+        ensures { result.now ≡ component_items self.now }
     {
         self.items.as_slice()
     }
@@ -214,7 +214,7 @@ impl HasTree for Component {
     }
 
     fn agrees(&self, other: &Component) -> bool {
-        same_component(self, other)
+        equal_component(self, other)
     }
 }
 
@@ -223,15 +223,15 @@ impl Kinded for Component {
 }
 
 impl PartialEq for Component {
-    ghost eq = { λ a b. same (component_tree a) (component_tree b) };
+    ghost eq = { λ a b. equal (component_tree a) (component_tree b) };
 
-    ghost laws = { same_laws component_tree };
+    ghost laws = { equal_laws component_tree };
 
     fn eq(&self, other: &Component) -> bool
-        ensures test { result ≡ same (component_tree self.now) (component_tree other.now) }
+        ensures test { result ≡ equal (component_tree self.now) (component_tree other.now) }
         ensures equality { IsTrue result ↔ (component_tree self.now ≡ component_tree other.now) }
     {
-        self.same(other)
+        self.equals(other)
     }
 }
 
@@ -245,7 +245,7 @@ impl HasTree for Components {
     }
 
     fn agrees(&self, other: &Components) -> bool {
-        same_components(self, other)
+        equal_components(self, other)
     }
 }
 
@@ -254,15 +254,15 @@ impl Kinded for Components {
 }
 
 impl PartialEq for Components {
-    ghost eq = { λ a b. same (components_tree a) (components_tree b) };
+    ghost eq = { λ a b. equal (components_tree a) (components_tree b) };
 
-    ghost laws = { same_laws components_tree };
+    ghost laws = { equal_laws components_tree };
 
     fn eq(&self, other: &Components) -> bool
-        ensures test { result ≡ same (components_tree self.now) (components_tree other.now) }
+        ensures test { result ≡ equal (components_tree self.now) (components_tree other.now) }
         ensures equality { IsTrue result ↔ (components_tree self.now ≡ components_tree other.now) }
     {
-        self.same(other)
+        self.equals(other)
     }
 }
 
@@ -276,7 +276,7 @@ impl HasTree for Pedigree {
     }
 
     fn agrees(&self, other: &Pedigree) -> bool {
-        same_pedigree(self, other)
+        equal_pedigree(self, other)
     }
 }
 
@@ -285,14 +285,14 @@ impl Kinded for Pedigree {
 }
 
 impl PartialEq for Pedigree {
-    ghost eq = { λ a b. same (pedigree_tree a) (pedigree_tree b) };
+    ghost eq = { λ a b. equal (pedigree_tree a) (pedigree_tree b) };
 
-    ghost laws = { same_laws pedigree_tree };
+    ghost laws = { equal_laws pedigree_tree };
 
     fn eq(&self, other: &Pedigree) -> bool
-        ensures test { result ≡ same (pedigree_tree self.now) (pedigree_tree other.now) }
+        ensures test { result ≡ equal (pedigree_tree self.now) (pedigree_tree other.now) }
         ensures equality { IsTrue result ↔ (pedigree_tree self.now ≡ pedigree_tree other.now) }
     {
-        self.same(other)
+        self.equals(other)
     }
 }

@@ -3,13 +3,13 @@
 ghost use Rattle.cdx_models.specs.Trees.{copyright, evidence, swid};
 ghost use Rattle.cdx_schema.specs.Kinds.{a_list, a_text, copyright_texts};
 ghost use Rattle.std.specs.Prelude.{refl, ◌≡◌, ◌↔◌, IsTrue};
-ghost use Rattle.cdx_models.specs.Same.{same};
-ghost use Rattle.cdx_models.specs.SameLaws.{same_laws};
+ghost use Rattle.cdx_models.specs.Equal.{equal};
+ghost use Rattle.cdx_models.specs.EqualLaws.{equal_laws};
 ghost use Rattle.cdx_component_parts.specs.Records.{swid_tree, cpe_tree, mime_type_tree, evidence_tree, copyright_tree, copyrights_tree};
 
 use cdx_events::{List, Text};
 use cdx_license::Licenses;
-use cdx_models::{AttachedText, HasTree, copy_row, same_row};
+use cdx_models::{AttachedText, HasTree, copy_row, equal_row};
 use cdx_schema::{Kinded, Record};
 use std::alloc::{AllocError, Global};
 
@@ -67,11 +67,11 @@ impl HasTree for Swid {
     fn agrees(&self, other: &Swid) -> bool {
         self.tag_id.agrees(&other.tag_id)
             && self.name.agrees(&other.name)
-            && same_row(&self.version, &other.version)
-            && same_row(&self.tag_version, &other.tag_version)
-            && same_row(&self.patch, &other.patch)
-            && same_row(&self.text, &other.text)
-            && same_row(&self.url, &other.url)
+            && equal_row(&self.version, &other.version)
+            && equal_row(&self.tag_version, &other.tag_version)
+            && equal_row(&self.patch, &other.patch)
+            && equal_row(&self.text, &other.text)
+            && equal_row(&self.url, &other.url)
     }
 }
 
@@ -84,15 +84,15 @@ impl Record for Swid {
 }
 
 impl PartialEq for Swid {
-    ghost eq = { λ a b. same (swid_tree a) (swid_tree b) };
+    ghost eq = { λ a b. equal (swid_tree a) (swid_tree b) };
 
-    ghost laws = { same_laws swid_tree };
+    ghost laws = { equal_laws swid_tree };
 
     fn eq(&self, other: &Swid) -> bool
-        ensures test { result ≡ same (swid_tree self.now) (swid_tree other.now) }
+        ensures test { result ≡ equal (swid_tree self.now) (swid_tree other.now) }
         ensures equality { IsTrue result ↔ (swid_tree self.now ≡ swid_tree other.now) }
     {
-        self.same(other)
+        self.equals(other)
     }
 }
 
@@ -119,15 +119,15 @@ impl Kinded for Cpe {
 }
 
 impl PartialEq for Cpe {
-    ghost eq = { λ a b. same (cpe_tree a) (cpe_tree b) };
+    ghost eq = { λ a b. equal (cpe_tree a) (cpe_tree b) };
 
-    ghost laws = { same_laws cpe_tree };
+    ghost laws = { equal_laws cpe_tree };
 
     fn eq(&self, other: &Cpe) -> bool
-        ensures test { result ≡ same (cpe_tree self.now) (cpe_tree other.now) }
+        ensures test { result ≡ equal (cpe_tree self.now) (cpe_tree other.now) }
         ensures equality { IsTrue result ↔ (cpe_tree self.now ≡ cpe_tree other.now) }
     {
-        self.same(other)
+        self.equals(other)
     }
 }
 
@@ -154,15 +154,15 @@ impl Kinded for MimeType {
 }
 
 impl PartialEq for MimeType {
-    ghost eq = { λ a b. same (mime_type_tree a) (mime_type_tree b) };
+    ghost eq = { λ a b. equal (mime_type_tree a) (mime_type_tree b) };
 
-    ghost laws = { same_laws mime_type_tree };
+    ghost laws = { equal_laws mime_type_tree };
 
     fn eq(&self, other: &MimeType) -> bool
-        ensures test { result ≡ same (mime_type_tree self.now) (mime_type_tree other.now) }
+        ensures test { result ≡ equal (mime_type_tree self.now) (mime_type_tree other.now) }
         ensures equality { IsTrue result ↔ (mime_type_tree self.now ≡ mime_type_tree other.now) }
     {
-        self.same(other)
+        self.equals(other)
     }
 }
 
@@ -188,7 +188,7 @@ impl HasTree for ComponentEvidence {
     }
 
     fn agrees(&self, other: &ComponentEvidence) -> bool {
-        same_row(&self.licenses, &other.licenses) && same_row(&self.copyright, &other.copyright)
+        equal_row(&self.licenses, &other.licenses) && equal_row(&self.copyright, &other.copyright)
     }
 }
 
@@ -201,15 +201,15 @@ impl Record for ComponentEvidence {
 }
 
 impl PartialEq for ComponentEvidence {
-    ghost eq = { λ a b. same (evidence_tree a) (evidence_tree b) };
+    ghost eq = { λ a b. equal (evidence_tree a) (evidence_tree b) };
 
-    ghost laws = { same_laws evidence_tree };
+    ghost laws = { equal_laws evidence_tree };
 
     fn eq(&self, other: &ComponentEvidence) -> bool
-        ensures test { result ≡ same (evidence_tree self.now) (evidence_tree other.now) }
+        ensures test { result ≡ equal (evidence_tree self.now) (evidence_tree other.now) }
         ensures equality { IsTrue result ↔ (evidence_tree self.now ≡ evidence_tree other.now) }
     {
-        self.same(other)
+        self.equals(other)
     }
 }
 
@@ -245,15 +245,15 @@ impl Record for Copyright {
 }
 
 impl PartialEq for Copyright {
-    ghost eq = { λ a b. same (copyright_tree a) (copyright_tree b) };
+    ghost eq = { λ a b. equal (copyright_tree a) (copyright_tree b) };
 
-    ghost laws = { same_laws copyright_tree };
+    ghost laws = { equal_laws copyright_tree };
 
     fn eq(&self, other: &Copyright) -> bool
-        ensures test { result ≡ same (copyright_tree self.now) (copyright_tree other.now) }
+        ensures test { result ≡ equal (copyright_tree self.now) (copyright_tree other.now) }
         ensures equality { IsTrue result ↔ (copyright_tree self.now ≡ copyright_tree other.now) }
     {
-        self.same(other)
+        self.equals(other)
     }
 }
 
@@ -280,14 +280,14 @@ impl Kinded for CopyrightTexts {
 }
 
 impl PartialEq for CopyrightTexts {
-    ghost eq = { λ a b. same (copyrights_tree a) (copyrights_tree b) };
+    ghost eq = { λ a b. equal (copyrights_tree a) (copyrights_tree b) };
 
-    ghost laws = { same_laws copyrights_tree };
+    ghost laws = { equal_laws copyrights_tree };
 
     fn eq(&self, other: &CopyrightTexts) -> bool
-        ensures test { result ≡ same (copyrights_tree self.now) (copyrights_tree other.now) }
+        ensures test { result ≡ equal (copyrights_tree self.now) (copyrights_tree other.now) }
         ensures equality { IsTrue result ↔ (copyrights_tree self.now ≡ copyrights_tree other.now) }
     {
-        self.same(other)
+        self.equals(other)
     }
 }

@@ -13,7 +13,7 @@ use Rattle.cdx_events.specs.Name.{same_name}
 use Rattle.cdx_events.specs.Nodes.{Node, Nodes, characters, cdata, element, no_nodes, node, events_of, events_of_all, IsBalanced, GoesOn}
 use Rattle.cdx_events.specs.Balance.{Frame, opened, names, IsInside, IsClosing, Hears, leave, stage_left, advance, is_alive, is_whole}
 use Rattle.cdx_events.specs.Root.{then, with, node_of}
-use Rattle.cdx_events.proofs.Names.{same_name-true, same_name-same}
+use Rattle.cdx_events.proofs.Names.{equal_name-true, equal_name-same}
 use Rattle.cdx_events.proofs.Checks.{checks, checks_all, balanced_checks, inside_checks, past_all, goes_checks}
 
 -- ---- nodes, one more at the end
@@ -103,11 +103,11 @@ left_hears f (g ∷ fs) events e =
 end_in : (b : Bool) (f : Frame) (fs : List Frame) (events : List XmlEvent) (n : OwnedName) → same_name f.name n ≡ b → events ≡ StartDocument ∷ opened (f ∷ fs)
     → Hears (cond b (stage_left (names fs)) Broken) (names fs) (events ++ EndElement n ∷ [])
 end_in true f fs events n s e =
-    subst (λ m. Hears (stage_left (names fs)) (names fs) (events ++ EndElement m ∷ [])) (same_name-true f.name n s) (left_hears f fs events e)
+    subst (λ m. Hears (stage_left (names fs)) (names fs) (events ++ EndElement m ∷ [])) (equal_name-true f.name n s) (left_hears f fs events e)
 end_in false f fs events n s e = λ (g : GoesOn (events ++ EndElement n ∷ [])).
     let b = before events (StartDocument ∷ opened (f ∷ fs)) (EndElement n) e g in
     let same : f.name ≡ n = (inside_checks f fs (EndElement n ∷ b.0) b.1).0 in
-    let yes : same_name f.name n ≡ true = subst (λ m. same_name f.name m ≡ true) same (same_name-same f.name) in
+    let yes : same_name f.name n ≡ true = subst (λ m. same_name f.name m ≡ true) same (equal_name-same f.name) in
     absurd cc
 
 inside_next : (stack : List OwnedName) (e : XmlEvent) (events : List XmlEvent) → Hears Inside stack events → Next Inside stack e events

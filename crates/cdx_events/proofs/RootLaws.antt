@@ -9,7 +9,7 @@ use Rattle.cdx_events.specs.Name.{same_name}
 use Rattle.cdx_events.specs.Nodes.{Node, Nodes, characters, cdata, element, no_nodes, node, events_of, events_of_all, document}
 use Rattle.cdx_events.specs.Balance.{Frame, opened}
 use Rattle.cdx_events.specs.Root.{then, with, node_of, frame_ended, frame_opened, root_in, root_after, root_of}
-use Rattle.cdx_events.proofs.Names.{same_name-true, same_name-same}
+use Rattle.cdx_events.proofs.Names.{equal_name-true, equal_name-same}
 use Rattle.cdx_events.proofs.Hears.{opened_with, opened_end}
 
 -- ---- complete
@@ -42,7 +42,7 @@ mutual
   takes (element m a s kids) f fs rest =
       ap (λ es. root_in (frame_opened m a s) (f ∷ fs) es) (append_assoc (events_of_all kids) (EndElement m ∷ []) rest)
       ∙ takes_all kids (frame_opened m a s) (f ∷ fs) (EndElement m ∷ rest)
-      ∙ ap (λ b. cond b (root_in (with f (element m a s kids)) fs rest) None) (same_name-same m)
+      ∙ ap (λ b. cond b (root_in (with f (element m a s kids)) fs rest) None) (equal_name-same m)
 
   takes_all : (ks : Nodes) (f : Frame) (fs : List Frame) (rest : List XmlEvent) → root_in f fs (events_of_all ks ++ rest) ≡ root_in (adds f ks) fs rest
   takes_all no_nodes f fs rest = ap (λ g. root_in g fs rest) (sym (adds_none f))
@@ -57,7 +57,7 @@ unfolding root_of
 root_is n a s nodes =
     ap (λ es. root_in (frame_opened n a s) [] es) (append_assoc (events_of_all nodes) (EndElement n ∷ []) (EndDocument ∷ []))
     ∙ takes_all nodes (frame_opened n a s) [] (EndElement n ∷ EndDocument ∷ [])
-    ∙ ap (λ b. cond b (Some (record { name = n; attributes = a; namespace = s; before = nodes })) None) (same_name-same n)
+    ∙ ap (λ b. cond b (Some (record { name = n; attributes = a; namespace = s; before = nodes })) None) (equal_name-same n)
 
 -- ---- sound
 
@@ -85,14 +85,14 @@ sound_in (CData t ∷ es) f fs r e =
 sound_in (EndElement m ∷ es) f [] r e =
     let c = chosen (same_name f.name m) (frame_ended f es) r e in
     let d = ended_is f r es c.1 in
-    let same : f.name ≡ m = same_name-true f.name m c.0 in
+    let same : f.name ≡ m = equal_name-true f.name m c.0 in
     ap (λ x. StartDocument ∷ opened (f ∷ []) ++ EndElement x ∷ es) (sym same)
     ∙ ap (λ x. StartDocument ∷ opened (f ∷ []) ++ EndElement f.name ∷ x) d.0
     ∙ ap (λ x. StartDocument ∷ StartElement f.name f.attributes f.namespace ∷ x) (sym (append_assoc (events_of_all f.before) (EndElement f.name ∷ []) (EndDocument ∷ [])))
     ∙ ap whole d.1
 sound_in (EndElement m ∷ es) f (g ∷ fs) r e =
     let c = chosen (same_name f.name m) (root_in (with g (node_of f)) fs es) r e in
-    let same : f.name ≡ m = same_name-true f.name m c.0 in
+    let same : f.name ≡ m = equal_name-true f.name m c.0 in
     ap (λ x. StartDocument ∷ opened (f ∷ g ∷ fs) ++ EndElement x ∷ es) (sym same)
     ∙ ap (λ x. StartDocument ∷ x) (sym (append_assoc (opened (f ∷ g ∷ fs)) (EndElement f.name ∷ []) es) ∙ ap (λ y. y ++ es) (opened_end f g fs))
     ∙ sound_in es (with g (node_of f)) fs r c.1

@@ -1,7 +1,7 @@
 //! Events of XML documents.
 
 ghost use Rattle.std.specs.Prelude.{◌≡◌, IfOk};
-ghost use Rattle.cdx_events.specs.Event.{kind_of};
+ghost use Rattle.cdx_events.specs.Event.{event_kind};
 
 use crate::copied::Copied;
 use crate::list::List;
@@ -56,7 +56,7 @@ pub enum EventKind {
 impl XmlEvent {
     /// What the event is.
     pub fn kind(&self) -> EventKind
-        ensures { result ≡ kind_of self.now }
+        ensures { result ≡ event_kind self.now }
     {
         match self {
             XmlEvent::StartDocument => EventKind::StartDocument,

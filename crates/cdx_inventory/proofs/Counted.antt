@@ -12,7 +12,7 @@ use Rattle.cdx_schema.specs.Table.{rows}
 use Rattle.cdx_schema.specs.Membership.{HasShape, HaveShape, FieldsHaveShape}
 use Rattle.cdx_schema.specs.Laws.{HasBillShape}
 use Rattle.cdx_ways.specs.Ways.{At, behind_step, behind_row, behind_choice}
-use Rattle.cdx_inventory.specs.Listing.{is_component, itself, listed_in, items_listed, rows_listed, listed, count_in, count_of}
+use Rattle.cdx_inventory.specs.Listing.{is_component, itself, listed_in, items_listed, rows_listed, listed, count_in, count_in_each}
 
 step_length : {A : Type 0} (s : Step) (us : List (At A)) → length (behind_step s us) ≡ length us
 step_length s us = length-map us _
@@ -51,12 +51,12 @@ mutual
       length-append (itself n ts) (behind_choice k n (rows_listed ts (rows n)))
       ∙ plus (itself_length n ts (is_component n)) (choice_length k n (rows_listed ts (rows n)) ∙ rows_count ts (rows n) h.1)
 
-  items_count : (ts : Trees) (k : Kind) (i : ℕ) → HaveShape ts k → length (items_listed ts k i) ≡ count_of ts
+  items_count : (ts : Trees) (k : Kind) (i : ℕ) → HaveShape ts k → length (items_listed ts k i) ≡ count_in_each ts
   items_count none k i h = refl
   items_count (more t ts) k i h =
       length-append (behind_step _ (listed_in t k)) (items_listed ts k (suc i)) ∙ plus (step_length _ (listed_in t k) ∙ listed_count t k h.0) (items_count ts k (suc i) h.1)
 
-  rows_count : (ts : Trees) (rs : List Row) → FieldsHaveShape ts rs → length (rows_listed ts rs) ≡ count_of ts
+  rows_count : (ts : Trees) (rs : List Row) → FieldsHaveShape ts rs → length (rows_listed ts rs) ≡ count_in_each ts
   rows_count none rs h = refl
   rows_count (more t ts) [] h = absurd (true≢false h)
   rows_count (more t ts) (r ∷ rs) h =

@@ -18,7 +18,7 @@ use Rattle.cdx_schema.proofs.Sound.{free_name}
 use Rattle.cdx_ways.specs.Ways.{At, behind_step, behind_row, behind_choice, is_step, after_step, after_row, after_choice, whole, found, found_item, found_row}
 use Rattle.cdx_ways.proofs.Lists.{own_step, after_own, after_other, after_is, In, in_left, in_right, in_either, contains_in, in_contains, in_behind, behind_in, StartsIn, AllStart, starts_behind, starts_append, all_start_wider, in_starts, Disjoint, Differ, differ_append, differ_behind, empty_differs, all_pairs}
 use Rattle.cdx_ways.proofs.Names.{is_row, is_named, IsRow, IsNamed, is_new, names_differ, differ_in, new_row}
-use Rattle.cdx_inventory.specs.Listing.{is_component, itself, listed_in, items_listed, rows_listed, listed, IsIn, IsInOne, ListsPaths, ListsAll}
+use Rattle.cdx_inventory.specs.Listing.{is_component, itself, listed_in, items_listed, rows_listed, listed, IsPartOf, IsInOne, ListsPaths, ListsAll}
 use Rattle.cdx_inventory.proofs.Unlisted.{record_unlisted}
 use Rattle.cdx_inventory.proofs.Counted.{counts_all}
 
@@ -108,7 +108,7 @@ record_here us _ ts e = absurd (true≢false (ap (λ t. is_component (record_nam
 mutual
   unfolding listed_in
 
-  somewhere : (us : Trees) (t : Tree) (k : Kind) → HasShape t k → IsIn (fields component us) t → IsListed us (listed_in t k)
+  somewhere : (us : Trees) (t : Tree) (k : Kind) → HasShape t k → IsPartOf (fields component us) t → IsListed us (listed_in t k)
   somewhere us absent k h g = absurd (true≢false h)
   somewhere us (text s) k h g = no_text us (text s) refl g
   somewhere us (number n) k h g = no_text us (number n) refl g
@@ -134,7 +134,7 @@ mutual
   somewhere_row us none rs h g = elim g [ ]
   somewhere_row us (more t ts) [] h g = absurd (true≢false h)
   somewhere_row us (more t ts) (r ∷ rs) h (inl g) =
-      let l : IsListed us (listed_in t r.kind) = elim h.0 [ inl e ↦ no_text us absent refl (subst (IsIn (fields component us)) e.0 g) | inr s ↦ somewhere us t r.kind s g ] in
+      let l : IsListed us (listed_in t r.kind) = elim h.0 [ inl e ↦ no_text us absent refl (subst (IsPartOf (fields component us)) e.0 g) | inr s ↦ somewhere us t r.kind s g ] in
       let q = path_row r.json l.0 (fields component us) (listed_in t r.kind) l.1 in
       (q.0, in_left _ (behind_row r.json (listed_in t r.kind)) (rows_listed ts rs) q.1)
   somewhere_row us (more t ts) (r ∷ rs) h (inr g) =

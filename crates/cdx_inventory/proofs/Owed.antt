@@ -13,7 +13,7 @@ use Rattle.cdx_tool.specs.declared.answer.Answer.{Answer}
 use Rattle.cdx_tool.specs.Shows.{reply_of}
 use Rattle.cdx_tool.specs.Owed.{reply_by, IsSettled}
 use Rattle.cdx_tool.specs.Run.{Tells, Ends}
-use Rattle.cdx_tool.specs.Asks.{Lack, misread, bill_refused, bill_in, AsksFor, reply_to_bill, reply_if_read, reply_asking}
+use Rattle.cdx_tool.specs.Asks.{WhyNoBill, misread, bill_refused, bill_in, AsksFor, reply_to_bill, reply_if_read, reply_asking}
 use Rattle.cdx_inventory.specs.declared.entry.Entry.{Entry}
 use Rattle.cdx_inventory.specs.Entries.{Told, told, all_told}
 use Rattle.cdx_inventory.specs.Stock.{Command, if_version, entry_value, components_answer, answer_to, reply_to_command}
@@ -48,7 +48,7 @@ misread_settled not_json = inr (inr refl)
 misread_settled shape = inr (inr refl)
 misread_settled (unbalanced place) = inr (inl refl)
 
-bill_settled : (f : Tree → Data) (owed : Result Tree Lack) → IsSettled (reply_to_bill f owed).status
+bill_settled : (f : Tree → Data) (owed : Result Tree WhyNoBill) → IsSettled (reply_to_bill f owed).status
 bill_settled f (Ok b) = inl refl
 bill_settled f (Err (misread e)) = misread_settled e
 bill_settled f (Err (bill_refused r)) = inr (inl refl)
@@ -67,7 +67,7 @@ misread_refuses shape h = omega (arith, h)
 misread_refuses (unbalanced place) h = omega (arith, h)
 
 -- what a reply of status 0 answers
-of_bill : (f : Tree → Data) (owed : Result Tree Lack) → (reply_to_bill f owed).status ≡ 0 → (b : Tree) × (owed ≡ Ok b) × ((reply_to_bill f owed).text ≡ line_of (f b))
+of_bill : (f : Tree → Data) (owed : Result Tree WhyNoBill) → (reply_to_bill f owed).status ≡ 0 → (b : Tree) × (owed ≡ Ok b) × ((reply_to_bill f owed).text ≡ line_of (f b))
 of_bill f (Ok b) h = (b, refl, refl)
 of_bill f (Err (misread e)) h = absurd (misread_refuses e h)
 of_bill f (Err (bill_refused r)) h = cc

@@ -136,7 +136,7 @@ pub pedigree_listed : (p : Pedigree) → listed_in (pedigree_tree p) (a_record p
 unfolding listed_in
 pedigree_listed p = ap (λ t. listed_in t (a_record pedigree)) (pedigree_tree-out p) ∙ pedigree_level components_tree (out-Pedigree p)
 
-pub components_listed : (cs : Components) → listed_in (components_tree cs) (a_list components) ≡ items_listed (each component_tree (nested.listed_components cs)) (a_record component) 0
+pub components_listed : (cs : Components) → listed_in (components_tree cs) (a_list components) ≡ items_listed (each component_tree (nested.component_items cs)) (a_record component) 0
 unfolding listed_in list
 components_listed cs = ap (λ t. listed_in t (a_list components)) (components_tree-out cs)
 

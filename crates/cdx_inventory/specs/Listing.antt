@@ -87,17 +87,17 @@ ListsPaths = (b : Tree) → HasBillShape b
 
 -- The tree c stands somewhere in a tree.
 abbrev mutual
-  pub IsIn : Tree → Tree → Type 0
-  IsIn c absent = c ≡ absent
-  IsIn c (text s) = c ≡ text s
-  IsIn c (number n) = c ≡ number n
-  IsIn c (boolean b) = c ≡ boolean b
-  IsIn c (items ts) = (c ≡ items ts) ⊎ IsInOne c ts
-  IsIn c (fields n ts) = (c ≡ fields n ts) ⊎ IsInOne c ts
+  pub IsPartOf : Tree → Tree → Type 0
+  IsPartOf c absent = c ≡ absent
+  IsPartOf c (text s) = c ≡ text s
+  IsPartOf c (number n) = c ≡ number n
+  IsPartOf c (boolean b) = c ≡ boolean b
+  IsPartOf c (items ts) = (c ≡ items ts) ⊎ IsInOne c ts
+  IsPartOf c (fields n ts) = (c ≡ fields n ts) ⊎ IsInOne c ts
 
   pub IsInOne : Tree → Trees → Type 0
   IsInOne c none = ⊥
-  IsInOne c (more t ts) = IsIn c t ⊎ IsInOne c ts
+  IsInOne c (more t ts) = IsPartOf c t ⊎ IsInOne c ts
 
 -- how many components stand in a tree, whatever its rows are
 unfoldable mutual
@@ -106,18 +106,18 @@ unfoldable mutual
   count_in (text s) = 0
   count_in (number n) = 0
   count_in (boolean b) = 0
-  count_in (items ts) = count_of ts
-  count_in (fields n ts) = (if is_component n then 1 else 0) + count_of ts
+  count_in (items ts) = count_in_each ts
+  count_in (fields n ts) = (if is_component n then 1 else 0) + count_in_each ts
 
-  pub count_of : Trees → ℕ
-  count_of none = 0
-  count_of (more t ts) = count_in t + count_of ts
+  pub count_in_each : Trees → ℕ
+  count_in_each none = 0
+  count_in_each (more t ts) = count_in t + count_in_each ts
 
 -- Every component of a bill is listed, under every path that leads to it, and there are as many paths as components. So
 -- one that stands at several places is listed for each.
 abbrev pub ListsAll : Type 0
 ListsAll = (b : Tree) → HasBillShape b
-    → ((ts : Trees) → IsIn (fields component ts) b → (p : List Step) × Contains (listed b) (p, fields component ts))
+    → ((ts : Trees) → IsPartOf (fields component ts) b → (p : List Step) × Contains (listed b) (p, fields component ts))
     × ((p : List Step) (ts : Trees) → found b a_bill p ≡ Some (fields component ts) → Contains (listed b) (p, fields component ts))
     × (length (listed b) ≡ count_in b)
 

@@ -10,7 +10,7 @@ use Rattle.cdx_schema.specs.Depth.{Depth}
 use Rattle.cdx_schema.specs.Results.{◌>>=◌}
 use Rattle.cdx_schema.specs.Faults.{to_member, JsonFault, under}
 use Rattle.cdx_schema.specs.JsonReading.{Object, Found, nothing, a_null, found, found_read, member_name, member_read, row_read, rows_read, no_own, own_read, record_denoted}
-use Rattle.cdx_json.specs.ByRows.{read_if_found, member_of, late_read, since_read, member_made, row_made, rows_made, own_by_rows, own_made, by_rows, as_record, identifier_of}
+use Rattle.cdx_json.specs.ByRows.{read_if_found, member_of, late_read, read_since, member_made, row_made, rows_made, own_by_rows, own_made, by_rows, as_record, identifier_of}
 
 pub then_same : {A B F : Type 0} (x : Result A F) (f g : A → Result B F) → ((a : A) → f a ≡ g a) → (x >>= f) ≡ (x >>= g)
 then_same (Ok a) f g h = h a
@@ -33,15 +33,15 @@ member_same (member name) o own own' r v d same =
     let n : List ℕ = member_name o name r.old_name in ap (under (to_member n)) (found_same (o n) r v d)
 member_same merged o own own' r v d same = same r.kind
 
-since_same : (s v : SpecVersion) (x : Result Tree JsonFault) → since_read s v x ≡ (if knows s v then x else Ok absent)
+same_since : (s v : SpecVersion) (x : Result Tree JsonFault) → read_since s v x ≡ (if knows s v then x else Ok absent)
 unfolding late_read
-since_same V1_3 v x = refl
-since_same V1_4 v x = refl
-since_same V1_5 v x = refl
+same_since V1_3 v x = refl
+same_since V1_4 v x = refl
+same_since V1_5 v x = refl
 
 row_same : (o : Object) (own own' : Kind → Result Tree JsonFault) (r : Row) (v : SpecVersion) (d : Depth) → ((k : Kind) → own k ≡ own' k) → row_made o own r v d ≡ row_read o own' r v d
 row_same o own own' r v d same =
-    since_same r.since v (member_made r.json o own r v d) ∙ ap (λ x. if knows r.since v then x else Ok absent) (member_same r.json o own own' r v d same)
+    same_since r.since v (member_made r.json o own r v d) ∙ ap (λ x. if knows r.since v then x else Ok absent) (member_same r.json o own own' r v d same)
 
 -- ---- all rows
 

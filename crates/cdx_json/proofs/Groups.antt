@@ -10,7 +10,7 @@ use Rattle.cdx_schema.specs.Kinds.{Row, a_record}
 use Rattle.cdx_schema.specs.Table.{rows}
 use Rattle.cdx_schema.specs.Keeping.{kept, keep}
 use Rattle.cdx_schema.specs.JsonSpelling.{jspell, heading}
-use Rattle.cdx_json.specs.KeptRows.{since_kept, rows_held, rows_put}
+use Rattle.cdx_json.specs.KeptRows.{kept_since, rows_held, rows_put}
 use Rattle.cdx_json.proofs.Spelled.{record_spelled}
 
 pub held_split : (w l : SpecVersion) (ts us : Trees) (rs ss : List Row) → count ts ≡ length rs → rows_held w l (ts ⧺ us) (rs ++ ss) ≡ rows_held w l ts rs ⧺ rows_held w l us ss
@@ -18,7 +18,7 @@ unfolding rows_held
 held_split w l none us [] ss e = refl
 held_split w l none us (r ∷ rs) ss e = absurd (omega arith)
 held_split w l (more t ts) us [] ss e = absurd (omega arith)
-held_split w l (more t ts) us (r ∷ rs) ss e = ap (more (since_kept r.since w (kept w l t r.kind))) (held_split w l ts us rs ss (omega arith))
+held_split w l (more t ts) us (r ∷ rs) ss e = ap (more (kept_since r.since w (kept w l t r.kind))) (held_split w l ts us rs ss (omega arith))
 
 -- a record of four groups
 pub held_four : (w l : SpecVersion) (n : Name) (a b c d : Trees) (p q r s : List Row) → rows n ≡ p ++ (q ++ (r ++ s)) → count a ≡ length p → count b ≡ length q → count c ≡ length r

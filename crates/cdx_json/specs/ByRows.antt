@@ -34,17 +34,17 @@ member_of o name need k v d = under (to_member name) (read_if_found (o name) nee
 unfoldable pub late_read : SpecVersion → SpecVersion → Result Tree JsonFault → Result Tree JsonFault
 late_read since v r = if knows since v then r else Ok absent
 
-abbrev pub since_read : SpecVersion → SpecVersion → Result Tree JsonFault → Result Tree JsonFault
-since_read V1_3 v r = r
-since_read V1_4 v r = late_read V1_4 v r
-since_read V1_5 v r = late_read V1_5 v r
+abbrev pub read_since : SpecVersion → SpecVersion → Result Tree JsonFault → Result Tree JsonFault
+read_since V1_3 v r = r
+read_since V1_4 v r = late_read V1_4 v r
+read_since V1_5 v r = late_read V1_5 v r
 
 abbrev pub member_made : Member → Object → (Kind → Result Tree JsonFault) → Row → SpecVersion → Depth → Result Tree JsonFault
 member_made (member name) o own r v d = member_of o (member_name o name r.old_name) r.need r.kind v d
 member_made merged o own r v d = own r.kind
 
 abbrev pub row_made : Object → (Kind → Result Tree JsonFault) → Row → SpecVersion → Depth → Result Tree JsonFault
-row_made o own r v d = since_read r.since v (member_made r.json o own r v d)
+row_made o own r v d = read_since r.since v (member_made r.json o own r v d)
 
 -- What `make` makes of the rows that were read one after the other.
 unfoldable pub rows_made : {A : Type 0} → Object → (Kind → Result Tree JsonFault) → List Row → SpecVersion → Depth → (Trees → Result A JsonFault) → Result A JsonFault

@@ -15,15 +15,15 @@ use Rattle.cdx_schema.specs.JsonSpelling.{jspell, is_written, own_members}
 unfoldable pub late_kept : SpecVersion → SpecVersion → Tree → Tree
 late_kept since w t = if knows since w then t else absent
 
-abbrev pub since_kept : SpecVersion → SpecVersion → Tree → Tree
-since_kept V1_3 w t = t
-since_kept V1_4 w t = late_kept V1_4 w t
-since_kept V1_5 w t = late_kept V1_5 w t
+abbrev pub kept_since : SpecVersion → SpecVersion → Tree → Tree
+kept_since V1_3 w t = t
+kept_since V1_4 w t = late_kept V1_4 w t
+kept_since V1_5 w t = late_kept V1_5 w t
 
 unfoldable pub rows_held : SpecVersion → SpecVersion → Trees → List Row → Trees
 rows_held w l none rs = none
 rows_held w l (more t ts) [] = none
-rows_held w l (more t ts) (r ∷ rs) = more (since_kept r.since w (kept w l t r.kind)) (rows_held w l ts rs)
+rows_held w l (more t ts) (r ∷ rs) = more (kept_since r.since w (kept w l t r.kind)) (rows_held w l ts rs)
 
 -- ---- what is written
 
@@ -53,13 +53,13 @@ put_member merged need k t w ms = put_own k t w ms
 unfoldable pub late_put : SpecVersion → SpecVersion → Members → Members → Members
 late_put since w old new = if knows since w then new else old
 
-abbrev pub since_put : SpecVersion → SpecVersion → Members → Members → Members
-since_put V1_3 w old new = new
-since_put V1_4 w old new = late_put V1_4 w old new
-since_put V1_5 w old new = late_put V1_5 w old new
+abbrev pub put_since : SpecVersion → SpecVersion → Members → Members → Members
+put_since V1_3 w old new = new
+put_since V1_4 w old new = late_put V1_4 w old new
+put_since V1_5 w old new = late_put V1_5 w old new
 
 -- The fields of the rows, set one after the other.
 unfoldable pub rows_put : Trees → SpecVersion → List Row → Members → Members
 rows_put none w rs ms = ms
 rows_put (more t ts) w [] ms = ms
-rows_put (more t ts) w (r ∷ rs) ms = rows_put ts w rs (since_put r.since w ms (put_member r.json r.need r.kind t w ms))
+rows_put (more t ts) w (r ∷ rs) ms = rows_put ts w rs (put_since r.since w ms (put_member r.json r.need r.kind t w ms))

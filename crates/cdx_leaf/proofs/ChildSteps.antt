@@ -115,7 +115,7 @@ took_is : (old new end : Cursor) (before now : Trees) (child : Met) (denoted : R
 took_is old new end before now child denoted into t (Ok answers.Read) is now_is h = (is ∙ ap (λ x. found (x >>= λ x. Ok (into x))) h.1 ∙ ap (λ y. found (Ok y)) (sym now_is), h.2)
 took_is old new end before now child denoted into t (Ok answers.Unknown) is now_is h = absurd (let wrong : answers.Unknown ≡ answers.Read = h.0 in cc)
 took_is old new end before now child denoted into t (Ok answers.Second) is now_is h = absurd (let wrong : answers.Second ≡ answers.Read = h.0 in cc)
-took_is old new end before now child denoted into t (Err e) is now_is h = record { read = denoted >>= λ x. Ok (into x); child_is = is; grown = h.0; fails = first_fails e new.place denoted (λ x. Ok (into x)) h.1 }
+took_is old new end before now child denoted into t (Err e) is now_is h = record { read = denoted >>= λ x. Ok (into x); met_is = is; grown = h.0; fails = first_fails e new.place denoted (λ x. Ok (into x)) h.1 }
 
 -- The element's name is that of a child of the plan, and a helper has read it.
 pub arm : (plan : Plan) (v : SpecVersion) (d : Depth) (n : OwnedName) (a : List OwnedAttribute) (ns : Namespace) (p : ℕ) (nodes : Nodes) (s now : Trees) (old new end : Cursor) (c : Child) (t : Tree) (r : Result Taken XmlReadError)

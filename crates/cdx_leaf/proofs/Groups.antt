@@ -191,14 +191,14 @@ reads_lifted : (f : Trees → Trees) (before now : Trees) (old new end : Cursor)
 reads_lifted f before now old new end m (Ok answers.Read) h = (ap (lifted f) h.0, h.1)
 reads_lifted f before now old new end m (Ok answers.Unknown) h = (ap (lifted f) h.0, ap f h.1, h.2)
 reads_lifted f before now old new end m (Ok answers.Second) h = (ap (lifted f) h.0, ap f h.1, h.2)
-reads_lifted f before now old new end m (Err e) h = record { read = h.read >>= λ ts. Ok (f ts); child_is = ap (lifted f) h.child_is; grown = h.grown; fails = first_fails e new.place h.read (λ ts. Ok (f ts)) h.fails }
+reads_lifted f before now old new end m (Err e) h = record { read = h.read >>= λ ts. Ok (f ts); met_is = ap (lifted f) h.met_is; grown = h.grown; fails = first_fails e new.place h.read (λ ts. Ok (f ts)) h.fails }
 
 -- a group that knows no child of the name says so
 no_child : (before now : Trees) (old new end : Cursor) (r : Result Taken XmlReadError) → (r ≡ Ok answers.Unknown → ⊥) → ReadsChild before now old new end nothing r → ⊥
 no_child before now old new end (Ok answers.Read) other h = let wrong : nothing ≡ found (Ok now) = h.0 in absurd cc
 no_child before now old new end (Ok answers.Unknown) other h = other refl
 no_child before now old new end (Ok answers.Second) other h = let wrong : nothing ≡ second = h.0 in absurd cc
-no_child before now old new end (Err e) other h = let wrong : nothing ≡ found h.read = h.child_is in absurd cc
+no_child before now old new end (Err e) other h = let wrong : nothing ≡ found h.read = h.met_is in absurd cc
 
 -- and one that says so knows none
 none_met : (o : Option Child) (read : Kind → Result Tree XmlReadError) (ts : Trees) → meet o read ts ≡ nothing → o ≡ None

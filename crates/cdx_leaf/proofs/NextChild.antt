@@ -8,7 +8,7 @@ use Rattle.cdx_events.specs.declared.event.XmlEvent.{XmlEvent}
 use Rattle.cdx_events.specs.declared.event.XmlEvent.TheVariants.{StartDocument, EndDocument, StartElement, EndElement, Characters, CData}
 use Rattle.cdx_events.specs.declared.event.EventKind.TheVariants as kinds
 use Rattle.cdx_events.specs.declared.event.EventKind.{EventKind}
-use Rattle.cdx_events.specs.Event.{kind_of}
+use Rattle.cdx_events.specs.Event.{event_kind}
 use Rattle.cdx_events.specs.Nodes.{Node, Nodes, characters, cdata, element, no_nodes, node, events_of_all}
 use Rattle.cdx_events.specs.Cursor.{Cursor}
 use Rattle.cdx_models.specs.declared.errors.XmlReadError.{XmlReadError}
@@ -89,7 +89,7 @@ module _ (r : Rule) (old : Cursor) (name : OwnedName) (nodes : Nodes) (rest : Li
       }
 
   -- a text is refused
-  pub texts_refused : (mid new : Cursor) (event : XmlEvent) (place : ℕ) (result : Result (Option Start) XmlReadError) → passes r ≡ false → ((n : OwnedName) (a : List OwnedAttribute) (s : Namespace) → event ≡ StartElement n a s → ⊥) → ((m : OwnedName) → event ≡ EndElement m → ⊥) → place ≡ mid.place → Refused result (unexpected place name.local_name (kind_of event)) → Took mid new event → PastTexts r old mid name nodes rest → Meets r old new name nodes rest result
+  pub texts_refused : (mid new : Cursor) (event : XmlEvent) (place : ℕ) (result : Result (Option Start) XmlReadError) → passes r ≡ false → ((n : OwnedName) (a : List OwnedAttribute) (s : Namespace) → event ≡ StartElement n a s → ⊥) → ((m : OwnedName) → event ≡ EndElement m → ⊥) → place ≡ mid.place → Refused result (unexpected place name.local_name (event_kind event)) → Took mid new event → PastTexts r old mid name nodes rest → Meets r old new name nodes rest result
   texts_refused mid new event place (Ok x) never x' y at refused took l = absurd refused
   texts_refused mid new event place (Err e) never start end at refused took l =
       let b = at_other mid new event name l.left rest end l.at took in
@@ -103,7 +103,7 @@ module _ (r : Rule) (old : Cursor) (name : OwnedName) (nodes : Nodes) (rest : Li
         no_child = no_start b.item (λ n a s kids x. start n a s (b.started n a s kids x));
         is_left = omega (arith, l.is_left);
         grown = omega (arith, took.1, l.grown);
-        fails = refused_fails (Option Start) e mid.place new.place name.local_name (kind_of event) (kind_of_node b.item) (subst (λ q. Refused {X = Option Start} (Err e) (unexpected q name.local_name (kind_of event))) at refused) b.kind_is (omega (arith, took.1));
+        fails = refused_fails (Option Start) e mid.place new.place name.local_name (event_kind event) (kind_of_node b.item) (subst (λ q. Refused {X = Option Start} (Err e) (unexpected q name.local_name (event_kind event))) at refused) b.kind_is (omega (arith, took.1));
       }
     where
       no_start : (k : Node) → ((n : OwnedName) (a : List OwnedAttribute) (s : Namespace) (kids : Nodes) → k ≡ element n a s kids → ⊥) → kind_of_node k ≡ kinds.StartElement → ⊥
@@ -246,7 +246,7 @@ module _ (plan : Plan) (v : SpecVersion) (depth : Depth → Depth) (d : Depth) (
     pub child_fails : (next : Cursor) (s' : Trees) (e : XmlReadError) → TakesChild s s' new next v plan depth child.element.now child.attributes.now (Err e) → (old.place ≤ next.place) × FailsAt e next.place (each_node reading nodes old.place start)
     child_fails next s' e takes =
         let t = takes d m.namespace child.place m.kids tail m.stands in
-        (omega (arith, grown, m.stands.place, t.grown), fails_along e next.place t.read (each_node reading nodes old.place start) (λ f x. fault_is f (step_is (found t.read) t.child_is ∙ x)) t.fails)
+        (omega (arith, grown, m.stands.place, t.grown), fails_along e next.place t.read (each_node reading nodes old.place start) (λ f x. fault_is f (step_is (found t.read) t.met_is ∙ x)) t.fails)
 
     -- it is unknown, and the reader stands where it stood
     pub still_open : (next : Cursor) (s' : Trees) (taken : Taken) → TakesChild s s' new next v plan depth child.element.now child.attributes.now (Ok taken) → taken ≡ answers.Unknown → IsAt next child.element.now

@@ -65,13 +65,13 @@ items_fail e place plan el v d p nodes h =
     first_fails e place (nodes_read nodes plan el v d (suc p) (one absent)) (λ ts. Ok (list_of (field 0 ts))) (subst (λ x. FailsAt e place x) (sym (each_is nodes plan el v d (suc p) (one absent))) h)
 
 -- a list whose items have one kind
-pub list_reads : (l : Lists) (v : SpecVersion) (n : OwnedName) (a : List OwnedAttribute) (ns : Namespace) (d : Depth) (p : ℕ) (nodes : Nodes) → xread (element n a ns nodes) v (a_list l) p d ≡ items_denoted (plan_of_list l) n.local_name v d p nodes
+pub list_denoted : (l : Lists) (v : SpecVersion) (n : OwnedName) (a : List OwnedAttribute) (ns : Namespace) (d : Depth) (p : ℕ) (nodes : Nodes) → xread (element n a ns nodes) v (a_list l) p d ≡ items_denoted (plan_of_list l) n.local_name v d p nodes
 unfolding xread
-list_reads l v n a ns d p nodes = refl
+list_denoted l v n a ns d p nodes = refl
 
 pub licenses_read : (v : SpecVersion) (n : OwnedName) (a : List OwnedAttribute) (ns : Namespace) (d : Depth) (p : ℕ) (nodes : Nodes) → xread (element n a ns nodes) v (a_list licenses) p d ≡ items_denoted (choice_plan licenses) n.local_name v d p nodes
 unfolding list
-licenses_read v n a ns d p nodes = list_reads licenses v n a ns d p nodes
+licenses_read v n a ns d p nodes = list_denoted licenses v n a ns d p nodes
 
 -- what was read of a list, seen as one
 pub reads_list : {X : Type 0} (f : X → Tree) (K : Kind) (depth : Depth → Depth) (old new : Cursor) (v : SpecVersion) (n : OwnedName) (inner : List ℕ) (r : Rule) (result : Result (List X) XmlReadError)
@@ -87,13 +87,13 @@ reads_list f K depth old new v n inner r (Err e) reads d p nodes rest st =
 pub whole_list : {X : Type 0} (f : X → Tree) (l : Lists) (K : Kind) (depth : Depth → Depth) (inner : List ℕ) (r : Rule) (v : SpecVersion) (n : OwnedName) (a : List OwnedAttribute) (old new : Cursor) (result : Result (List X) XmlReadError)
     → plan_of_list l ≡ listing_plan r inner K → ReadsItems f K depth old new v n inner r result → ReadsAs (list_tree f) old new n a v (a_list l) depth result
 whole_list f l K depth inner r v n a old new result is reads d ns p nodes rest st =
-    subst (λ x. Reads (list_tree f) old new (behind_end old nodes rest) x result) (sym (list_reads l v n a ns (depth d) p nodes ∙ ap (λ x. items_denoted x n.local_name v (depth d) p nodes) is)) (reads_list f K depth old new v n inner r result reads d p nodes rest st)
+    subst (λ x. Reads (list_tree f) old new (behind_end old nodes rest) x result) (sym (list_denoted l v n a ns (depth d) p nodes ∙ ap (λ x. items_denoted x n.local_name v (depth d) p nodes) is)) (reads_list f K depth old new v n inner r result reads d p nodes rest st)
 
 -- A field that is a list of the schema's.
 pub takes_list : (now : Tree) (K : Kind) (depth : Depth → Depth) (old new : Cursor) (v : SpecVersion) (n : OwnedName) (a : List OwnedAttribute) (inner : List ℕ) (r : Rule) (result : Result Taken XmlReadError) (l : Lists)
     → plan_of_list l ≡ listing_plan r inner K → TakesList now K depth old new v n inner r result → TakesOne now old new v (a_list l) depth n a result
 takes_list now K depth old new v n a inner r result l is takes d ns p nodes rest st =
-    subst (λ x. Took now old new (behind_end old nodes rest) x result) (sym (list_reads l v n a ns (depth d) p nodes ∙ ap (λ x. items_denoted x n.local_name v (depth d) p nodes) is)) (takes d p nodes rest st)
+    subst (λ x. Took now old new (behind_end old nodes rest) x result) (sym (list_denoted l v n a ns (depth d) p nodes ∙ ap (λ x. items_denoted x n.local_name v (depth d) p nodes) is)) (takes d p nodes rest st)
 
 abbrev filled_tree : Tree → Tree
 filled_tree trees.absent = trees.items trees.none

@@ -5,7 +5,7 @@ use Rattle.cdx_events.specs.declared.name.OwnedAttribute.{OwnedAttribute}
 use Rattle.cdx_events.specs.declared.name.Namespace.{Namespace}
 use Rattle.cdx_events.specs.declared.event.XmlEvent.{XmlEvent}
 use Rattle.cdx_events.specs.declared.event.XmlEvent.TheVariants.{StartDocument, EndDocument, StartElement, EndElement, Characters, CData}
-use Rattle.cdx_events.specs.Event.{kind_of}
+use Rattle.cdx_events.specs.Event.{event_kind}
 use Rattle.cdx_events.specs.Nodes.{Node, Nodes, characters, cdata, element, no_nodes, node, events_of_all}
 use Rattle.cdx_events.specs.Cursor.{Cursor}
 use Rattle.cdx_leaf.specs.Reading.{WithinElement, Stands, kind_of_node}
@@ -99,7 +99,7 @@ pub record Begins (event : XmlEvent) (nodes : Nodes) : Type 0 where
   pub item : Node
   pub others : Nodes
   pub nodes_are : nodes ≡ node item others
-  pub kind_is : kind_of_node item ≡ kind_of event
+  pub kind_is : kind_of_node item ≡ event_kind event
   pub started : (n : OwnedName) (a : List OwnedAttribute) (s : Namespace) (kids : Nodes) → item ≡ element n a s kids → event ≡ StartElement n a s
 
 element_start : {m n : OwnedName} {b a : List OwnedAttribute} {r s : Namespace} {kids inner : Nodes} → element m b r kids ≡ element n a s inner → StartElement m b r ≡ StartElement n a s
@@ -111,9 +111,9 @@ element_start {m = m} {n = n} {b = b} {a = a} {r = r} {s = s} e =
 
 begins_of : (nodes : Nodes) (name : OwnedName) (event : XmlEvent) (rest ahead : List XmlEvent) → ((m : OwnedName) → event ≡ EndElement m → ⊥) → events_of_all nodes ++ EndElement name ∷ rest ≡ event ∷ ahead → Begins event nodes
 begins_of no_nodes name event rest ahead other e = absurd (other name cc)
-begins_of (node (characters u) ks) name event rest ahead other e = let is : event ≡ Characters u = cc in record { item = characters u; others = ks; nodes_are = refl; kind_is = ap kind_of (sym is); started = λ n a s kids x. absurd cc }
-begins_of (node (cdata u) ks) name event rest ahead other e = let is : event ≡ CData u = cc in record { item = cdata u; others = ks; nodes_are = refl; kind_is = ap kind_of (sym is); started = λ n a s kids x. absurd cc }
-begins_of (node (element m b r kids) ks) name event rest ahead other e = let is : event ≡ StartElement m b r = cc in record { item = element m b r kids; others = ks; nodes_are = refl; kind_is = ap kind_of (sym is); started = λ n a s inner x. is ∙ element_start x }
+begins_of (node (characters u) ks) name event rest ahead other e = let is : event ≡ Characters u = cc in record { item = characters u; others = ks; nodes_are = refl; kind_is = ap event_kind (sym is); started = λ n a s kids x. absurd cc }
+begins_of (node (cdata u) ks) name event rest ahead other e = let is : event ≡ CData u = cc in record { item = cdata u; others = ks; nodes_are = refl; kind_is = ap event_kind (sym is); started = λ n a s kids x. absurd cc }
+begins_of (node (element m b r kids) ks) name event rest ahead other e = let is : event ≡ StartElement m b r = cc in record { item = element m b r kids; others = ks; nodes_are = refl; kind_is = ap event_kind (sym is); started = λ n a s inner x. is ∙ element_start x }
 
 pub at_other : (old new : Cursor) (event : XmlEvent) (name : OwnedName) (nodes : Nodes) (rest : List XmlEvent) → ((m : OwnedName) → event ≡ EndElement m → ⊥) → WithinElement old name nodes rest → Took old new event → Begins event nodes
 at_other old new event name nodes rest other a t = begins_of nodes name event rest new.ahead other (meets old new event name nodes rest a t)

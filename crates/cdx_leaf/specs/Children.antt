@@ -34,7 +34,7 @@ met plan v d n a ns p nodes ts = meet (find_child v n.local_name plan.children) 
 -- A refused child.
 pub record RefusesChild (old new : Cursor) (e : XmlReadError) (child : Met) : Type 0 where
   pub read : Result Trees XmlReadError
-  pub child_is : child ≡ found read
+  pub met_is : child ≡ found read
   pub grown : old.place ≤ new.place
   pub fails : FailsAt e new.place read
 

@@ -3,7 +3,7 @@ use Rattle.std.specs.Prelude.{◌≡◌, ℕ, ◌+◌, List, ◌∷◌, Option, 
 use Rattle.cdx_events.specs.declared.event.XmlEvent.{XmlEvent}
 use Rattle.cdx_events.specs.declared.event.XmlEvent.TheVariants.{EndElement, Characters, CData}
 use Rattle.cdx_events.specs.declared.name.Namespace.{Namespace}
-use Rattle.cdx_events.specs.Event.{kind_of}
+use Rattle.cdx_events.specs.Event.{event_kind}
 use Rattle.cdx_events.specs.Nodes.{Nodes, no_nodes, node}
 use Rattle.cdx_events.specs.Cursor.{Cursor}
 use Rattle.cdx_models.specs.declared.bom.SpecVersion.{SpecVersion}
@@ -31,14 +31,14 @@ boolean_in nodes around p = simple_text nodes around p >>= λ s. value_read a_bo
 abbrev pub text_in_event : XmlEvent → List ℕ → ℕ → Result (List ℕ) XmlReadError
 text_in_event (Characters t) around p = Ok t
 text_in_event (CData t) around p = Ok t
-text_in_event event around p = Err (unexpected p around (kind_of event))
+text_in_event event around p = Err (unexpected p around (event_kind event))
 
 -- the same, where the element may end
 abbrev pub event_text_or_end : XmlEvent → List ℕ → ℕ → Result (Option (List ℕ)) XmlReadError
 event_text_or_end (Characters t) around p = Ok (Some t)
 event_text_or_end (CData t) around p = Ok (Some t)
 event_text_or_end (EndElement n) around p = Ok None
-event_text_or_end event around p = Err (unexpected p around (kind_of event))
+event_text_or_end event around p = Err (unexpected p around (event_kind event))
 
 -- The next event alone is read, and the reader stands right after it.
 abbrev pub ReadsNext : {X T : Type 0} → (X → T) → Cursor → Cursor → (ℕ → XmlEvent → Result T XmlReadError) → Result X XmlReadError → Type 0

@@ -1,7 +1,7 @@
 //! The faults of reading.
 
 ghost use Rattle.std.specs.Prelude.{◌≡◌, IfOk};
-ghost use Rattle.cdx_events.specs.Event.{kind_of};
+ghost use Rattle.cdx_events.specs.Event.{event_kind};
 ghost use Rattle.cdx_schema.specs.Faults.{unexpected, lacking, unreadable};
 ghost use Rattle.cdx_leaf.specs.Fault.{Refused};
 
@@ -19,7 +19,7 @@ pub fn unexpected_element_error(
     element: &str,
     event: &XmlEvent,
 ) -> Result<XmlReadError, AllocError>
-    ensures { IfOk result (λ e. e ≡ unexpected place element.now (kind_of event.now)) }
+    ensures { IfOk result (λ e. e ≡ unexpected place element.now (event_kind event.now)) }
 {
     Ok(XmlReadError::UnexpectedElementReadError {
         place,
@@ -65,7 +65,7 @@ pub fn refuse<T>(
     element: &OwnedName,
     event: &XmlEvent,
 ) -> Result<T, XmlReadError>
-    ensures { Refused result (unexpected place element.now.local_name (kind_of event.now)) }
+    ensures { Refused result (unexpected place element.now.local_name (event_kind event.now)) }
 {
     Err(unexpected_element_error(alloc, place, element.local_name.as_str(), event)?)
 }

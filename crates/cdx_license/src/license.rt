@@ -4,11 +4,11 @@ ghost use Rattle.cdx_models.specs.Trees.{expression, license};
 ghost use Rattle.cdx_schema.specs.Kinds.{a_license_choice, a_license_identifier, a_list, licenses};
 ghost use Rattle.std.specs.Prelude.{◌≡◌, refl, IfOk, None, ◌↔◌, IsTrue};
 ghost use Rattle.cdx_license.specs.Records.{identifier_tree, identifier_there, license_tree, expression_tree, choice_tree, choice_there, licenses_tree};
-ghost use Rattle.cdx_models.specs.Same.{same};
-ghost use Rattle.cdx_models.specs.SameLaws.{same_laws};
+ghost use Rattle.cdx_models.specs.Equal.{equal};
+ghost use Rattle.cdx_models.specs.EqualLaws.{equal_laws};
 
 use cdx_events::{List, Text};
-use cdx_models::{AttachedText, HasTree, Properties, copy_row, same_row};
+use cdx_models::{AttachedText, HasTree, Properties, copy_row, equal_row};
 use cdx_schema::{Kinded, Record};
 use std::alloc::{AllocError, Global};
 
@@ -48,15 +48,15 @@ impl Kinded for LicenseIdentifier {
 }
 
 impl PartialEq for LicenseIdentifier {
-    ghost eq = { λ a b. same (identifier_tree a) (identifier_tree b) };
+    ghost eq = { λ a b. equal (identifier_tree a) (identifier_tree b) };
 
-    ghost laws = { same_laws identifier_tree };
+    ghost laws = { equal_laws identifier_tree };
 
     fn eq(&self, other: &LicenseIdentifier) -> bool
-        ensures test { result ≡ same (identifier_tree self.now) (identifier_tree other.now) }
+        ensures test { result ≡ equal (identifier_tree self.now) (identifier_tree other.now) }
         ensures equality { IsTrue result ↔ (identifier_tree self.now ≡ identifier_tree other.now) }
     {
-        self.same(other)
+        self.equals(other)
     }
 }
 
@@ -104,11 +104,11 @@ impl HasTree for License {
     }
 
     fn agrees(&self, other: &License) -> bool {
-        same_row(&self.bom_ref, &other.bom_ref)
+        equal_row(&self.bom_ref, &other.bom_ref)
             && self.license_identifier.agrees(&other.license_identifier)
-            && same_row(&self.text, &other.text)
-            && same_row(&self.url, &other.url)
-            && same_row(&self.properties, &other.properties)
+            && equal_row(&self.text, &other.text)
+            && equal_row(&self.url, &other.url)
+            && equal_row(&self.properties, &other.properties)
     }
 }
 
@@ -121,15 +121,15 @@ impl Record for License {
 }
 
 impl PartialEq for License {
-    ghost eq = { λ a b. same (license_tree a) (license_tree b) };
+    ghost eq = { λ a b. equal (license_tree a) (license_tree b) };
 
-    ghost laws = { same_laws license_tree };
+    ghost laws = { equal_laws license_tree };
 
     fn eq(&self, other: &License) -> bool
-        ensures test { result ≡ same (license_tree self.now) (license_tree other.now) }
+        ensures test { result ≡ equal (license_tree self.now) (license_tree other.now) }
         ensures equality { IsTrue result ↔ (license_tree self.now ≡ license_tree other.now) }
     {
-        self.same(other)
+        self.equals(other)
     }
 }
 
@@ -167,7 +167,7 @@ impl HasTree for Expression {
     }
 
     fn agrees(&self, other: &Expression) -> bool {
-        same_row(&self.bom_ref, &other.bom_ref) && self.expression.agrees(&other.expression)
+        equal_row(&self.bom_ref, &other.bom_ref) && self.expression.agrees(&other.expression)
     }
 }
 
@@ -180,15 +180,15 @@ impl Record for Expression {
 }
 
 impl PartialEq for Expression {
-    ghost eq = { λ a b. same (expression_tree a) (expression_tree b) };
+    ghost eq = { λ a b. equal (expression_tree a) (expression_tree b) };
 
-    ghost laws = { same_laws expression_tree };
+    ghost laws = { equal_laws expression_tree };
 
     fn eq(&self, other: &Expression) -> bool
-        ensures test { result ≡ same (expression_tree self.now) (expression_tree other.now) }
+        ensures test { result ≡ equal (expression_tree self.now) (expression_tree other.now) }
         ensures equality { IsTrue result ↔ (expression_tree self.now ≡ expression_tree other.now) }
     {
-        self.same(other)
+        self.equals(other)
     }
 }
 
@@ -228,15 +228,15 @@ impl Kinded for LicenseChoice {
 }
 
 impl PartialEq for LicenseChoice {
-    ghost eq = { λ a b. same (choice_tree a) (choice_tree b) };
+    ghost eq = { λ a b. equal (choice_tree a) (choice_tree b) };
 
-    ghost laws = { same_laws choice_tree };
+    ghost laws = { equal_laws choice_tree };
 
     fn eq(&self, other: &LicenseChoice) -> bool
-        ensures test { result ≡ same (choice_tree self.now) (choice_tree other.now) }
+        ensures test { result ≡ equal (choice_tree self.now) (choice_tree other.now) }
         ensures equality { IsTrue result ↔ (choice_tree self.now ≡ choice_tree other.now) }
     {
-        self.same(other)
+        self.equals(other)
     }
 }
 
@@ -263,14 +263,14 @@ impl Kinded for Licenses {
 }
 
 impl PartialEq for Licenses {
-    ghost eq = { λ a b. same (licenses_tree a) (licenses_tree b) };
+    ghost eq = { λ a b. equal (licenses_tree a) (licenses_tree b) };
 
-    ghost laws = { same_laws licenses_tree };
+    ghost laws = { equal_laws licenses_tree };
 
     fn eq(&self, other: &Licenses) -> bool
-        ensures test { result ≡ same (licenses_tree self.now) (licenses_tree other.now) }
+        ensures test { result ≡ equal (licenses_tree self.now) (licenses_tree other.now) }
         ensures equality { IsTrue result ↔ (licenses_tree self.now ≡ licenses_tree other.now) }
     {
-        self.same(other)
+        self.equals(other)
     }
 }

@@ -34,7 +34,7 @@ use Rattle.cdx_service.specs.declared.service.Service.{Service}
 use Rattle.cdx_service.specs.declared.service.Service.TheOpen.{Service-F}
 use Rattle.cdx_service.specs.declared.service.Service.TheViews.{out-Service}
 use Rattle.cdx_service.specs.declared.service.Services.{Services}
-use Rattle.cdx_service.specs.Trees.{service_tree, services_tree, service_fields, services_listed}
+use Rattle.cdx_service.specs.Trees.{service_tree, services_tree, service_fields, service_items}
 use Rattle.cdx_service.specs.Laws.{service_tree-out, services_tree-out}
 use Rattle.cdx_nest.specs.Trees.{object_tree, tools_tree, metadata_tree}
 use Rattle.cdx_nest.specs.declared.metadata.Metadata.{Metadata}
@@ -267,7 +267,7 @@ pub pedigree_lost : (u : SpecVersion) (n : ℕ) (p : Pedigree) → lost u n (ped
 unfolding lost
 pedigree_lost u n p = ap (λ t. lost u n t (a_record pedigree)) (pedigree_tree-out p) ∙ pedigree_level u n components_tree (out-Pedigree p)
 
-pub components_lost : (u : SpecVersion) (n : ℕ) (cs : Components) → lost u n (components_tree cs) (a_list components) ≡ items_lost u n (each component_tree (nested.listed_components cs)) (a_record component) 0
+pub components_lost : (u : SpecVersion) (n : ℕ) (cs : Components) → lost u n (components_tree cs) (a_list components) ≡ items_lost u n (each component_tree (nested.component_items cs)) (a_record component) 0
 unfolding lost list
 components_lost u n cs = ap (λ t. lost u n t (a_list components)) (components_tree-out cs)
 
@@ -297,7 +297,7 @@ pub service_lost : (u : SpecVersion) (n : ℕ) (s : Service) → lost u n (servi
 unfolding lost
 service_lost u n s = ap (λ t. lost u n t (a_record service)) (service_tree-out s) ∙ service_level u n services_tree (out-Service s)
 
-pub services_lost : (u : SpecVersion) (n : ℕ) (ss : Services) → lost u n (services_tree ss) (a_list services) ≡ items_lost u n (each service_tree (services_listed ss)) (a_record service) 0
+pub services_lost : (u : SpecVersion) (n : ℕ) (ss : Services) → lost u n (services_tree ss) (a_list services) ≡ items_lost u n (each service_tree (service_items ss)) (a_record service) 0
 unfolding lost list
 services_lost u n ss = ap (λ t. lost u n t (a_list services)) (services_tree-out ss)
 

@@ -29,7 +29,7 @@ use Rattle.cdx_tool.specs.declared.request.RequestError.TheVariants as misreadin
 use Rattle.cdx_tool.specs.Shows.{reply_of}
 use Rattle.cdx_tool.specs.Owed.{reply_by, IsSettled}
 use Rattle.cdx_tool.specs.Run.{Tells, Ends}
-use Rattle.cdx_tool.specs.Asks.{Lack, misread, billed, Lacks, reply_to_bill}
+use Rattle.cdx_tool.specs.Asks.{WhyNoBill, misread, billed, Lacks, reply_to_bill}
 use Rattle.cdx_tool.specs.declared.question.NoBill.TheVariants as lack
 use Rattle.cdx_ways.specs.Ways.{At}
 use Rattle.cdx_losses.specs.Answers.{reason_word, loss_value, losses_answer}
@@ -86,7 +86,7 @@ pub bill_reply : (hops : List Hop) (owed : Result Tree Refusal) (b : Tree) → o
 bill_reply hops owed b is = ap (λ (o : Result Tree Refusal). reply_to_bill (answer_to hops) (billed o)) (sym is)
 
 -- what is asked for, and the hops
-abbrev pub asked_for : Result Request Misread → Result Tree Lack
+abbrev pub asked_for : Result Request Misread → Result Tree WhyNoBill
 asked_for (Ok q) = billed (carried q.doc q.from q.hops)
 asked_for (Err e) = Err (misread e)
 

@@ -10,7 +10,7 @@ use Rattle.serde_json.specs.Read.{read}
 use Rattle.serde_json.specs.Written.{compact_text}
 use Rattle.cdx_models.specs.declared.bom.SpecVersion.{SpecVersion}
 use Rattle.cdx_models.specs.Trees.{Tree}
-use Rattle.cdx_models.specs.Same.{same}
+use Rattle.cdx_models.specs.Equal.{equal}
 use Rattle.cdx_schema.specs.Kinds.{a_bill}
 use Rattle.cdx_schema.specs.JsonReading.{json_denotes}
 use Rattle.cdx_schema.specs.XmlReading.{xml_denotes}
@@ -52,9 +52,9 @@ abbrev pub holds : Option Tree → (Tree → Bool) → Bool
 holds None f = false
 holds (Some b) f = f b
 
--- Whether a bill, less what a road takes, is the same as after it.
+-- Whether a bill, less what a road takes, is the equal as after it.
 abbrev pub are_struck_well : Hop → List Hop → Option Tree → Bool
-are_struck_well h hs o = holds o (λ b. same (settled (struck b (taken b (h ∷ hs)) (last_of h.version hs)) a_bill) (settled (after_road b h hs) a_bill))
+are_struck_well h hs o = holds o (λ b. equal (settled (struck b (taken b (h ∷ hs)) (last_of h.version hs)) a_bill) (settled (after_road b h hs) a_bill))
 
 -- Whether each entry leads to something, and none lies below another.
 abbrev pub are_found : List Hop → Option Tree → Bool

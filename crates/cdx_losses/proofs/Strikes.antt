@@ -12,7 +12,7 @@ use Rattle.cdx_schema.specs.Table.{rows}
 use Rattle.cdx_schema.specs.Keeping.{kept, items_kept, rows_kept, kept_record, before_1_5}
 use Rattle.cdx_schema.specs.Membership.{AnyText, HasShape, HaveShape, FieldsHaveShape, IsRecordOf}
 use Rattle.cdx_schema.specs.JsonReading.{or_else}
-use Rattle.cdx_schema.specs.Trips.{bare, items_bare, rows_bare, field_after, none_is_absent, is_hollow, is_passed_over, settled, settled_items, items_settled, rows_settled, Form, in_json, in_xml, Hop, trips, lowest_of, last_of}
+use Rattle.cdx_schema.specs.Trips.{bare, items_bare, rows_bare, field_after, none_is_absent, is_hollow, is_passed_over, settled, list_settled, items_settled, rows_settled, Form, in_json, in_xml, Hop, trips, lowest_of, last_of}
 use Rattle.cdx_schema.specs.Suppliers.{is_supplier, unsupplied, items_unsupplied, rows_unsupplied}
 use Rattle.cdx_schema.specs.Laws.{HasBillShape, xml_count}
 use Rattle.cdx_schema.proofs.JsonBack.{and_true}
@@ -464,7 +464,7 @@ mutual
   cut_alike u l n (text s) k h e = sym (ap (λ x. settled (kept u l x k) k) (text_left n s))
   cut_alike u l n (number m) k h e = sym (ap (λ x. settled (kept u l x k) k) (number_left n m))
   cut_alike u l n (boolean b) k h e = sym (ap (λ x. settled (kept u l x k) k) (boolean_left n b))
-  cut_alike u l n (items ts) k h e = ap (settled_items k) (items_cut_alike u l n ts (held_kind k) h.1) ∙ sym (ap (λ x. settled (kept u l x k) k) (list_left n ts))
+  cut_alike u l n (items ts) k h e = ap (list_settled k) (items_cut_alike u l n ts (held_kind k) h.1) ∙ sym (ap (λ x. settled (kept u l x k) k) (list_left n ts))
   cut_alike u l n (fields m ts) k h e = record_alike u l n k m ts h.0 h.1 e (rows_cut_alike u l n ts (rows m) (firm m) h.1) ∙ sym (ap (λ x. settled (kept u l x k) k) (record_left n m ts))
 
   items_cut_alike : (u l : SpecVersion) (n : ℕ) (ts : Trees) (k : Kind) → HaveShape ts k → items_settled (items_cut u n l ts k) k ≡ items_settled (items_kept u l (items_left n ts) k) k

@@ -6,7 +6,7 @@ use Rattle.cdx_events.specs.declared.name.Namespace.{Namespace}
 use Rattle.cdx_events.specs.declared.event.XmlEvent.{XmlEvent}
 use Rattle.cdx_events.specs.declared.event.XmlEvent.TheVariants.{StartDocument, EndDocument, StartElement, EndElement, Characters, CData}
 use Rattle.cdx_events.specs.declared.event.EventKind.TheVariants as kinds
-use Rattle.cdx_events.specs.Event.{kind_of}
+use Rattle.cdx_events.specs.Event.{event_kind}
 use Rattle.cdx_events.specs.Nodes.{Node, characters, cdata, element, Nodes, no_nodes}
 use Rattle.cdx_models.specs.declared.bom.SpecVersion.{SpecVersion}
 use Rattle.cdx_models.specs.declared.errors.XmlReadError.{XmlReadError}
@@ -107,7 +107,7 @@ module _ {C : Type 0} (kind : Kind) (first : First) (last : TextLast) (start : C
     Stepped kept o r = Proceeds Held kept (λ k. xread k v kind p d) p o r
 
     -- a text
-    new_text : (kept : Type 0) (old : Option (List ℕ)) (n : OwnedName) (a : List OwnedAttribute) (s : Namespace) (xs : Nodes) (m : Node) (event : XmlEvent) (u : List ℕ) (r : Result Bool XmlReadError) → content_holds first start name c old v p (innermost n a s xs) → place ≡ p + suc (places_of xs) → kind_of event ≡ kind_of_node m → places m ≡ 1 → AreText (Some u) (lone m)
+    new_text : (kept : Type 0) (old : Option (List ℕ)) (n : OwnedName) (a : List OwnedAttribute) (s : Namespace) (xs : Nodes) (m : Node) (event : XmlEvent) (u : List ℕ) (r : Result Bool XmlReadError) → content_holds first start name c old v p (innermost n a s xs) → place ≡ p + suc (places_of xs) → event_kind event ≡ kind_of_node m → places m ≡ 1 → AreText (Some u) (lone m)
         → TakesNew old new n.local_name place event u r → Stepped kept (still (innermost n a s (xs ⊕ lone m))) r
     new_text kept None n a s xs m event u (Ok true) h is ke one t k = absurd (let wrong : true ≡ false = k.0 in cc)
     new_text kept None n a s xs m event u (Ok false) (ni, h, w) is ke one t k = ((ni, h, rw (k.1, w) t), is_quiet c (Some u) n a s (xs ⊕ lone m) v p d h (rw w t))

@@ -5,7 +5,7 @@ use Rattle.cdx_events.specs.declared.name.OwnedAttribute.{OwnedAttribute}
 use Rattle.cdx_events.specs.declared.name.Namespace.{Namespace}
 use Rattle.cdx_events.specs.declared.event.XmlEvent.{XmlEvent}
 use Rattle.cdx_events.specs.declared.event.XmlEvent.TheVariants.{StartDocument, EndDocument, StartElement, EndElement, Characters, CData}
-use Rattle.cdx_events.specs.Event.{kind_of}
+use Rattle.cdx_events.specs.Event.{event_kind}
 use Rattle.cdx_events.specs.Nodes.{Node, characters, cdata, element, Nodes, no_nodes}
 use Rattle.cdx_models.specs.declared.bom.SpecVersion.{SpecVersion}
 use Rattle.cdx_models.specs.declared.errors.XmlReadError.{XmlReadError}
@@ -175,7 +175,7 @@ module _ (denotes : Node → SpecVersion → ℕ → Depth → Result Tree XmlRe
           ends i j e f g = omega (arith, e, f, g)
 
       pub own_text_fails : (held : Begun → Type 0) (rule : Rule) (o : Begun) (place : ℕ) (event : XmlEvent) (x : Result Bool XmlReadError) → Own o → place ≡ p + count o → TakesEvent o event → plan.rule ≡ as_rule rule → passes rule ≡ false → ((m : OwnedName) (b : List OwnedAttribute) (z : Namespace) → event ≡ StartElement m b z → ⊥)
-          → ((m : OwnedName) → event ≡ EndElement m → ⊥) → Refused x (unexpected place name (kind_of event)) → Stepped held (next o event) x
+          → ((m : OwnedName) → event ≡ EndElement m → ⊥) → Refused x (unexpected place name (event_kind event)) → Stepped held (next o event) x
       own_text_fails held rule (around n a s xs o) place event x h is t ru not i j e = absurd h
       own_text_fails held rule (innermost n a s xs) place StartDocument x h is t ru not i j e = absurd t
       own_text_fails held rule (innermost n a s xs) place EndDocument x h is t ru not i j e = absurd t

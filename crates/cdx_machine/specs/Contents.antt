@@ -5,7 +5,7 @@ use Rattle.cdx_events.specs.declared.name.OwnedAttribute.{OwnedAttribute}
 use Rattle.cdx_events.specs.declared.name.Namespace.{Namespace}
 use Rattle.cdx_events.specs.declared.event.XmlEvent.{XmlEvent}
 use Rattle.cdx_events.specs.declared.event.XmlEvent.TheVariants.{StartDocument, EndDocument, StartElement, EndElement, Characters, CData}
-use Rattle.cdx_events.specs.Event.{kind_of}
+use Rattle.cdx_events.specs.Event.{event_kind}
 use Rattle.cdx_events.specs.Nodes.{characters, cdata, element, Nodes, no_nodes}
 use Rattle.cdx_models.specs.declared.bom.SpecVersion.{SpecVersion}
 use Rattle.cdx_models.specs.declared.errors.XmlReadError.{XmlReadError}
@@ -54,13 +54,13 @@ abbrev pub TakesNew : Option (List ℕ) → Option (List ℕ) → List ℕ → �
 TakesNew None new el place event t (Ok b) = (b ≡ false) × (new ≡ Some t)
 TakesNew None new el place event t (Err (Memory m)) = Unit {0}
 TakesNew None new el place event t (Err e) = ⊥
-TakesNew (Some u) new el place event t result = Refused result (unexpected place el (kind_of event))
+TakesNew (Some u) new el place event t result = Refused result (unexpected place el (event_kind event))
 
 -- One event in an element that holds one text at most: whether it is the end.
 abbrev pub TakesText : Option (List ℕ) → Option (List ℕ) → List ℕ → ℕ → XmlEvent → Result Bool XmlReadError → Type 0
-TakesText old new el place StartDocument result = Refused result (unexpected place el (kind_of StartDocument))
-TakesText old new el place EndDocument result = Refused result (unexpected place el (kind_of EndDocument))
-TakesText old new el place (StartElement n a s) result = Refused result (unexpected place el (kind_of (StartElement n a s)))
+TakesText old new el place StartDocument result = Refused result (unexpected place el (event_kind StartDocument))
+TakesText old new el place EndDocument result = Refused result (unexpected place el (event_kind EndDocument))
+TakesText old new el place (StartElement n a s) result = Refused result (unexpected place el (event_kind (StartElement n a s)))
 TakesText old new el place (EndElement n) result = (result ≡ Ok true) × (new ≡ old)
 TakesText old new el place (Characters t) result = TakesNew old new el place (Characters t) t result
 TakesText old new el place (CData t) result = TakesNew old new el place (CData t) t result

@@ -6,7 +6,7 @@ use Rattle.cdx_events.specs.declared.name.Namespace.{Namespace}
 use Rattle.cdx_events.specs.declared.event.XmlEvent.{XmlEvent}
 use Rattle.cdx_events.specs.declared.event.XmlEvent.TheVariants.{StartDocument, EndDocument, StartElement, EndElement, Characters, CData}
 use Rattle.cdx_events.specs.declared.event.EventKind.TheVariants as kinds
-use Rattle.cdx_events.specs.Event.{kind_of}
+use Rattle.cdx_events.specs.Event.{event_kind}
 use Rattle.cdx_events.specs.Nodes.{Node, Nodes, no_nodes, element}
 use Rattle.cdx_models.specs.declared.bom.SpecVersion.{SpecVersion}
 use Rattle.cdx_models.specs.declared.errors.XmlReadError.{XmlReadError}
@@ -111,4 +111,4 @@ EntersAt holds plan ts v n q d o (Ok (places_inside.Skipped depth)) = IsSkipped 
 EntersAt holds plan ts v n q d o (Err e) = RefusesBefore e (suc q) (child_read_into (find_child v (start_name o).local_name plan.children) plan.rule (xread (ended_now o)) n v d q ts)
 
 abbrev pub Enters : {C : Type 0} → ChildHolding C → Plan → Trees → SpecVersion → List ℕ → ℕ → XmlEvent → OwnedName → List OwnedAttribute → Result (Inside C) XmlReadError → Type 0
-Enters holds plan ts v n q event m b result = kind_of event ≡ kinds.StartElement → (d : Depth) (s : Namespace) → EntersAt holds plan ts v n q d (innermost m b s no_nodes) result
+Enters holds plan ts v n q event m b result = event_kind event ≡ kinds.StartElement → (d : Depth) (s : Namespace) → EntersAt holds plan ts v n q d (innermost m b s no_nodes) result

@@ -1,6 +1,6 @@
 //! Refusals of events.
 
-ghost use Rattle.cdx_events.specs.Event.{kind_of};
+ghost use Rattle.cdx_events.specs.Event.{event_kind};
 ghost use Rattle.cdx_schema.specs.Faults.{unexpected};
 ghost use Rattle.cdx_leaf.specs.Fault.{Refused};
 
@@ -16,7 +16,7 @@ pub fn refuse_in<T>(
     element: &Text,
     event: &XmlEvent,
 ) -> Result<T, XmlReadError>
-    ensures { Refused result (unexpected place element.now (kind_of event.now)) }
+    ensures { Refused result (unexpected place element.now (event_kind event.now)) }
 {
     Err(unexpected_element_error(alloc, place, element.as_str(), event)?)
 }

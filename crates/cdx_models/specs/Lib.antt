@@ -1,7 +1,7 @@
 pub mod Versions
 pub mod Trees
-pub mod Same
-pub mod SameLaws
+pub mod Equal
+pub mod EqualLaws
 pub mod Addresses
 pub mod Records
 pub mod Entries

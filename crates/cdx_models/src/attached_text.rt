@@ -2,10 +2,10 @@
 
 ghost use Rattle.std.specs.Prelude.{refl, ◌≡◌, ◌↔◌, IsTrue};
 ghost use Rattle.cdx_models.specs.Records.{attached_text_tree};
-ghost use Rattle.cdx_models.specs.Same.{same};
-ghost use Rattle.cdx_models.specs.SameLaws.{same_laws};
+ghost use Rattle.cdx_models.specs.Equal.{equal};
+ghost use Rattle.cdx_models.specs.EqualLaws.{equal_laws};
 
-use crate::tree::{HasTree, copy_row, same_row};
+use crate::tree::{HasTree, copy_row, equal_row};
 use cdx_events::Text;
 use std::alloc::{AllocError, Global};
 
@@ -34,22 +34,22 @@ impl HasTree for AttachedText {
     }
 
     fn agrees(&self, other: &AttachedText) -> bool {
-        same_row(&self.content_type, &other.content_type)
-            && same_row(&self.encoding, &other.encoding)
+        equal_row(&self.content_type, &other.content_type)
+            && equal_row(&self.encoding, &other.encoding)
             && self.content.agrees(&other.content)
     }
 }
 
 impl PartialEq for AttachedText {
-    ghost eq = { λ a b. same (attached_text_tree a) (attached_text_tree b) };
+    ghost eq = { λ a b. equal (attached_text_tree a) (attached_text_tree b) };
 
-    ghost laws = { same_laws attached_text_tree };
+    ghost laws = { equal_laws attached_text_tree };
 
     fn eq(&self, other: &AttachedText) -> bool
-        ensures test { result ≡ same (attached_text_tree self.now) (attached_text_tree other.now) }
+        ensures test { result ≡ equal (attached_text_tree self.now) (attached_text_tree other.now) }
         ensures equality { IsTrue result
             ↔ (attached_text_tree self.now ≡ attached_text_tree other.now) }
     {
-        self.same(other)
+        self.equals(other)
     }
 }

@@ -3,8 +3,8 @@
 ghost use Rattle.std.specs.Prelude.{◌≡◌, refl, ◌↔◌, IsTrue};
 ghost use Rattle.cdx_models.specs.Versions.{label, version_of, lowest, knows};
 ghost use Rattle.cdx_models.specs.Records.{urn_tree};
-ghost use Rattle.cdx_models.specs.Same.{same};
-ghost use Rattle.cdx_models.specs.SameLaws.{same_laws};
+ghost use Rattle.cdx_models.specs.Equal.{equal};
+ghost use Rattle.cdx_models.specs.EqualLaws.{equal_laws};
 
 use crate::tree::HasTree;
 use cdx_events::Text;
@@ -87,14 +87,14 @@ impl HasTree for UrnUuid {
 }
 
 impl PartialEq for UrnUuid {
-    ghost eq = { λ a b. same (urn_tree a) (urn_tree b) };
+    ghost eq = { λ a b. equal (urn_tree a) (urn_tree b) };
 
-    ghost laws = { same_laws urn_tree };
+    ghost laws = { equal_laws urn_tree };
 
     fn eq(&self, other: &UrnUuid) -> bool
-        ensures test { result ≡ same (urn_tree self.now) (urn_tree other.now) }
+        ensures test { result ≡ equal (urn_tree self.now) (urn_tree other.now) }
         ensures equality { IsTrue result ↔ (urn_tree self.now ≡ urn_tree other.now) }
     {
-        self.same(other)
+        self.equals(other)
     }
 }

@@ -3,11 +3,11 @@
 ghost use Rattle.std.specs.Prelude.{◌≡◌, refl, IfOk, ◌↔◌, IsTrue};
 ghost use Rattle.cdx_models.specs.Records.{uri_tree, reference_tree, references_tree};
 ghost use Rattle.cdx_models.specs.Addresses.{begins_as_bom_link, uri_of, uri_text};
-ghost use Rattle.cdx_models.specs.Same.{same};
-ghost use Rattle.cdx_models.specs.SameLaws.{same_laws};
+ghost use Rattle.cdx_models.specs.Equal.{equal};
+ghost use Rattle.cdx_models.specs.EqualLaws.{equal_laws};
 
 use crate::hash::Hashes;
-use crate::tree::{HasTree, copy_row, same_row};
+use crate::tree::{HasTree, copy_row, equal_row};
 use cdx_events::{List, Text};
 use std::alloc::{AllocError, Global};
 
@@ -70,15 +70,15 @@ impl HasTree for Uri {
 }
 
 impl PartialEq for Uri {
-    ghost eq = { λ a b. same (uri_tree a) (uri_tree b) };
+    ghost eq = { λ a b. equal (uri_tree a) (uri_tree b) };
 
-    ghost laws = { same_laws uri_tree };
+    ghost laws = { equal_laws uri_tree };
 
     fn eq(&self, other: &Uri) -> bool
-        ensures test { result ≡ same (uri_tree self.now) (uri_tree other.now) }
+        ensures test { result ≡ equal (uri_tree self.now) (uri_tree other.now) }
         ensures equality { IsTrue result ↔ (uri_tree self.now ≡ uri_tree other.now) }
     {
-        self.same(other)
+        self.equals(other)
     }
 }
 
@@ -113,21 +113,21 @@ impl HasTree for ExternalReference {
         self.external_reference_type
             .agrees(&other.external_reference_type)
             && self.url.agrees(&other.url)
-            && same_row(&self.comment, &other.comment)
-            && same_row(&self.hashes, &other.hashes)
+            && equal_row(&self.comment, &other.comment)
+            && equal_row(&self.hashes, &other.hashes)
     }
 }
 
 impl PartialEq for ExternalReference {
-    ghost eq = { λ a b. same (reference_tree a) (reference_tree b) };
+    ghost eq = { λ a b. equal (reference_tree a) (reference_tree b) };
 
-    ghost laws = { same_laws reference_tree };
+    ghost laws = { equal_laws reference_tree };
 
     fn eq(&self, other: &ExternalReference) -> bool
-        ensures test { result ≡ same (reference_tree self.now) (reference_tree other.now) }
+        ensures test { result ≡ equal (reference_tree self.now) (reference_tree other.now) }
         ensures equality { IsTrue result ↔ (reference_tree self.now ≡ reference_tree other.now) }
     {
-        self.same(other)
+        self.equals(other)
     }
 }
 
@@ -150,14 +150,14 @@ impl HasTree for ExternalReferences {
 }
 
 impl PartialEq for ExternalReferences {
-    ghost eq = { λ a b. same (references_tree a) (references_tree b) };
+    ghost eq = { λ a b. equal (references_tree a) (references_tree b) };
 
-    ghost laws = { same_laws references_tree };
+    ghost laws = { equal_laws references_tree };
 
     fn eq(&self, other: &ExternalReferences) -> bool
-        ensures test { result ≡ same (references_tree self.now) (references_tree other.now) }
+        ensures test { result ≡ equal (references_tree self.now) (references_tree other.now) }
         ensures equality { IsTrue result ↔ (references_tree self.now ≡ references_tree other.now) }
     {
-        self.same(other)
+        self.equals(other)
     }
 }

@@ -2,8 +2,8 @@
 
 ghost use Rattle.std.specs.Prelude.{refl, ◌≡◌, ◌↔◌, IsTrue};
 ghost use Rattle.cdx_models.specs.Records.{hash_value_tree, hash_tree, hashes_tree};
-ghost use Rattle.cdx_models.specs.Same.{same};
-ghost use Rattle.cdx_models.specs.SameLaws.{same_laws};
+ghost use Rattle.cdx_models.specs.Equal.{equal};
+ghost use Rattle.cdx_models.specs.EqualLaws.{equal_laws};
 
 use crate::tree::HasTree;
 use cdx_events::{List, Text};
@@ -28,15 +28,15 @@ impl HasTree for HashValue {
 }
 
 impl PartialEq for HashValue {
-    ghost eq = { λ a b. same (hash_value_tree a) (hash_value_tree b) };
+    ghost eq = { λ a b. equal (hash_value_tree a) (hash_value_tree b) };
 
-    ghost laws = { same_laws hash_value_tree };
+    ghost laws = { equal_laws hash_value_tree };
 
     fn eq(&self, other: &HashValue) -> bool
-        ensures test { result ≡ same (hash_value_tree self.now) (hash_value_tree other.now) }
+        ensures test { result ≡ equal (hash_value_tree self.now) (hash_value_tree other.now) }
         ensures equality { IsTrue result ↔ (hash_value_tree self.now ≡ hash_value_tree other.now) }
     {
-        self.same(other)
+        self.equals(other)
     }
 }
 
@@ -67,15 +67,15 @@ impl HasTree for Hash {
 }
 
 impl PartialEq for Hash {
-    ghost eq = { λ a b. same (hash_tree a) (hash_tree b) };
+    ghost eq = { λ a b. equal (hash_tree a) (hash_tree b) };
 
-    ghost laws = { same_laws hash_tree };
+    ghost laws = { equal_laws hash_tree };
 
     fn eq(&self, other: &Hash) -> bool
-        ensures test { result ≡ same (hash_tree self.now) (hash_tree other.now) }
+        ensures test { result ≡ equal (hash_tree self.now) (hash_tree other.now) }
         ensures equality { IsTrue result ↔ (hash_tree self.now ≡ hash_tree other.now) }
     {
-        self.same(other)
+        self.equals(other)
     }
 }
 
@@ -98,14 +98,14 @@ impl HasTree for Hashes {
 }
 
 impl PartialEq for Hashes {
-    ghost eq = { λ a b. same (hashes_tree a) (hashes_tree b) };
+    ghost eq = { λ a b. equal (hashes_tree a) (hashes_tree b) };
 
-    ghost laws = { same_laws hashes_tree };
+    ghost laws = { equal_laws hashes_tree };
 
     fn eq(&self, other: &Hashes) -> bool
-        ensures test { result ≡ same (hashes_tree self.now) (hashes_tree other.now) }
+        ensures test { result ≡ equal (hashes_tree self.now) (hashes_tree other.now) }
         ensures equality { IsTrue result ↔ (hashes_tree self.now ≡ hashes_tree other.now) }
     {
-        self.same(other)
+        self.equals(other)
     }
 }

@@ -23,4 +23,4 @@ pub use hash::{Hash, HashValue, Hashes};
 pub use organization::{OrganizationalContact, OrganizationalEntity};
 pub use property::{Properties, Property};
 pub use tool::Tool;
-pub use tree::{HasTree, copy_row, same_row};
+pub use tree::{HasTree, copy_row, equal_row};

@@ -2,10 +2,10 @@
 
 ghost use Rattle.std.specs.Prelude.{◌≡◌, refl, IfOk, None, Some, ◌↔◌, IsTrue};
 ghost use Rattle.cdx_models.specs.Records.{contact_tree, entity_tree};
-ghost use Rattle.cdx_models.specs.Same.{same};
-ghost use Rattle.cdx_models.specs.SameLaws.{same_laws};
+ghost use Rattle.cdx_models.specs.Equal.{equal};
+ghost use Rattle.cdx_models.specs.EqualLaws.{equal_laws};
 
-use crate::tree::{HasTree, copy_row, same_row};
+use crate::tree::{HasTree, copy_row, equal_row};
 use cdx_events::{List, Text};
 use std::alloc::{AllocError, Global};
 
@@ -37,23 +37,23 @@ impl HasTree for OrganizationalContact {
     }
 
     fn agrees(&self, other: &OrganizationalContact) -> bool {
-        same_row(&self.bom_ref, &other.bom_ref)
-            && same_row(&self.name, &other.name)
-            && same_row(&self.email, &other.email)
-            && same_row(&self.phone, &other.phone)
+        equal_row(&self.bom_ref, &other.bom_ref)
+            && equal_row(&self.name, &other.name)
+            && equal_row(&self.email, &other.email)
+            && equal_row(&self.phone, &other.phone)
     }
 }
 
 impl PartialEq for OrganizationalContact {
-    ghost eq = { λ a b. same (contact_tree a) (contact_tree b) };
+    ghost eq = { λ a b. equal (contact_tree a) (contact_tree b) };
 
-    ghost laws = { same_laws contact_tree };
+    ghost laws = { equal_laws contact_tree };
 
     fn eq(&self, other: &OrganizationalContact) -> bool
-        ensures test { result ≡ same (contact_tree self.now) (contact_tree other.now) }
+        ensures test { result ≡ equal (contact_tree self.now) (contact_tree other.now) }
         ensures equality { IsTrue result ↔ (contact_tree self.now ≡ contact_tree other.now) }
     {
-        self.same(other)
+        self.equals(other)
     }
 }
 
@@ -100,22 +100,22 @@ impl HasTree for OrganizationalEntity {
     }
 
     fn agrees(&self, other: &OrganizationalEntity) -> bool {
-        same_row(&self.bom_ref, &other.bom_ref)
-            && same_row(&self.name, &other.name)
-            && same_row(&self.url, &other.url)
-            && same_row(&self.contact, &other.contact)
+        equal_row(&self.bom_ref, &other.bom_ref)
+            && equal_row(&self.name, &other.name)
+            && equal_row(&self.url, &other.url)
+            && equal_row(&self.contact, &other.contact)
     }
 }
 
 impl PartialEq for OrganizationalEntity {
-    ghost eq = { λ a b. same (entity_tree a) (entity_tree b) };
+    ghost eq = { λ a b. equal (entity_tree a) (entity_tree b) };
 
-    ghost laws = { same_laws entity_tree };
+    ghost laws = { equal_laws entity_tree };
 
     fn eq(&self, other: &OrganizationalEntity) -> bool
-        ensures test { result ≡ same (entity_tree self.now) (entity_tree other.now) }
+        ensures test { result ≡ equal (entity_tree self.now) (entity_tree other.now) }
         ensures equality { IsTrue result ↔ (entity_tree self.now ≡ entity_tree other.now) }
     {
-        self.same(other)
+        self.equals(other)
     }
 }

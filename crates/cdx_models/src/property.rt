@@ -2,8 +2,8 @@
 
 ghost use Rattle.std.specs.Prelude.{refl, ◌≡◌, ◌↔◌, IsTrue};
 ghost use Rattle.cdx_models.specs.Records.{property_tree, properties_tree};
-ghost use Rattle.cdx_models.specs.Same.{same};
-ghost use Rattle.cdx_models.specs.SameLaws.{same_laws};
+ghost use Rattle.cdx_models.specs.Equal.{equal};
+ghost use Rattle.cdx_models.specs.EqualLaws.{equal_laws};
 
 use crate::tree::HasTree;
 use cdx_events::{List, Text};
@@ -36,15 +36,15 @@ impl HasTree for Property {
 }
 
 impl PartialEq for Property {
-    ghost eq = { λ a b. same (property_tree a) (property_tree b) };
+    ghost eq = { λ a b. equal (property_tree a) (property_tree b) };
 
-    ghost laws = { same_laws property_tree };
+    ghost laws = { equal_laws property_tree };
 
     fn eq(&self, other: &Property) -> bool
-        ensures test { result ≡ same (property_tree self.now) (property_tree other.now) }
+        ensures test { result ≡ equal (property_tree self.now) (property_tree other.now) }
         ensures equality { IsTrue result ↔ (property_tree self.now ≡ property_tree other.now) }
     {
-        self.same(other)
+        self.equals(other)
     }
 }
 
@@ -67,14 +67,14 @@ impl HasTree for Properties {
 }
 
 impl PartialEq for Properties {
-    ghost eq = { λ a b. same (properties_tree a) (properties_tree b) };
+    ghost eq = { λ a b. equal (properties_tree a) (properties_tree b) };
 
-    ghost laws = { same_laws properties_tree };
+    ghost laws = { equal_laws properties_tree };
 
     fn eq(&self, other: &Properties) -> bool
-        ensures test { result ≡ same (properties_tree self.now) (properties_tree other.now) }
+        ensures test { result ≡ equal (properties_tree self.now) (properties_tree other.now) }
         ensures equality { IsTrue result ↔ (properties_tree self.now ≡ properties_tree other.now) }
     {
-        self.same(other)
+        self.equals(other)
     }
 }

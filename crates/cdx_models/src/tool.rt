@@ -2,12 +2,12 @@
 
 ghost use Rattle.std.specs.Prelude.{◌≡◌, refl, None, ◌↔◌, IsTrue};
 ghost use Rattle.cdx_models.specs.Records.{tool_tree};
-ghost use Rattle.cdx_models.specs.Same.{same};
-ghost use Rattle.cdx_models.specs.SameLaws.{same_laws};
+ghost use Rattle.cdx_models.specs.Equal.{equal};
+ghost use Rattle.cdx_models.specs.EqualLaws.{equal_laws};
 
 use crate::external_reference::ExternalReferences;
 use crate::hash::Hashes;
-use crate::tree::{HasTree, copy_row, same_row};
+use crate::tree::{HasTree, copy_row, equal_row};
 use cdx_events::Text;
 use std::alloc::{AllocError, Global};
 
@@ -77,23 +77,23 @@ impl HasTree for Tool {
     }
 
     fn agrees(&self, other: &Tool) -> bool {
-        same_row(&self.vendor, &other.vendor)
-            && same_row(&self.name, &other.name)
-            && same_row(&self.version, &other.version)
-            && same_row(&self.hashes, &other.hashes)
-            && same_row(&self.external_references, &other.external_references)
+        equal_row(&self.vendor, &other.vendor)
+            && equal_row(&self.name, &other.name)
+            && equal_row(&self.version, &other.version)
+            && equal_row(&self.hashes, &other.hashes)
+            && equal_row(&self.external_references, &other.external_references)
     }
 }
 
 impl PartialEq for Tool {
-    ghost eq = { λ a b. same (tool_tree a) (tool_tree b) };
+    ghost eq = { λ a b. equal (tool_tree a) (tool_tree b) };
 
-    ghost laws = { same_laws tool_tree };
+    ghost laws = { equal_laws tool_tree };
 
     fn eq(&self, other: &Tool) -> bool
-        ensures test { result ≡ same (tool_tree self.now) (tool_tree other.now) }
+        ensures test { result ≡ equal (tool_tree self.now) (tool_tree other.now) }
         ensures equality { IsTrue result ↔ (tool_tree self.now ≡ tool_tree other.now) }
     {
-        self.same(other)
+        self.equals(other)
     }
 }

@@ -2,7 +2,7 @@
 
 ghost use Rattle.std.specs.Prelude.{◌≡◌, ◌↔◌, IfOk, IsTrue, refl, false};
 ghost use Rattle.cdx_models.specs.Trees.{Tree, text, number, boolean, present, list_tree, is_absent};
-ghost use Rattle.cdx_models.specs.Same.{same};
+ghost use Rattle.cdx_models.specs.Equal.{equal};
 
 use cdx_events::{List, Text};
 use std::alloc::{AllocError, Global};
@@ -17,11 +17,11 @@ pub trait HasTree {
 
     /// What the test of the trees answers, row by row. It takes no memory.
     fn agrees(&self, other: &Self) -> bool
-        ensures { result ≡ same (tree self.now) (tree other.now) };
+        ensures { result ≡ equal (tree self.now) (tree other.now) };
 
     /// Whether the trees are equal. It takes no memory.
-    final fn same(&self, other: &Self) -> bool
-        ensures test { result ≡ same (tree self.now) (tree other.now) }
+    final fn equals(&self, other: &Self) -> bool
+        ensures test { result ≡ equal (tree self.now) (tree other.now) }
         ensures equality { IsTrue result ↔ (tree self.now ≡ tree other.now) }
     {
         self.agrees(other)
@@ -112,8 +112,8 @@ pub fn copy_row<T: HasTree>(alloc: Global, held: &Option<T>) -> Result<Option<T>
 }
 
 /// Whether two fields that may be absent are equal.
-pub fn same_row<T: HasTree>(one: &Option<T>, other: &Option<T>) -> bool
-    ensures { result ≡ same (present T.tree one.now) (present T.tree other.now) }
+pub fn equal_row<T: HasTree>(one: &Option<T>, other: &Option<T>) -> bool
+    ensures { result ≡ equal (present T.tree one.now) (present T.tree other.now) }
 {
     match (one, other) {
         (None, None) => true,

@@ -23,7 +23,7 @@ use Rattle.cdx_nest_machine.specs.declared.stack.Open.{Open}
 use Rattle.cdx_nest_machine.specs.declared.stack.Waiting.{Waiting}
 use Rattle.cdx_nest_machine.specs.declared.stack.LeafChild.{LeafChild}
 use Rattle.cdx_nest_machine.specs.Frames.{leaf_holds, shape_of, stack_holds}
-use Rattle.cdx_nest_machine.specs.Stacks.{RootHolding, CanYieldStack, IsOfRoot, ProceedsStack, YieldsStack}
+use Rattle.cdx_nest_machine.specs.Stacks.{RootHolding, CanYieldStack, HasRootSort, ProceedsStack, YieldsStack}
 use Rattle.cdx_push.specs.declared.leaf.Leaf.{Leaf}
 use Rattle.cdx_push.specs.contracts.leaf.LeafLeaves.TheImpl.{ghosts}
 use Rattle.cdx_nest.specs.declared.frames.NestFrame.{NestFrame}
@@ -51,7 +51,7 @@ module _ {M X K : Type 0} (holds : RootHolding K M) (as_kind : K → Kind) (view
     stack_ended = ends_with (holds root) view (as_kind root) old new place event b r ends (proceeds root) (λ v p d o k h at t w. (of_new root v p d o k h at t w).0)
 
     -- A value is of the root's kind.
-    pub stack_of_root : CanStep (holds root) old place event → IsOfRoot sort root r
+    pub stack_of_root : CanStep (holds root) old place event → HasRootSort sort root r
     stack_of_root h =
         let y : CanYield (holds root) new place event = can_yield (holds root) view (as_kind root) old new place event b ends h (proceeds root) in
         (of_new root y.v y.p y.d y.o y.all y.held y.place_is y.takes y.ends).1

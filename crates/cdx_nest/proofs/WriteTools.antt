@@ -8,7 +8,7 @@ use Rattle.cdx_schema.specs.Keeping.{kept}
 use Rattle.cdx_schema.specs.Kinds.{tool_list, a_list, a_record, a_tools}
 use Rattle.cdx_schema.specs.Table.{rows}
 use Rattle.cdx_schema.specs.XmlSpelling.{nodes_of}
-use Rattle.cdx_write.specs.Spelling.{inner, written}
+use Rattle.cdx_write.specs.Spelling.{inner, spelled_events}
 use Rattle.cdx_write.specs.WrittenRows.{rows_written}
 use Rattle.cdx_write.specs.Writing.{start_tag, end_tag}
 use Rattle.cdx_write.proofs.RowsLaws.{record_inner}
@@ -40,8 +40,8 @@ late_inner V1_5 b ts is e = sym (record_inner tools_object ts V1_5) ∙ object_i
 
 -- ---- under a tag
 
-pub tools_written : (tag : List ℕ) (x : Tools) (w : SpecVersion) → start_tag tag ∷ inner (tools_tree x) w a_tools ++ end_tag tag ∷ [] ≡ written (tools_tree x) w tag a_tools
-unfolding written inner kept nodes_of rows
+pub tools_written : (tag : List ℕ) (x : Tools) (w : SpecVersion) → start_tag tag ∷ inner (tools_tree x) w a_tools ++ end_tag tag ∷ [] ≡ spelled_events (tools_tree x) w tag a_tools
+unfolding spelled_events inner kept nodes_of rows
 tools_written tag (variant.List ts) w = refl
 tools_written tag (variant.Object ss cs) V1_3 = refl
 tools_written tag (variant.Object ss cs) V1_4 = refl

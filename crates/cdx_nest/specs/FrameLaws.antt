@@ -37,14 +37,14 @@ services_alike service_kinds.Services = refl
 
 -- What reads the children of those reads them here.
 module _ {K : Type 0} (of : K → NestKind) (own : K → Kind) (same : (k : K) → nest_kind (of k) ≡ own k) where
-  kind_same : (r : Reads LeafKind K) → child_kind leaf_kind own r ≡ child_kind leaf_kind nest_kind (reads_as of r)
-  kind_same (Leaf l) = refl
-  kind_same (Nested k) = sym (same k)
+  child_kinds_agree : (r : Reads LeafKind K) → child_kind leaf_kind own r ≡ child_kind leaf_kind nest_kind (reads_as of r)
+  child_kinds_agree (Leaf l) = refl
+  child_kinds_agree (Nested k) = sym (same k)
 
   reads_here : (child : ℕ → Option (Reads LeafKind K)) (cs : List Child) → ReadsEach leaf_kind own child cs → ReadsEach leaf_kind nest_kind (λ i. option_map (reads_as of) (child i)) cs
   reads_here child cs each i row at =
       let (r, is, kind) = each i row at in
-      (reads_as of r, ap (λ o. option_map (reads_as of) o) is, kind ∙ kind_same r)
+      (reads_as of r, ap (λ o. option_map (reads_as of) o) is, kind ∙ child_kinds_agree r)
 
 -- The child of each position is read as the kind of its row.
 pub children_by_rows : (s : NestKind) → ReadsEach leaf_kind nest_kind (reader_of s) (plan_of (nest_kind s)).children

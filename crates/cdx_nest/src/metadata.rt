@@ -2,8 +2,8 @@
 
 ghost use Rattle.cdx_models.specs.Trees.{metadata};
 ghost use Rattle.std.specs.Prelude.{◌≡◌, refl, None, ◌↔◌, IsTrue};
-ghost use Rattle.cdx_models.specs.Same.{same};
-ghost use Rattle.cdx_models.specs.SameLaws.{same_laws};
+ghost use Rattle.cdx_models.specs.Equal.{equal};
+ghost use Rattle.cdx_models.specs.EqualLaws.{equal_laws};
 ghost use Rattle.cdx_models.specs.Trees.{metadata};
 ghost use Rattle.cdx_schema.specs.Kinds.{a_record};
 ghost use Rattle.cdx_schema.specs.Keeping.{fits};
@@ -19,7 +19,7 @@ use cdx_events::{List, Text};
 use cdx_license::Licenses;
 use cdx_models::{HasTree, OrganizationalContact, OrganizationalEntity, Properties, SpecVersion};
 use cdx_schema::Record;
-use compared::same_metadata;
+use compared::equal_metadata;
 use copied::copy_metadata;
 use std::alloc::{AllocError, Global};
 
@@ -109,7 +109,7 @@ impl HasTree for Metadata {
     }
 
     fn agrees(&self, other: &Metadata) -> bool {
-        same_metadata(self, other)
+        equal_metadata(self, other)
     }
 }
 
@@ -122,14 +122,14 @@ impl Record for Metadata {
 }
 
 impl PartialEq for Metadata {
-    ghost eq = { λ a b. same (metadata_tree a) (metadata_tree b) };
+    ghost eq = { λ a b. equal (metadata_tree a) (metadata_tree b) };
 
-    ghost laws = { same_laws metadata_tree };
+    ghost laws = { equal_laws metadata_tree };
 
     fn eq(&self, other: &Metadata) -> bool
-        ensures test { result ≡ same (metadata_tree self.now) (metadata_tree other.now) }
+        ensures test { result ≡ equal (metadata_tree self.now) (metadata_tree other.now) }
         ensures equality { IsTrue result ↔ (metadata_tree self.now ≡ metadata_tree other.now) }
     {
-        self.same(other)
+        self.equals(other)
     }
 }

@@ -2,13 +2,13 @@
 
 ghost use Rattle.std.specs.Prelude.{◌≡◌, ◌↔◌, IsTrue};
 ghost use Rattle.cdx_schema.specs.Kinds.{a_tools};
-ghost use Rattle.cdx_models.specs.Same.{same};
-ghost use Rattle.cdx_models.specs.SameLaws.{same_laws};
+ghost use Rattle.cdx_models.specs.Equal.{equal};
+ghost use Rattle.cdx_models.specs.EqualLaws.{equal_laws};
 ghost use Rattle.cdx_nest.specs.Trees.{tools_tree, tools_there};
 
 use cdx_component::Components;
 use cdx_events::List;
-use cdx_models::{HasTree, Tool, copy_row, same_row};
+use cdx_models::{HasTree, Tool, copy_row, equal_row};
 use cdx_schema::Kinded;
 use cdx_service::Services;
 use std::alloc::{AllocError, Global};
@@ -57,7 +57,7 @@ impl HasTree for Tools {
                     services: other_services,
                     components: other_components,
                 },
-            ) => same_row(services, other_services) && same_row(components, other_components),
+            ) => equal_row(services, other_services) && equal_row(components, other_components),
             _ => false,
         }
     }
@@ -68,14 +68,14 @@ impl Kinded for Tools {
 }
 
 impl PartialEq for Tools {
-    ghost eq = { λ a b. same (tools_tree a) (tools_tree b) };
+    ghost eq = { λ a b. equal (tools_tree a) (tools_tree b) };
 
-    ghost laws = { same_laws tools_tree };
+    ghost laws = { equal_laws tools_tree };
 
     fn eq(&self, other: &Tools) -> bool
-        ensures test { result ≡ same (tools_tree self.now) (tools_tree other.now) }
+        ensures test { result ≡ equal (tools_tree self.now) (tools_tree other.now) }
         ensures equality { IsTrue result ↔ (tools_tree self.now ≡ tools_tree other.now) }
     {
-        self.same(other)
+        self.equals(other)
     }
 }

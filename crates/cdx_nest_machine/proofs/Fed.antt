@@ -12,9 +12,9 @@ use Rattle.cdx_schema.specs.XmlReading.{xread}
 use Rattle.cdx_machine.specs.Begun.{Begun, whole, next, count, TakesEvent}
 use Rattle.cdx_machine.specs.Machines.{StepsAs}
 use Rattle.cdx_machine.proofs.Yielding.{ended_with, ends_with, proceeds_whole}
-use Rattle.cdx_nest_machine.specs.Stacks.{RootHolding, CanStepStack, ProceedsStack, CanYieldStack, IsOfRoot, YieldsStack}
+use Rattle.cdx_nest_machine.specs.Stacks.{RootHolding, CanStepStack, ProceedsStack, CanYieldStack, HasRootSort, YieldsStack}
 
-of_root_ok : {X K : Type 0} (sort : X → K) (root : K) (r : Result X XmlReadError) → IsOfRoot sort root r → IfOk r (λ x. sort x ≡ root)
+of_root_ok : {X K : Type 0} (sort : X → K) (root : K) (r : Result X XmlReadError) → HasRootSort sort root r → IfOk r (λ x. sort x ≡ root)
 of_root_ok sort root (Ok x) h = h
 of_root_ok sort root (Err e) h = h
 

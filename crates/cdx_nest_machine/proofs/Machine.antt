@@ -7,7 +7,7 @@ use Rattle.cdx_events.specs.declared.name.OwnedAttribute.{OwnedAttribute}
 use Rattle.cdx_events.specs.declared.name.Namespace.{Namespace}
 use Rattle.cdx_events.specs.declared.event.XmlEvent.{XmlEvent}
 use Rattle.cdx_events.specs.declared.event.XmlEvent.TheVariants.{StartDocument, EndDocument, StartElement, EndElement, Characters, CData}
-use Rattle.cdx_events.specs.Event.{kind_of}
+use Rattle.cdx_events.specs.Event.{event_kind}
 use Rattle.cdx_events.specs.Nodes.{Node, characters, cdata, element, no_nodes}
 use Rattle.cdx_models.specs.declared.bom.SpecVersion.{SpecVersion}
 use Rattle.cdx_models.specs.declared.errors.XmlReadError.{XmlReadError}
@@ -37,7 +37,7 @@ use Rattle.cdx_nest_machine.specs.Forms.{plan_of, first_of, last_step, inner_of,
 use Rattle.cdx_nest_machine.specs.declared.stack.Open.{Open}
 use Rattle.cdx_nest_machine.specs.declared.stack.Waiting.{Waiting}
 use Rattle.cdx_nest_machine.specs.Frames.{stack_holds}
-use Rattle.cdx_nest_machine.specs.Stacks.{Layer, plug_next, Shape, Stand, Stacked, IsOfRoot}
+use Rattle.cdx_nest_machine.specs.Stacks.{Layer, plug_next, Shape, Stand, Stacked, HasRootSort}
 use Rattle.cdx_nest_machine.proofs.Stacks.{next_plug, takes_plug, ended_alone, form_of, at_place, goes_on, is_refused, is_done, root_is, is_yielded, pops, pushes, begins}
 
 -- Only an end makes an element whole.
@@ -146,7 +146,7 @@ module _ {W L K C : Type 0} (s : Shape W L K) (law : (k : K) → IsNested (s.as_
           more ts Nothing h ts Nothing
           (own_text (inner_read (s.as_kind k)) (plan_of (s.as_kind k)) (first_of (s.as_kind k)) (last_step (s.as_kind k)) form (holds k) (λ (x : Trees). x) kept v h.place inner name known ts Nothing rule h.top place event h.held (top_takes ts Nothing h t) ru does i j refl)
 
-      pub text_fails : (held : Begun → Type 0) (x : Result Bool XmlReadError) → passes rule ≡ false → Refused x (unexpected place name (kind_of event)) → Told held x
+      pub text_fails : (held : Begun → Type 0) (x : Result Bool XmlReadError) → passes rule ≡ false → Refused x (unexpected place name (event_kind event)) → Told held x
       text_fails held (Ok y) not e = absurd e
       text_fails held (Err f) not e =
           fails ts Nothing h held f
@@ -165,16 +165,16 @@ module _ {W L K C : Type 0} (s : Shape W L K) (law : (k : K) → IsNested (s.as_
           (own_enters_by (inner_read (s.as_kind k)) (plan_of (s.as_kind k)) (first_of (s.as_kind k)) (last_step (s.as_kind k)) form (holds k) (λ (x : Trees). x) kept v h.place inner name known ts h.top place event m b z inside e h.held (top_at ts Nothing h is) en)
 
       -- one that the plan doesn't have
-      pub unknown_fails : (held : Begun → Type 0) (rule : Rule) (x : Result Bool XmlReadError) → find_child known m.local_name (plan_of (s.as_kind k)).children ≡ None → (plan_of (s.as_kind k)).rule ≡ as_rule rule → skips rule ≡ false → Refused x (unexpected place name (kind_of event)) → Told held x
+      pub unknown_fails : (held : Begun → Type 0) (rule : Rule) (x : Result Bool XmlReadError) → find_child known m.local_name (plan_of (s.as_kind k)).children ≡ None → (plan_of (s.as_kind k)).rule ≡ as_rule rule → skips rule ≡ false → Refused x (unexpected place name (event_kind event)) → Told held x
       unknown_fails held rule (Ok y) none ru not r = absurd r
       unknown_fails held rule (Err f) none ru not r =
-          start_fails held f (enters_unknown (holds k) (plan_of (s.as_kind k)) ts known name place inner m b z (kind_of event) (Err f) rule none ru not (ap kind_of e) (refused_as Bool (Inside C) f (unexpected place name (kind_of event)) r))
+          start_fails held f (enters_unknown (holds k) (plan_of (s.as_kind k)) ts known name place inner m b z (event_kind event) (Err f) rule none ru not (ap event_kind e) (refused_as Bool (Inside C) f (unexpected place name (event_kind event)) r))
 
       -- a second one where one may stand
-      pub second_fails : (held : Begun → Type 0) (x : Result Bool XmlReadError) → FindsSecond (plan_of (s.as_kind k)).children ts known m.local_name → Refused x (unexpected place name (kind_of event)) → Told held x
+      pub second_fails : (held : Begun → Type 0) (x : Result Bool XmlReadError) → FindsSecond (plan_of (s.as_kind k)).children ts known m.local_name → Refused x (unexpected place name (event_kind event)) → Told held x
       second_fails held (Ok y) second r = absurd r
       second_fails held (Err f) second r =
-          start_fails held f (enters_second (holds k) (plan_of (s.as_kind k)) ts known name place inner m b z (kind_of event) (Err f) second (ap kind_of e) (refused_as Bool (Inside C) f (unexpected place name (kind_of event)) r))
+          start_fails held f (enters_second (holds k) (plan_of (s.as_kind k)) ts known name place inner m b z (event_kind event) (Err f) second (ap event_kind e) (refused_as Bool (Inside C) f (unexpected place name (event_kind event)) r))
 
     -- the top element's end
     module _ (m : OwnedName) (e : event ≡ EndElement m) where
@@ -217,7 +217,7 @@ module _ {W L K C : Type 0} (s : Shape W L K) (law : (k : K) → IsNested (s.as_
       where
         by : (ls : List Layer) → Stand s v root p d (w ∷ us) ls k h.place h.depth (start_name h.top) → s.child w ≡ Some (Nested k)
         by [] i = absurd i
-        by (l ∷ ls) i = i.0.child_is
+        by (l ∷ ls) i = i.0.child_nested
 
 -- a nested child's start
 pub start_pushes : {W L K C : Type 0} (s : Shape W L K) (law : (k : K) → IsNested (s.as_kind k)) (holds : K → ChildHolding C) (kept : Type 0) (root : K) (ws : List W) (w : W) (k : K) (known : SpecVersion) (v : SpecVersion) (p : ℕ) (d : Depth) (o : Begun) (place : ℕ) (event : XmlEvent)
@@ -258,6 +258,6 @@ began {W = W} {K = K} s law holds root k ys v p d m b z name inner ts e ki fit i
     (subst (λ (x : K). Stacked s holds root (reverse ys) x name inner ts v Nothing v p d (innermost m b z no_nodes)) (sym ki) (subst (λ (x : List W). Stacked s holds root (reverse x) root name inner ts v Nothing v p d (innermost m b z no_nodes)) (sym e) r.0), r.1)
 
 -- A value of the top frame's kind is of the root's.
-pub of_root : {X K : Type 0} (sort : X → K) (root k : K) (r : Result X XmlReadError) → k ≡ root → IfOk r (λ x. sort x ≡ k) → IsOfRoot sort root r
+pub of_root : {X K : Type 0} (sort : X → K) (root k : K) (r : Result X XmlReadError) → k ≡ root → IfOk r (λ x. sort x ≡ k) → HasRootSort sort root r
 of_root sort root k (Ok x) is h = h ∙ is
 of_root sort root k (Err e) is h = tt

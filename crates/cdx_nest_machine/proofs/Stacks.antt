@@ -227,7 +227,7 @@ module _ {W L K : Type 0} (s : Shape W L K) (law : (k : K) → IsNested (s.as_ki
         let waits : Waits s v w l k (suc q + places_of xs) (s.inner w) m = record {
           sits = record { name_is = own.name_is; inner_is = i; fits = fit; reads = ap (λ (x : Depth). read_so_far (first_of c) (plan_of c) n.local_name a v x q xs) (sym i) ∙ own.reads };
           finds = record { row = f.row; is_at = f.is_at; found = ap (λ (x : SpecVersion). find_child x m.local_name (plan_of c).children) (sym own.version_is) ∙ f.found; first_one = f.first_one };
-          child_is = child;
+          child_nested = child;
           row_kind = rk;
           place_is = refl;
           depth_is = i;

@@ -66,11 +66,11 @@ pub record IsNested (kind : Kind) : Type 0 where
 
 -- ---- records
 
-record_reads : (name : Name) → content_from 0 (rows name) ≡ no_content → (x : Node) (v : SpecVersion) (p : ℕ) (d : Depth) → is_too_deep (a_record name) d ≡ false → xread x v (a_record name) p d ≡ inner_read (a_record name) x v p (inside name d)
+record_as_plan : (name : Name) → content_from 0 (rows name) ≡ no_content → (x : Node) (v : SpecVersion) (p : ℕ) (d : Depth) → is_too_deep (a_record name) d ≡ false → xread x v (a_record name) p d ≡ inner_read (a_record name) x v p (inside name d)
 unfolding xread
-record_reads name alone (characters t) v p d h = refl
-record_reads name alone (cdata t) v p d h = refl
-record_reads name alone (element n a s xs) v p d h =
+record_as_plan name alone (characters t) v p d h = refl
+record_as_plan name alone (cdata t) v p d h = refl
+record_as_plan name alone (element n a s xs) v p d h =
     nested_is name alone v n a s d p xs h ∙ record_by_nodes name v n a (inside name d) p xs
 
 record_deep : (name : Name) (n : OwnedName) (a : List OwnedAttribute) (s : Namespace) (xs : Nodes) (v : SpecVersion) (p : ℕ) (d : Depth) → is_too_deep (a_record name) d ≡ true → xread (element n a s xs) v (a_record name) p d ≡ Err (nested p)
@@ -79,7 +79,7 @@ record_deep name n a s xs v p d h = rw h refl
 
 pub record_nested : (name : Name) → content_from 0 (rows name) ≡ no_content → IsNested (a_record name)
 record_nested name alone = record {
-  reads = record_reads name alone;
+  reads = record_as_plan name alone;
   deep = record_deep name;
   first_place = λ el a v p f h. attributes_place (rows name) (in_force name a) v el p f h;
   last_place = record_end_place name;
@@ -87,15 +87,15 @@ record_nested name alone = record {
 
 -- ---- lists
 
-list_reads : (l : Lists) (x : Node) (v : SpecVersion) (p : ℕ) (d : Depth) → is_too_deep (a_list l) d ≡ false → xread x v (a_list l) p d ≡ inner_read (a_list l) x v p d
+list_as_plan : (l : Lists) (x : Node) (v : SpecVersion) (p : ℕ) (d : Depth) → is_too_deep (a_list l) d ≡ false → xread x v (a_list l) p d ≡ inner_read (a_list l) x v p d
 unfolding xread
-list_reads l (characters t) v p d h = refl
-list_reads l (cdata t) v p d h = refl
-list_reads l (element n a s xs) v p d h = refl
+list_as_plan l (characters t) v p d h = refl
+list_as_plan l (cdata t) v p d h = refl
+list_as_plan l (element n a s xs) v p d h = refl
 
 pub list_nested : (l : Lists) → IsNested (a_list l)
 list_nested l = record {
-  reads = list_reads l;
+  reads = list_as_plan l;
   deep = λ n a s xs v p d h. absurd (let wrong : false ≡ true = h in cc);
   first_place = (list_frame l).first_place;
   last_place = (list_frame l).last_place;

@@ -61,7 +61,7 @@ pub record Sits (kind : Kind) (name : List ℕ) (inner : Depth) (ts : Trees) (v 
 pub record Waits {W L K : Type 0} (s : Shape W L K) (v : SpecVersion) (w : W) (l : Layer) (k : K) (q : ℕ) (e : Depth) (m : OwnedName) : Type 0 where
   pub sits : Sits (s.as_kind (s.sort w)) (s.name w) (s.inner w) (s.fields w) v l.name l.attributes l.nodes l.place l.depth
   pub finds : FindsAt (plan_of (s.as_kind (s.sort w))).children (s.fields w) v m.local_name (s.position w)
-  pub child_is : s.child w ≡ Some (Nested k)
+  pub child_nested : s.child w ≡ Some (Nested k)
   pub row_kind : finds.row.kind ≡ s.as_kind k
   pub place_is : q ≡ suc l.place + places_of l.nodes
   pub depth_is : e ≡ inner_of (s.as_kind (s.sort w)) l.depth
@@ -125,11 +125,11 @@ pub record CanYieldStack {M K : Type 0} (holds : RootHolding K M) (m : M) (place
   pub ends : next o event ≡ whole all
 
 -- A value is of the root's kind.
-abbrev pub IsOfRoot : {X K : Type 0} → (X → K) → K → Result X XmlReadError → Type 0
-IsOfRoot sort root (Ok x) = sort x ≡ root
-IsOfRoot sort root (Err e) = Unit {0}
+abbrev pub HasRootSort : {X K : Type 0} → (X → K) → K → Result X XmlReadError → Type 0
+HasRootSort sort root (Ok x) = sort x ≡ root
+HasRootSort sort root (Err e) = Unit {0}
 
 abbrev pub YieldsStack : {M X K : Type 0} → RootHolding K M → (K → Kind) → (X → Tree) → (X → K) → M → ℕ → XmlEvent → Result X XmlReadError → Type 0
 YieldsStack {K = K} holds as_kind view sort m place event result =
     (root : K) (v : SpecVersion) (p : ℕ) (d : Depth) (o : Begun) (k : Node) → holds root m v p d o → place ≡ p + count o → TakesEvent o event → next o event ≡ whole k
-    → Yields view (p + places k) (xread k v (as_kind root) p d) result × IsOfRoot sort root result
+    → Yields view (p + places k) (xread k v (as_kind root) p d) result × HasRootSort sort root result

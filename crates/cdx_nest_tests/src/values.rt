@@ -10,13 +10,13 @@ use std::test::Fail;
 /// Whether the values stand in the same variant and are the same.
 pub fn same(one: &NestValue, other: &NestValue) -> bool {
     match (one, other) {
-        (NestValue::Tools(one), NestValue::Tools(other)) => one.same(other),
-        (NestValue::Component(one), NestValue::Component(other)) => one.same(other),
-        (NestValue::Components(one), NestValue::Components(other)) => one.same(other),
-        (NestValue::Pedigree(one), NestValue::Pedigree(other)) => one.same(other),
-        (NestValue::Service(one), NestValue::Service(other)) => one.same(other),
-        (NestValue::Services(one), NestValue::Services(other)) => one.same(other),
-        (NestValue::Metadata(one), NestValue::Metadata(other)) => one.same(other),
+        (NestValue::Tools(one), NestValue::Tools(other)) => one.equals(other),
+        (NestValue::Component(one), NestValue::Component(other)) => one.equals(other),
+        (NestValue::Components(one), NestValue::Components(other)) => one.equals(other),
+        (NestValue::Pedigree(one), NestValue::Pedigree(other)) => one.equals(other),
+        (NestValue::Service(one), NestValue::Service(other)) => one.equals(other),
+        (NestValue::Services(one), NestValue::Services(other)) => one.equals(other),
+        (NestValue::Metadata(one), NestValue::Metadata(other)) => one.equals(other),
         _ => false,
     }
 }

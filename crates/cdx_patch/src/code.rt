@@ -3,12 +3,12 @@
 ghost use Rattle.cdx_models.specs.Trees.{diff, issue, patch, source};
 ghost use Rattle.cdx_schema.specs.Kinds.{a_list, patches};
 ghost use Rattle.std.specs.Prelude.{refl, ◌≡◌, ◌↔◌, IsTrue};
-ghost use Rattle.cdx_models.specs.Same.{same};
-ghost use Rattle.cdx_models.specs.SameLaws.{same_laws};
+ghost use Rattle.cdx_models.specs.Equal.{equal};
+ghost use Rattle.cdx_models.specs.EqualLaws.{equal_laws};
 ghost use Rattle.cdx_patch.specs.Records.{diff_tree, source_tree, issue_tree, patch_tree, patches_tree};
 
 use cdx_events::{List, Text};
-use cdx_models::{AttachedText, HasTree, copy_row, same_row};
+use cdx_models::{AttachedText, HasTree, copy_row, equal_row};
 use cdx_schema::{Kinded, Record};
 use std::alloc::{AllocError, Global};
 
@@ -34,7 +34,7 @@ impl HasTree for Diff {
     }
 
     fn agrees(&self, other: &Diff) -> bool {
-        same_row(&self.text, &other.text) && same_row(&self.url, &other.url)
+        equal_row(&self.text, &other.text) && equal_row(&self.url, &other.url)
     }
 }
 
@@ -47,15 +47,15 @@ impl Record for Diff {
 }
 
 impl PartialEq for Diff {
-    ghost eq = { λ a b. same (diff_tree a) (diff_tree b) };
+    ghost eq = { λ a b. equal (diff_tree a) (diff_tree b) };
 
-    ghost laws = { same_laws diff_tree };
+    ghost laws = { equal_laws diff_tree };
 
     fn eq(&self, other: &Diff) -> bool
-        ensures test { result ≡ same (diff_tree self.now) (diff_tree other.now) }
+        ensures test { result ≡ equal (diff_tree self.now) (diff_tree other.now) }
         ensures equality { IsTrue result ↔ (diff_tree self.now ≡ diff_tree other.now) }
     {
-        self.same(other)
+        self.equals(other)
     }
 }
 
@@ -81,7 +81,7 @@ impl HasTree for Source {
     }
 
     fn agrees(&self, other: &Source) -> bool {
-        same_row(&self.name, &other.name) && same_row(&self.url, &other.url)
+        equal_row(&self.name, &other.name) && equal_row(&self.url, &other.url)
     }
 }
 
@@ -94,15 +94,15 @@ impl Record for Source {
 }
 
 impl PartialEq for Source {
-    ghost eq = { λ a b. same (source_tree a) (source_tree b) };
+    ghost eq = { λ a b. equal (source_tree a) (source_tree b) };
 
-    ghost laws = { same_laws source_tree };
+    ghost laws = { equal_laws source_tree };
 
     fn eq(&self, other: &Source) -> bool
-        ensures test { result ≡ same (source_tree self.now) (source_tree other.now) }
+        ensures test { result ≡ equal (source_tree self.now) (source_tree other.now) }
         ensures equality { IsTrue result ↔ (source_tree self.now ≡ source_tree other.now) }
     {
-        self.same(other)
+        self.equals(other)
     }
 }
 
@@ -155,11 +155,11 @@ impl HasTree for Issue {
 
     fn agrees(&self, other: &Issue) -> bool {
         self.issue_type.agrees(&other.issue_type)
-            && same_row(&self.id, &other.id)
-            && same_row(&self.name, &other.name)
-            && same_row(&self.description, &other.description)
-            && same_row(&self.source, &other.source)
-            && same_row(&self.references, &other.references)
+            && equal_row(&self.id, &other.id)
+            && equal_row(&self.name, &other.name)
+            && equal_row(&self.description, &other.description)
+            && equal_row(&self.source, &other.source)
+            && equal_row(&self.references, &other.references)
     }
 }
 
@@ -172,15 +172,15 @@ impl Record for Issue {
 }
 
 impl PartialEq for Issue {
-    ghost eq = { λ a b. same (issue_tree a) (issue_tree b) };
+    ghost eq = { λ a b. equal (issue_tree a) (issue_tree b) };
 
-    ghost laws = { same_laws issue_tree };
+    ghost laws = { equal_laws issue_tree };
 
     fn eq(&self, other: &Issue) -> bool
-        ensures test { result ≡ same (issue_tree self.now) (issue_tree other.now) }
+        ensures test { result ≡ equal (issue_tree self.now) (issue_tree other.now) }
         ensures equality { IsTrue result ↔ (issue_tree self.now ≡ issue_tree other.now) }
     {
-        self.same(other)
+        self.equals(other)
     }
 }
 
@@ -210,8 +210,8 @@ impl HasTree for Patch {
 
     fn agrees(&self, other: &Patch) -> bool {
         self.patch_type.agrees(&other.patch_type)
-            && same_row(&self.diff, &other.diff)
-            && same_row(&self.resolves, &other.resolves)
+            && equal_row(&self.diff, &other.diff)
+            && equal_row(&self.resolves, &other.resolves)
     }
 }
 
@@ -224,15 +224,15 @@ impl Record for Patch {
 }
 
 impl PartialEq for Patch {
-    ghost eq = { λ a b. same (patch_tree a) (patch_tree b) };
+    ghost eq = { λ a b. equal (patch_tree a) (patch_tree b) };
 
-    ghost laws = { same_laws patch_tree };
+    ghost laws = { equal_laws patch_tree };
 
     fn eq(&self, other: &Patch) -> bool
-        ensures test { result ≡ same (patch_tree self.now) (patch_tree other.now) }
+        ensures test { result ≡ equal (patch_tree self.now) (patch_tree other.now) }
         ensures equality { IsTrue result ↔ (patch_tree self.now ≡ patch_tree other.now) }
     {
-        self.same(other)
+        self.equals(other)
     }
 }
 
@@ -259,14 +259,14 @@ impl Kinded for Patches {
 }
 
 impl PartialEq for Patches {
-    ghost eq = { λ a b. same (patches_tree a) (patches_tree b) };
+    ghost eq = { λ a b. equal (patches_tree a) (patches_tree b) };
 
-    ghost laws = { same_laws patches_tree };
+    ghost laws = { equal_laws patches_tree };
 
     fn eq(&self, other: &Patches) -> bool
-        ensures test { result ≡ same (patches_tree self.now) (patches_tree other.now) }
+        ensures test { result ≡ equal (patches_tree self.now) (patches_tree other.now) }
         ensures equality { IsTrue result ↔ (patches_tree self.now ≡ patches_tree other.now) }
     {
-        self.same(other)
+        self.equals(other)
     }
 }

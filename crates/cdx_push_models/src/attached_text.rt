@@ -52,7 +52,7 @@ impl ExactRecord for ExactAttachedText {
     ghost use Rattle.std.specs.Prelude.{refl};
     ghost use Rattle.cdx_models.specs.Trees.{attached_text};
     ghost use Rattle.cdx_leaf.specs.Parts.{attached_start};
-    ghost use Rattle.cdx_leaf.specs.RowContents.{content_is};
+    ghost use Rattle.cdx_leaf.specs.RowContents.{content_from_rows};
     ghost use Rattle.cdx_push_models.specs.Exact.{attached_whole};
 
     type Value = AttachedText;
@@ -65,7 +65,7 @@ impl ExactRecord for ExactAttachedText {
 
     ghost at = { 2 };
 
-    ghost content = { content_is attached_text };
+    ghost content = { content_from_rows attached_text };
 
     ghost plain = { refl };
 

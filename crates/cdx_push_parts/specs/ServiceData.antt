@@ -9,7 +9,7 @@ use Rattle.cdx_schema.specs.Nodes.{places_of}
 use Rattle.cdx_schema.specs.Results.{◌>>=◌}
 use Rattle.cdx_schema.specs.XmlReading.{record_plan, data_plan, data_of, xread}
 use Rattle.cdx_schema.proofs.FaultPlaces.{ok_err, bind_err}
-use Rattle.cdx_leaf.specs.RowContents.{content_is}
+use Rattle.cdx_leaf.specs.RowContents.{content_from_rows}
 use Rattle.cdx_machine.specs.Contents.{First}
 use Rattle.cdx_machine.specs.Frames.{Last, IsFrame, read_so_far}
 use Rattle.cdx_machine.specs.Plain.{attributes_first}
@@ -23,7 +23,7 @@ as_entry (Ok ts) f = refl
 as_entry (Err e) f = refl
 
 flow : IsFrame (a_record service_data) (record_plan service_data) (attributes_first service_data) (record_end service_data)
-flow = record_frame service_data (content_is service_data) refl
+flow = record_frame service_data (content_from_rows service_data) refl
 
 pub entry_frame : IsFrame an_entry (record_plan service_data) (attributes_first service_data) entry_last
 unfolding xread

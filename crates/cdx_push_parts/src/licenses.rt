@@ -17,7 +17,7 @@ pub struct ExactId;
 impl ExactRecord for ExactId {
     ghost use Rattle.std.specs.Prelude.{refl};
     ghost use Rattle.cdx_models.specs.Trees.{spdx_id};
-    ghost use Rattle.cdx_leaf.specs.RowContents.{content_is};
+    ghost use Rattle.cdx_leaf.specs.RowContents.{content_from_rows};
     ghost use Rattle.cdx_push_parts.specs.Exact.{nothing_begun, id_whole};
 
     type Value = LicenseIdentifier;
@@ -30,7 +30,7 @@ impl ExactRecord for ExactId {
 
     ghost at = { 0 };
 
-    ghost content = { content_is spdx_id };
+    ghost content = { content_from_rows spdx_id };
 
     ghost plain = { refl };
 
@@ -51,7 +51,7 @@ pub struct ExactName;
 impl ExactRecord for ExactName {
     ghost use Rattle.std.specs.Prelude.{refl};
     ghost use Rattle.cdx_models.specs.Trees.{license_name};
-    ghost use Rattle.cdx_leaf.specs.RowContents.{content_is};
+    ghost use Rattle.cdx_leaf.specs.RowContents.{content_from_rows};
     ghost use Rattle.cdx_push_parts.specs.Exact.{nothing_begun, name_whole};
 
     type Value = LicenseIdentifier;
@@ -64,7 +64,7 @@ impl ExactRecord for ExactName {
 
     ghost at = { 0 };
 
-    ghost content = { content_is license_name };
+    ghost content = { content_from_rows license_name };
 
     ghost plain = { refl };
 

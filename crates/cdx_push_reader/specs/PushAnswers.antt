@@ -26,10 +26,10 @@ fault_of r = r.refused
 abbrev pub is_spent : {M X : Type 0} → DocumentReader M X → Bool
 is_spent r = is_some r.spent
 
-abbrev pub is_memory : {A : Type 0} → Result A PushError → Bool
-is_memory (Ok x) = false
-is_memory (Err (Refused place)) = false
-is_memory (Err (Memory e)) = true
+abbrev pub lacks_memory : {A : Type 0} → Result A PushError → Bool
+lacks_memory (Ok x) = false
+lacks_memory (Err (Refused place)) = false
+lacks_memory (Err (Memory e)) = true
 
 -- Refused exactly where the events fed so far have an early fault, with its place. Want of memory may come in place of either.
 abbrev pub Feeds : SpecVersion → List XmlEvent → Result (Unit {0}) PushError → Type 0

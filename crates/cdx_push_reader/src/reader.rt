@@ -4,7 +4,7 @@ ghost use Rattle.std.specs.Prelude.{◌≡◌, ◌+◌, ◌≤◌, List, [], ◌
 ghost use Rattle.cdx_events.specs.declared.event.XmlEvent.{XmlEvent};
 ghost use Rattle.cdx_schema.specs.Early.{IsEarly};
 ghost use Rattle.cdx_push_reader.specs.Pushed.{heard};
-ghost use Rattle.cdx_push_reader.specs.PushAnswers.{reader_version, fault_of, is_spent, is_memory, is_want, refused_by, spent_by, push_error, Feeds, TellsFault, Finishes};
+ghost use Rattle.cdx_push_reader.specs.PushAnswers.{reader_version, fault_of, is_spent, lacks_memory, is_want, refused_by, spent_by, push_error, Feeds, TellsFault, Finishes};
 
 use crate::hearing::Hearing;
 use crate::machine::RootMachine;
@@ -93,8 +93,8 @@ impl<M: RootMachine> DocumentReader<M> {
         ensures heard { (events : List XmlEvent) → heard M.holds M.tree self.old events
             → heard M.holds M.tree self.new (events ++ piece.now) }
         ensures version { reader_version self.new ≡ reader_version self.old }
-        ensures spent { is_spent self.new ≡ is_memory result }
-        ensures again { is_spent self.old ≡ true → is_memory result ≡ true }
+        ensures spent { is_spent self.new ≡ lacks_memory result }
+        ensures again { is_spent self.old ≡ true → lacks_memory result ≡ true }
         ensures told { TellsFault result (fault_of self.old) (fault_of self.new) }
     {
         let first = self.fed;

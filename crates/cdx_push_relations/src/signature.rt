@@ -120,7 +120,7 @@ impl Frame for BegunSigners {
     ghost use Rattle.cdx_models.specs.Trees.{signers};
     ghost use Rattle.cdx_schema.specs.Kinds.{a_record};
     ghost use Rattle.cdx_schema.specs.XmlReading.{record_plan};
-    ghost use Rattle.cdx_leaf.specs.RowContents.{content_is};
+    ghost use Rattle.cdx_leaf.specs.RowContents.{content_from_rows};
     ghost use Rattle.cdx_signature.specs.Records.{signer_tree, signature_tree};
     ghost use Rattle.cdx_machine.specs.Plain.{attributes_first};
     ghost use Rattle.cdx_machine.specs.Records.{record_end, record_frame, items_slots};
@@ -144,7 +144,7 @@ impl Frame for BegunSigners {
 
     ghost kinds = { signers_kinds };
 
-    ghost frame = { record_frame signers (content_is signers) refl };
+    ghost frame = { record_frame signers (content_from_rows signers) refl };
 
     fn rule(&self) -> Rule {
         Rule::Strict
@@ -221,7 +221,7 @@ impl Frame for BegunChain {
     ghost use Rattle.cdx_models.specs.Trees.{chain};
     ghost use Rattle.cdx_schema.specs.Kinds.{a_record};
     ghost use Rattle.cdx_schema.specs.XmlReading.{record_plan};
-    ghost use Rattle.cdx_leaf.specs.RowContents.{content_is};
+    ghost use Rattle.cdx_leaf.specs.RowContents.{content_from_rows};
     ghost use Rattle.cdx_signature.specs.Records.{signer_tree, signature_tree};
     ghost use Rattle.cdx_machine.specs.Plain.{attributes_first};
     ghost use Rattle.cdx_machine.specs.Records.{record_end, record_frame, items_slots};
@@ -245,7 +245,7 @@ impl Frame for BegunChain {
 
     ghost kinds = { chain_kinds };
 
-    ghost frame = { record_frame chain (content_is chain) refl };
+    ghost frame = { record_frame chain (content_from_rows chain) refl };
 
     fn rule(&self) -> Rule {
         Rule::Strict

@@ -37,7 +37,7 @@ fn is_kept<T: FromJson + Kept + PartialEq + Drop>(alloc: Global, text: &str) -> 
 fn is_copied<T: FromJson + PartialEq + Drop>(alloc: Global, text: &str) -> Result<bool, Fail> {
     let held = held::<T>(alloc, text, V5)?;
     let copy = held.copy(alloc)?;
-    Ok(copy == held && copy.same(&held))
+    Ok(copy == held && copy.equals(&held))
 }
 
 /// `from_json`, `to_json`, `kept`, `copy` and `==`.

@@ -4,11 +4,11 @@ ghost use Rattle.cdx_models.specs.Trees.{composition};
 ghost use Rattle.cdx_schema.specs.Kinds.{a_list, a_reference, compositions};
 ghost use Rattle.std.specs.Prelude.{◌≡◌, refl, IfOk, ◌↔◌, IsTrue};
 ghost use Rattle.cdx_relations.specs.Records.{bom_reference_tree, composition_tree, compositions_tree};
-ghost use Rattle.cdx_models.specs.Same.{same};
-ghost use Rattle.cdx_models.specs.SameLaws.{same_laws};
+ghost use Rattle.cdx_models.specs.Equal.{equal};
+ghost use Rattle.cdx_models.specs.EqualLaws.{equal_laws};
 
 use cdx_events::{List, Text};
-use cdx_models::{HasTree, copy_row, same_row};
+use cdx_models::{HasTree, copy_row, equal_row};
 use cdx_schema::{Kinded, Record};
 use cdx_signature::Signature;
 use std::alloc::{AllocError, Global};
@@ -45,16 +45,16 @@ impl Kinded for BomReference {
 }
 
 impl PartialEq for BomReference {
-    ghost eq = { λ a b. same (bom_reference_tree a) (bom_reference_tree b) };
+    ghost eq = { λ a b. equal (bom_reference_tree a) (bom_reference_tree b) };
 
-    ghost laws = { same_laws bom_reference_tree };
+    ghost laws = { equal_laws bom_reference_tree };
 
     fn eq(&self, other: &BomReference) -> bool
-        ensures test { result ≡ same (bom_reference_tree self.now) (bom_reference_tree other.now) }
+        ensures test { result ≡ equal (bom_reference_tree self.now) (bom_reference_tree other.now) }
         ensures equality { IsTrue result
             ↔ (bom_reference_tree self.now ≡ bom_reference_tree other.now) }
     {
-        self.same(other)
+        self.equals(other)
     }
 }
 
@@ -106,12 +106,12 @@ impl HasTree for Composition {
     }
 
     fn agrees(&self, other: &Composition) -> bool {
-        same_row(&self.bom_ref, &other.bom_ref)
+        equal_row(&self.bom_ref, &other.bom_ref)
             && self.aggregate.agrees(&other.aggregate)
-            && same_row(&self.assemblies, &other.assemblies)
-            && same_row(&self.dependencies, &other.dependencies)
-            && same_row(&self.vulnerabilities, &other.vulnerabilities)
-            && same_row(&self.signature, &other.signature)
+            && equal_row(&self.assemblies, &other.assemblies)
+            && equal_row(&self.dependencies, &other.dependencies)
+            && equal_row(&self.vulnerabilities, &other.vulnerabilities)
+            && equal_row(&self.signature, &other.signature)
     }
 }
 
@@ -124,16 +124,16 @@ impl Record for Composition {
 }
 
 impl PartialEq for Composition {
-    ghost eq = { λ a b. same (composition_tree a) (composition_tree b) };
+    ghost eq = { λ a b. equal (composition_tree a) (composition_tree b) };
 
-    ghost laws = { same_laws composition_tree };
+    ghost laws = { equal_laws composition_tree };
 
     fn eq(&self, other: &Composition) -> bool
-        ensures test { result ≡ same (composition_tree self.now) (composition_tree other.now) }
+        ensures test { result ≡ equal (composition_tree self.now) (composition_tree other.now) }
         ensures equality { IsTrue result
             ↔ (composition_tree self.now ≡ composition_tree other.now) }
     {
-        self.same(other)
+        self.equals(other)
     }
 }
 
@@ -160,15 +160,15 @@ impl Kinded for Compositions {
 }
 
 impl PartialEq for Compositions {
-    ghost eq = { λ a b. same (compositions_tree a) (compositions_tree b) };
+    ghost eq = { λ a b. equal (compositions_tree a) (compositions_tree b) };
 
-    ghost laws = { same_laws compositions_tree };
+    ghost laws = { equal_laws compositions_tree };
 
     fn eq(&self, other: &Compositions) -> bool
-        ensures test { result ≡ same (compositions_tree self.now) (compositions_tree other.now) }
+        ensures test { result ≡ equal (compositions_tree self.now) (compositions_tree other.now) }
         ensures equality { IsTrue result
             ↔ (compositions_tree self.now ≡ compositions_tree other.now) }
     {
-        self.same(other)
+        self.equals(other)
     }
 }

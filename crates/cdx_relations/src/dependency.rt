@@ -4,8 +4,8 @@ ghost use Rattle.cdx_models.specs.Trees.{dependency};
 ghost use Rattle.cdx_schema.specs.Kinds.{a_list, dependencies};
 ghost use Rattle.std.specs.Prelude.{refl, ◌≡◌, ◌↔◌, IsTrue};
 ghost use Rattle.cdx_relations.specs.Records.{dependency_tree, dependencies_tree};
-ghost use Rattle.cdx_models.specs.Same.{same};
-ghost use Rattle.cdx_models.specs.SameLaws.{same_laws};
+ghost use Rattle.cdx_models.specs.Equal.{equal};
+ghost use Rattle.cdx_models.specs.EqualLaws.{equal_laws};
 
 use cdx_events::{List, Text};
 use cdx_models::HasTree;
@@ -48,15 +48,15 @@ impl Record for Dependency {
 }
 
 impl PartialEq for Dependency {
-    ghost eq = { λ a b. same (dependency_tree a) (dependency_tree b) };
+    ghost eq = { λ a b. equal (dependency_tree a) (dependency_tree b) };
 
-    ghost laws = { same_laws dependency_tree };
+    ghost laws = { equal_laws dependency_tree };
 
     fn eq(&self, other: &Dependency) -> bool
-        ensures test { result ≡ same (dependency_tree self.now) (dependency_tree other.now) }
+        ensures test { result ≡ equal (dependency_tree self.now) (dependency_tree other.now) }
         ensures equality { IsTrue result ↔ (dependency_tree self.now ≡ dependency_tree other.now) }
     {
-        self.same(other)
+        self.equals(other)
     }
 }
 
@@ -83,15 +83,15 @@ impl Kinded for Dependencies {
 }
 
 impl PartialEq for Dependencies {
-    ghost eq = { λ a b. same (dependencies_tree a) (dependencies_tree b) };
+    ghost eq = { λ a b. equal (dependencies_tree a) (dependencies_tree b) };
 
-    ghost laws = { same_laws dependencies_tree };
+    ghost laws = { equal_laws dependencies_tree };
 
     fn eq(&self, other: &Dependencies) -> bool
-        ensures test { result ≡ same (dependencies_tree self.now) (dependencies_tree other.now) }
+        ensures test { result ≡ equal (dependencies_tree self.now) (dependencies_tree other.now) }
         ensures equality { IsTrue result
             ↔ (dependencies_tree self.now ≡ dependencies_tree other.now) }
     {
-        self.same(other)
+        self.equals(other)
     }
 }

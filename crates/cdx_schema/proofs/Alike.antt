@@ -10,17 +10,17 @@ use Rattle.cdx_schema.specs.Kinds.{Kind, a_list, a_record, a_tools, an_entry, Ne
 use Rattle.cdx_schema.specs.Table.{rows}
 use Rattle.cdx_schema.specs.Held.{held_kind}
 use Rattle.cdx_schema.specs.Keeping.{kept, items_kept, rows_kept, kept_record, before_1_5}
-use Rattle.cdx_schema.specs.Trips.{bare, items_bare, rows_bare, settled, items_settled, rows_settled, settled_items, is_hollow, is_passed_over, field_after, none_is_absent, no_child}
+use Rattle.cdx_schema.specs.Trips.{bare, items_bare, rows_bare, settled, items_settled, rows_settled, list_settled, is_hollow, is_passed_over, field_after, none_is_absent, no_child}
 use Rattle.cdx_schema.proofs.XmlLaw.{is_list_kind}
 use Rattle.cdx_schema.proofs.Sound.{sound_xml, all_sound, sound, sound_parts, whole_kind}
 use Rattle.cdx_schema.proofs.TrippedOf.{more_is}
 use Rattle.cdx_schema.proofs.Commute.{no_child_row, filled_whole}
 
-pub settled_more : (k : Kind) (t : Tree) (ts : Trees) → settled_items k (more t ts) ≡ items (more t ts)
+pub settled_more : (k : Kind) (t : Tree) (ts : Trees) → list_settled k (more t ts) ≡ items (more t ts)
 settled_more a_tools t ts = refl
 settled_more _ t ts = refl
 
-list_there : (k : Kind) (ts : Trees) → is_absent (settled_items k ts) ≡ false
+list_there : (k : Kind) (ts : Trees) → is_absent (list_settled k ts) ≡ false
 list_there a_tools none = refl
 list_there a_tools (more t ts) = refl
 list_there _ ts = refl
@@ -38,7 +38,7 @@ no_parts V1_3 l = refl
 no_parts V1_4 l = refl
 no_parts V1_5 l = refl
 
-none_kept : (w l : SpecVersion) (k : Kind) → settled (kept w l (settled_items k none) k) k ≡ settled_items k none
+none_kept : (w l : SpecVersion) (k : Kind) → settled (kept w l (list_settled k none) k) k ≡ list_settled k none
 unfolding kept settled
 none_kept w l a_tools = no_parts w l
 none_kept w l _ = refl
@@ -80,7 +80,7 @@ mutual
   kept_settled w l (items none) k = none_kept w l k
   kept_settled w l (items (more t ts)) k =
       ap (λ x. settled (kept w l x k) k) (settled_more k (settled t (held_kind k)) (items_settled ts (held_kind k)))
-      ∙ ap (settled_items k) (more_is (kept_settled w l t (held_kind k)) (items_kept_settled w l ts (held_kind k)))
+      ∙ ap (list_settled k) (more_is (kept_settled w l t (held_kind k)) (items_kept_settled w l ts (held_kind k)))
   kept_settled w l (fields n ts) k = record_settled w k n (rows_kept w l (rows_settled ts (rows n)) (rows n)) (rows_kept w l ts (rows n)) (rows_kept_settled w l ts (rows n))
   kept_settled w l _ k = refl
 
@@ -112,7 +112,7 @@ hollow_settled (items ts) _ e = absurd (true≢false (sym e))
 hollow_settled (fields n ts) k e = no_child_settled ts (rows n)
 hollow_settled _ k e = refl
 
-list_passed : (k : Kind) (ts : Trees) → is_passed_over (settled_items k ts) ≡ false
+list_passed : (k : Kind) (ts : Trees) → is_passed_over (list_settled k ts) ≡ false
 list_passed a_tools none = refl
 list_passed a_tools (more t ts) = refl
 list_passed _ ts = refl
@@ -148,7 +148,7 @@ field_alike r t u x y s h e = by r.xml s
     by (children q) g = none_settled r.need x r.kind g ∙ (ap (none_is_absent r.need) e ∙ sym (none_settled r.need y r.kind g))
     by _ g = e
 
-none_bare : (k : Kind) → settled (bare (settled_items k none)) k ≡ settled_items k none
+none_bare : (k : Kind) → settled (bare (list_settled k none)) k ≡ list_settled k none
 unfolding bare settled rows
 none_bare a_tools = refl
 none_bare _ = refl
@@ -166,7 +166,7 @@ mutual
   bare_settled (items none) k = none_bare k
   bare_settled (items (more t ts)) k =
       ap (λ x. settled (bare x) k) (settled_more k (settled t (held_kind k)) (items_settled ts (held_kind k)))
-      ∙ ap (settled_items k) (item_alike (is_passed_over (settled t (held_kind k))) (is_passed_over t) (bare (settled t (held_kind k))) (bare t) (items_bare (items_settled ts (held_kind k))) (items_bare ts) (held_kind k) (passed_settled t (held_kind k)) (bare_settled t (held_kind k)) (items_bare_settled ts (held_kind k)))
+      ∙ ap (list_settled k) (item_alike (is_passed_over (settled t (held_kind k))) (is_passed_over t) (bare (settled t (held_kind k))) (bare t) (items_bare (items_settled ts (held_kind k))) (items_bare ts) (held_kind k) (passed_settled t (held_kind k)) (bare_settled t (held_kind k)) (items_bare_settled ts (held_kind k)))
   bare_settled (fields n ts) k = ap (fields n) (rows_bare_settled ts (rows n) (sound n))
   bare_settled _ k = refl
 

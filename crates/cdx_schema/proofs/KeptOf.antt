@@ -70,16 +70,16 @@ IsFieldAll Q t r = ((t ≡ absent) × (may_lack r.need ≡ true)) ⊎ IsOfAll Q 
 abbrev pub IsField : Tree → Row → Type 0
 IsField t r = IsFieldAll AnyText t r
 
-pub since_lacks : (v : SpecVersion) (n : Need) (k : Kind) (w : SpecVersion) → sound_since v n k ≡ true → knows v w ≡ false → may_lack n ≡ true
-since_lacks V1_3 n k w s h = absurd (true≢false h)
-since_lacks V1_4 optional k w s h = refl
-since_lacks V1_4 _ k w s h = absurd (true≢false (sym s))
-since_lacks V1_5 optional k w s h = refl
-since_lacks V1_5 _ k w s h = absurd (true≢false (sym s))
+pub lacks_since : (v : SpecVersion) (n : Need) (k : Kind) (w : SpecVersion) → sound_since v n k ≡ true → knows v w ≡ false → may_lack n ≡ true
+lacks_since V1_3 n k w s h = absurd (true≢false h)
+lacks_since V1_4 optional k w s h = refl
+lacks_since V1_4 _ k w s h = absurd (true≢false (sym s))
+lacks_since V1_5 optional k w s h = refl
+lacks_since V1_5 _ k w s h = absurd (true≢false (sym s))
 
 row_of_kept : (Q : List ℕ → Type 0) (w l : SpecVersion) (t : Tree) (r : Row) (b : Bool) → knows r.since w ≡ b → sound_since r.since r.need r.kind ≡ true → IsFieldAll Q t r → (IsOfAll Q t r.kind → IsOfAll Q (kept w l t r.kind) r.kind) → IsFieldAll Q (if b then kept w l t r.kind else absent) r
 unfolding kept
-row_of_kept Q w l t r false known s h f = inl (refl, since_lacks r.since r.need r.kind w s known)
+row_of_kept Q w l t r false known s h f = inl (refl, lacks_since r.since r.need r.kind w s known)
 row_of_kept Q w l t r true known s (inl h) f = inl (ap (λ x. kept w l x r.kind) h.0, h.1)
 row_of_kept Q w l t r true known s (inr h) f = inr (f h)
 
@@ -156,12 +156,12 @@ record_versions w l a_signature n ts is f g h = plain_versions w a_signature n (
 record_versions w l a_bill n ts is f g h = plain_versions w a_bill n (rows_kept w l ts (rows n)) (rows_have_versions ts (rows n)) refl h
 record_versions w l _ n ts is f g h = absurd (true≢false is)
 
-since_optional : (v : SpecVersion) (n : Need) (k : Kind) (w : SpecVersion) → sound_since v n k ≡ true → knows v w ≡ false → (free_need n ≡ true) × (free_kind k ≡ true)
-since_optional V1_3 n k w s h = absurd (true≢false h)
-since_optional V1_4 optional k w s h = (refl, s)
-since_optional V1_4 _ k w s h = absurd (true≢false (sym s))
-since_optional V1_5 optional k w s h = (refl, s)
-since_optional V1_5 _ k w s h = absurd (true≢false (sym s))
+optional_since : (v : SpecVersion) (n : Need) (k : Kind) (w : SpecVersion) → sound_since v n k ≡ true → knows v w ≡ false → (free_need n ≡ true) × (free_kind k ≡ true)
+optional_since V1_3 n k w s h = absurd (true≢false h)
+optional_since V1_4 optional k w s h = (refl, s)
+optional_since V1_4 _ k w s h = absurd (true≢false (sym s))
+optional_since V1_5 optional k w s h = (refl, s)
+optional_since V1_5 _ k w s h = absurd (true≢false (sym s))
 
 -- A field that may be dropped has its versions.
 pub dropped_versions : (t : Tree) (r : Row) → free_need r.need ≡ true → free_kind r.kind ≡ true → IsField t r → (is_there r.need absent && has_versions absent r.kind) ≡ (is_there r.need t && has_versions t r.kind)
@@ -176,7 +176,7 @@ row_versions : (w l : SpecVersion) (t : Tree) (r : Row) (b : Bool) → knows r.s
     → (HasShape t r.kind → has_versions (kept w l t r.kind) r.kind ≡ has_versions t r.kind)
     → (is_there r.need (if b then kept w l t r.kind else absent) && has_versions (if b then kept w l t r.kind else absent) r.kind) ≡ (is_there r.need t && has_versions t r.kind)
 unfolding kept has_versions
-row_versions w l t r false known s h f = dropped_versions t r (since_optional r.since r.need r.kind w s known).0 (since_optional r.since r.need r.kind w s known).1 h
+row_versions w l t r false known s h f = dropped_versions t r (optional_since r.since r.need r.kind w s known).0 (optional_since r.since r.need r.kind w s known).1 h
 row_versions w l t r true known s h f = and_alike (there_alike r.need (kept w l t r.kind) t (absent_kept w l t r h))
     (elim h [ inl e ↦ ap (λ x. has_versions (kept w l x r.kind) r.kind) e.0 ∙ sym (ap (λ x. has_versions x r.kind) e.0) | inr e ↦ f e ])
 

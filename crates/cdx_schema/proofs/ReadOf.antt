@@ -25,7 +25,7 @@ use Rattle.cdx_schema.specs.Texts.{AreTexts, AreTextsIn, AreTextsOf}
 use Rattle.cdx_schema.proofs.JsonBack.{and_true, err_ok}
 use Rattle.cdx_schema.proofs.XmlLaw.{is_list_kind}
 use Rattle.cdx_schema.proofs.Sound.{both, sound_since}
-use Rattle.cdx_schema.proofs.KeptOf.{class_entry, third_of, since_lacks}
+use Rattle.cdx_schema.proofs.KeptOf.{class_entry, third_of, lacks_since}
 
 -- ---- results
 
@@ -136,7 +136,7 @@ row_good : (Q : List ℕ → Type 0) (b : Bool) (o : Object) (own : Kind → Res
     → sound_since r.since r.need r.kind ≡ true → is_else r.need r.kind ≡ true → is_own_row r.json r.kind ≡ true
     → (if b then member_read r.json o own r v d else Ok absent) ≡ Ok t → FieldOf Q r.need r.kind d t
 row_good Q true o own r v d t known g f s q c e = member_good Q r.json o own r v d t g f q c e
-row_good Q false o own r v d t known g f s q c e = is_absent_field Q r.need r.kind d t (since_lacks r.since r.need r.kind v s known) e
+row_good Q false o own r v d t known g f s q c e = is_absent_field Q r.need r.kind d t (lacks_since r.since r.need r.kind v s known) e
 
 abbrev pub AreRead : (Q : List ℕ → Type 0) → List Row → Depth → Trees → Type 0
 AreRead Q rs d ts = AreFieldsAll Q ts rs × (are_shallow ts d ≡ true)

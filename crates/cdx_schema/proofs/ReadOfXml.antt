@@ -32,7 +32,7 @@ use Rattle.cdx_schema.proofs.ReadOf.{ok_same, bind_ok, above, IsReadOf, AreRead,
 use Rattle.std.specs.Prelude.{is_some}
 use native.Mathlib.Omega.{arith}
 use Rattle.cdx_schema.proofs.Sound.{sound_since}
-use Rattle.cdx_schema.proofs.KeptOf.{since_lacks}
+use Rattle.cdx_schema.proofs.KeptOf.{lacks_since}
 use Rattle.cdx_events.specs.declared.event.EventKind.TheVariants as kinds
 use Rattle.cdx_events.specs.declared.name.OwnedAttribute.{OwnedAttribute}
 use Rattle.cdx_events.specs.Nodes.{Node, Nodes, cdata, characters, element, no_nodes, node}
@@ -463,10 +463,10 @@ not_owed else_empty v e h = absurd (true≢false (sym e))
 
 child_lacks : (b : Bool) (r : Row) (v : SpecVersion) → knows r.since v ≡ b → sound_since r.since r.need r.kind ≡ true → is_not_else r.need ≡ true → (is_required r.need v && (knows r.since v && is_absent absent)) ≡ false → may_lack r.need ≡ true
 child_lacks true r v k s e h = not_owed r.need v e (three (knows r.since v) (is_required r.need v) true h k refl)
-child_lacks false r v k s e h = since_lacks r.since r.need r.kind v s k
+child_lacks false r v k s e h = lacks_since r.since r.need r.kind v s k
 
 attribute_lacks : (b : Bool) (r : Row) (v : SpecVersion) → knows r.since v ≡ b → sound_since r.since r.need r.kind ≡ true → is_plain_need r.need ≡ true → ((b && is_required r.need v) ≡ true → true ≡ false) → may_lack r.need ≡ true
-attribute_lacks false r v k s e h = since_lacks r.since r.need r.kind v s k
+attribute_lacks false r v k s e h = lacks_since r.since r.need r.kind v s k
 attribute_lacks true r v k s e h = by r.need e h
   where
     by : (n : Need) → is_plain_need n ≡ true → ((true && is_required n v) ≡ true → true ≡ false) → may_lack n ≡ true
@@ -476,7 +476,7 @@ attribute_lacks true r v k s e h = by r.need e h
     by else_empty f g = absurd (true≢false (sym f))
 
 known_lacks : (b : Bool) (r : Row) (v : SpecVersion) → knows r.since v ≡ b → sound_since r.since r.need r.kind ≡ true → (b ≡ true → true ≡ false) → may_lack r.need ≡ true
-known_lacks false r v k s h = since_lacks r.since r.need r.kind v s k
+known_lacks false r v k s h = lacks_since r.since r.need r.kind v s k
 known_lacks true r v k s h = absurd (true≢false (h refl))
 
 filled_there : (r : Row) (t : Tree) → is_absent t ≡ false → filled r t ≡ t

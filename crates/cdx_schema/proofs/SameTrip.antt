@@ -8,7 +8,7 @@ use Rattle.cdx_models.specs.Trees.{Name, hash, Tree, absent, text, number, boole
 use Rattle.cdx_schema.specs.Kinds.{Kind, a_list, a_tools, Need, optional, required, required_first, else_empty, Spelled, filled_child, children, Row}
 use Rattle.cdx_schema.specs.Table.{rows}
 use Rattle.cdx_schema.specs.Held.{held_kind}
-use Rattle.cdx_schema.specs.Trips.{bare, items_bare, rows_bare, settled, items_settled, rows_settled, settled_items, is_hollow, is_passed_over, field_after, none_is_absent}
+use Rattle.cdx_schema.specs.Trips.{bare, items_bare, rows_bare, settled, items_settled, rows_settled, list_settled, is_hollow, is_passed_over, field_after, none_is_absent}
 use Rattle.cdx_schema.proofs.JsonBack.{and_true, more_same}
 use Rattle.cdx_schema.proofs.XmlLaw.{tripped, items_tripped, rows_tripped, list_after, is_list_kind}
 
@@ -26,7 +26,7 @@ both_none w (more t ts) k = by (is_passed_over t) (both_none w ts k)
     by true h = h
     by false h = refl
 
-settled_list : (k : Kind) (w : SpecVersion) (us : Trees) → settled (list_after k w us) k ≡ settled_items k (items_settled us (held_kind k))
+settled_list : (k : Kind) (w : SpecVersion) (us : Trees) → settled (list_after k w us) k ≡ list_settled k (items_settled us (held_kind k))
 unfolding settled rows
 settled_list a_tools V1_3 us = refl
 settled_list a_tools V1_4 us = refl
@@ -89,7 +89,7 @@ mutual
   unfolding tripped bare settled
 
   pub trip_same : (w : SpecVersion) (t : Tree) (k : Kind) → settled (tripped w t k) k ≡ settled (bare t) k
-  trip_same w (items ts) k = settled_list k w (items_tripped w ts (held_kind k)) ∙ ap (settled_items k) (items_same w ts (held_kind k))
+  trip_same w (items ts) k = settled_list k w (items_tripped w ts (held_kind k)) ∙ ap (list_settled k) (items_same w ts (held_kind k))
   trip_same w (fields n ts) k = ap (fields n) (rows_same w ts (rows n) (all_listed_rows n))
   trip_same w _ k = refl
 

@@ -11,7 +11,7 @@ use Rattle.cdx_schema.specs.Table.{rows, list}
 use Rattle.cdx_schema.specs.Held.{held_kind}
 use Rattle.cdx_models.specs.Entries.{is_flow}
 use Rattle.cdx_schema.specs.Keeping.{kept, items_kept, rows_kept, kept_record}
-use Rattle.cdx_schema.specs.Trips.{settled, items_settled, rows_settled, settled_items, is_hollow, is_passed_over}
+use Rattle.cdx_schema.specs.Trips.{settled, items_settled, rows_settled, list_settled, is_hollow, is_passed_over}
 use Rattle.cdx_schema.proofs.Sound.{sound_xml, all_sound, sound, sound_parts, whole_kind}
 use Rattle.std.specs.Prelude.{codes}
 use Rattle.cdx_schema.specs.Kinds.{classifications}
@@ -29,7 +29,7 @@ abbrev pub is_low : SpecVersion → Bool
 is_low V1_5 = false
 is_low _ = true
 
-low_none : (w l : SpecVersion) (k : Kind) → is_low w ≡ true → kept w l (settled_items k none) k ≡ items none
+low_none : (w l : SpecVersion) (k : Kind) → is_low w ≡ true → kept w l (list_settled k none) k ≡ items none
 unfolding kept
 low_none V1_3 l a_tools h = refl
 low_none V1_4 l a_tools h = refl
@@ -83,7 +83,7 @@ attributes_settled none rs w = refl
 attributes_settled (more t ts) [] w = refl
 attributes_settled (more t ts) (r ∷ rs) w = rw (row_attributes_alike r (settled t r.kind) t (settled_there t r.kind) (settled_text t r.kind), attributes_settled ts rs w) refl
 
-list_attributes : (k : Kind) (ts : Trees) (w : SpecVersion) → attributes_of (settled_items k ts) w k ≡ []
+list_attributes : (k : Kind) (ts : Trees) (w : SpecVersion) → attributes_of (list_settled k ts) w k ≡ []
 unfolding rows
 list_attributes a_tools none w = refl
 list_attributes a_tools (more t ts) w = refl
@@ -95,7 +95,7 @@ of_settled (items ts) w k = list_attributes k (items_settled ts (held_kind k)) w
 of_settled (fields n ts) w k = ap (ordered n) (attributes_settled ts (rows n) w)
 of_settled _ w k = refl
 
-list_tag : (k : Kind) (ts : Trees) (tag : List ℕ) → tag_of k (settled_items k ts) tag ≡ tag
+list_tag : (k : Kind) (ts : Trees) (tag : List ℕ) → tag_of k (list_settled k ts) tag ≡ tag
 list_tag a_tools none tag = refl
 list_tag a_tools (more t ts) tag = refl
 list_tag _ ts tag = refl
@@ -114,7 +114,7 @@ wrapped_settled t w tag k xs ys e = wrapped_alike (settled t k) t w tag k xs ys 
 abbrev pub in_flow : (t : Tree) (w : SpecVersion) (k : Kind) (xs : Nodes) → Node
 in_flow t w k xs = plain_element (codes "dataflow") [] (lone (wrapped t w (codes "classification") k xs))
 
-list_flow : (k : Kind) (ts : Trees) (w : SpecVersion) (xs : Nodes) → flow_of (settled_items k ts) w k xs ≡ in_flow (settled_items k ts) w k xs
+list_flow : (k : Kind) (ts : Trees) (w : SpecVersion) (xs : Nodes) → flow_of (list_settled k ts) w k xs ≡ in_flow (list_settled k ts) w k xs
 list_flow a_tools none w xs = refl
 list_flow a_tools (more t ts) w xs = refl
 list_flow _ ts w xs = refl
@@ -139,7 +139,7 @@ is_flow_settled service_data (more a none) = ap (λ x. not (x && true)) (settled
 is_flow_settled service_data (more a (more b ts)) = rw (settled_there a a_text, settled_there b a_text) refl
 is_flow_settled _ ts = refl
 
-list_any : (k : Kind) (us ts : Trees) → any_flow (more (settled_items k us) ts) ≡ any_flow ts
+list_any : (k : Kind) (us ts : Trees) → any_flow (more (list_settled k us) ts) ≡ any_flow ts
 list_any a_tools none ts = refl
 list_any a_tools (more u us) ts = refl
 list_any _ us ts = refl
@@ -160,7 +160,7 @@ items_of_settled a_tools ts j = refl
 items_of_settled a_data ts j = ap (λ b. if b then as_flows else each_under (list classifications).name) (any_settled ts j)
 items_of_settled _ ts j = refl
 
-none_nodes : (w : SpecVersion) (k : Kind) → nodes_of (settled_items k none) w k ≡ no_nodes
+none_nodes : (w : SpecVersion) (k : Kind) → nodes_of (list_settled k none) w k ≡ no_nodes
 unfolding nodes_of rows
 none_nodes w a_tools = refl
 none_nodes w _ = refl

@@ -69,9 +69,9 @@ unfoldable mutual
 
 -- ---- the same
 
-abbrev pub settled_items : Kind → Trees → Tree
-settled_items a_tools none = fields tools_object (two absent absent)
-settled_items k ts = items ts
+abbrev pub list_settled : Kind → Trees → Tree
+list_settled a_tools none = fields tools_object (two absent absent)
+list_settled k ts = items ts
 
 -- An empty tool list counts as a tools object without parts.
 unfoldable mutual
@@ -80,7 +80,7 @@ unfoldable mutual
   settled (text s) k = text s
   settled (number n) k = number n
   settled (boolean b) k = boolean b
-  settled (items ts) k = settled_items k (items_settled ts (held_kind k))
+  settled (items ts) k = list_settled k (items_settled ts (held_kind k))
   settled (fields n ts) k = fields n (rows_settled ts (rows n))
 
   pub items_settled : Trees → Kind → Trees

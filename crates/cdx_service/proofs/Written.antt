@@ -10,7 +10,7 @@ use Rattle.cdx_schema.specs.Table.{rows, list}
 use Rattle.cdx_schema.specs.Trips.{is_passed_over}
 use Rattle.cdx_schema.specs.Groups.{group}
 use Rattle.cdx_write.specs.Listed.{item_put}
-use Rattle.cdx_write.specs.Spelling.{written, inner}
+use Rattle.cdx_write.specs.Spelling.{spelled_events, inner}
 use Rattle.cdx_write.specs.WillWrite.{will_write}
 use Rattle.cdx_write.specs.WrittenRows.{child_written, attributes_written, rows_written, are_rows_of}
 use Rattle.cdx_write.specs.Writing.{opening, start_tag, end_tag}
@@ -21,7 +21,7 @@ use Rattle.cdx_service.specs.declared.service.Service.{Service}
 use Rattle.cdx_service.specs.declared.service.Service.TheOpen.{Service-F}
 use Rattle.cdx_service.specs.declared.service.Service.TheViews.{out-Service}
 use Rattle.cdx_service.specs.declared.service.Services.{Services}
-use Rattle.cdx_service.specs.Trees.{service_tree, services_tree, service_naming, service_access, service_contents, service_fields, services_listed}
+use Rattle.cdx_service.specs.Trees.{service_tree, services_tree, service_naming, service_access, service_contents, service_fields, service_items}
 use Rattle.cdx_service.specs.Laws.{service_tree-out, services_tree-out, services_there}
 use Rattle.cdx_service.proofs.Grouped.{service_rows}
 
@@ -76,26 +76,26 @@ naming_attributes x w =
 -- ---- a service under a name
 
 pub service_made : (x : Service) (w : SpecVersion) (tag : List ℕ) (as' : List OwnedAttribute) → as' ≡ attributes_written (service_naming (out-Service x)) w (group 0 service)
-    → opening tag as' ∷ rows_written (service_fields services_tree (out-Service x)) w (rows service) ++ end_tag tag ∷ [] ≡ written (service_tree x) w tag (a_record service)
+    → opening tag as' ∷ rows_written (service_fields services_tree (out-Service x)) w (rows service) ++ end_tag tag ∷ [] ≡ spelled_events (service_tree x) w tag (a_record service)
 service_made x w tag as' is =
     let ts = service_fields services_tree (out-Service x) in
     ap (λ s. opening tag s ∷ rows_written ts w (rows service) ++ end_tag tag ∷ []) (is ∙ sym (naming_attributes (out-Service x) w))
-    ∙ sym (record_is service ts w tag (λ s. refl)) ∙ ap (λ u. written u w tag (a_record service)) (sym (service_tree-out x))
+    ∙ sym (record_is service ts w tag (λ s. refl)) ∙ ap (λ u. spelled_events u w tag (a_record service)) (sym (service_tree-out x))
 
-pub service_item : (tag : List ℕ) (w : SpecVersion) (x : Service) → written (service_tree x) w tag (a_record service) ≡ item_put tag (a_record service) (service_tree x) w
+pub service_item : (tag : List ℕ) (w : SpecVersion) (x : Service) → spelled_events (service_tree x) w tag (a_record service) ≡ item_put tag (a_record service) (service_tree x) w
 service_item tag w x = item_there tag (a_record service) (service_tree x) w false refl (sym (service_counts x)) refl
 
 -- ---- a list of services
 
-pub services_inner : (w : SpecVersion) (xs : Services) → flat_map (items_put service_tree (codes "service") (a_record service) w) (services_listed xs) ≡ inner (services_tree xs) w (a_list services)
+pub services_inner : (w : SpecVersion) (xs : Services) → flat_map (items_put service_tree (codes "service") (a_record service) w) (service_items xs) ≡ inner (services_tree xs) w (a_list services)
 unfolding list
 services_inner w xs =
-    list_inner service_tree (codes "service") (a_record service) services w (services_listed xs) (refl, refl) ∙ ap (λ u. inner u w (a_list services)) (sym (services_tree-out xs))
+    list_inner service_tree (codes "service") (a_record service) services w (service_items xs) (refl, refl) ∙ ap (λ u. inner u w (a_list services)) (sym (services_tree-out xs))
 
-pub services_made : (tag : List ℕ) (w : SpecVersion) (xs : Services) → start_tag tag ∷ inner (services_tree xs) w (a_list services) ++ end_tag tag ∷ [] ≡ written (services_tree xs) w tag (a_list services)
+pub services_made : (tag : List ℕ) (w : SpecVersion) (xs : Services) → start_tag tag ∷ inner (services_tree xs) w (a_list services) ++ end_tag tag ∷ [] ≡ spelled_events (services_tree xs) w tag (a_list services)
 services_made tag w xs =
     ap (λ u. start_tag tag ∷ inner u w (a_list services) ++ end_tag tag ∷ []) (services_tree-out xs)
-    ∙ list_is service_tree tag services w (services_listed xs) ∙ ap (λ u. written u w tag (a_list services)) (sym (services_tree-out xs))
+    ∙ list_is service_tree tag services w (service_items xs) ∙ ap (λ u. spelled_events u w tag (a_list services)) (sym (services_tree-out xs))
 
-pub services_child : (name : List ℕ) (w : SpecVersion) (xs : Services) → written (services_tree xs) w name (a_list services) ≡ child_written name (a_list services) (services_tree xs) w
+pub services_child : (name : List ℕ) (w : SpecVersion) (xs : Services) → spelled_events (services_tree xs) w name (a_list services) ≡ child_written name (a_list services) (services_tree xs) w
 services_child name w xs = child_there name (a_list services) (services_tree xs) w refl (services_there xs)

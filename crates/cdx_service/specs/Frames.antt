@@ -14,7 +14,7 @@ use Rattle.cdx_service.specs.declared.frames.ServiceValue.{ServiceValue}
 use Rattle.cdx_service.specs.declared.frames.ServiceValue.TheVariants as values
 use Rattle.cdx_service.specs.declared.frames.ServiceFrame.{ServiceFrame}
 use Rattle.cdx_service.specs.declared.frames.ServiceFrame.TheVariants as frames
-use Rattle.cdx_service.specs.Trees.{service_tree, services_tree, services_listed}
+use Rattle.cdx_service.specs.Trees.{service_tree, services_tree, service_items}
 use Rattle.cdx_service.specs.ReadingParts.{service_part}
 
 -- the kind in the schema
@@ -28,7 +28,7 @@ frame_kind (frames.Services list) = kinds.Services
 
 abbrev pub frame_fields : ServiceFrame → Trees
 frame_fields (frames.Service part) = service_part part
-frame_fields (frames.Services list) = items_slots service_tree (services_listed list)
+frame_fields (frames.Services list) = items_slots service_tree (service_items list)
 
 abbrev pub value_kind : ServiceValue → ServiceKind
 value_kind (values.Service x) = kinds.Service

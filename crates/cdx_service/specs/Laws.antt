@@ -8,7 +8,7 @@ use Rattle.cdx_service.specs.declared.service.Service.TheViews.{out-Service, rol
 use Rattle.cdx_service.specs.declared.service.Service.TheFolds.{fold-roll-Service, fold_out-Service, fold_out-Services}
 use Rattle.cdx_service.specs.declared.service.Services.{Services}
 use Rattle.cdx_models.specs.Trees.{as_is}
-use Rattle.cdx_service.specs.Trees.{service_step, services_step, service_tree, services_tree, services_listed, service_fields}
+use Rattle.cdx_service.specs.Trees.{service_step, services_step, service_tree, services_tree, service_items, service_fields}
 
 mapped : (h : Services → Tree) (o : Option Services) → present as_is (former-Service-services.map Services Tree h o) ≡ present h o
 mapped h None = refl
@@ -20,7 +20,7 @@ service_tree-roll x = fold-roll-Service Tree Tree service_step services_step x �
 pub service_tree-out : (s : Service) → service_tree s ≡ fields service (service_fields services_tree (out-Service s))
 service_tree-out s = fold_out-Service Tree Tree service_step services_step s ∙ simp (mapped services_tree (out-Service s).services)
 
-pub services_tree-out : (ss : Services) → services_tree ss ≡ list_tree service_tree (services_listed ss)
+pub services_tree-out : (ss : Services) → services_tree ss ≡ list_tree service_tree (service_items ss)
 services_tree-out ss = fold_out-Services Tree Tree service_step services_step ss
 
 -- ---- neither tree is absent

@@ -40,5 +40,5 @@ abbrev pub services_tree : Services → Tree
 services_tree = fold-Services Tree Tree service_step services_step
 
 -- the items of a list of services
-abbrev pub services_listed : Services → List Service
-services_listed ss = (out-Services ss).items.items
+abbrev pub service_items : Services → List Service
+service_items ss = (out-Services ss).items.items

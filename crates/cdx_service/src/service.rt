@@ -3,9 +3,9 @@
 ghost use Rattle.std.specs.Prelude.{◌≡◌, [], ◌∷◌, ◌++◌, IfOk, OnOk, OnErr, length, slice_get, option_copied, is_some, nat_lt, ◌↔◌, IsTrue};
 ghost use Rattle.cdx_models.specs.Trees.{service};
 ghost use Rattle.cdx_schema.specs.Kinds.{services, a_list, a_record};
-ghost use Rattle.cdx_models.specs.Same.{same};
-ghost use Rattle.cdx_models.specs.SameLaws.{same_laws};
-ghost use Rattle.cdx_service.specs.Trees.{service_tree, services_tree, services_listed};
+ghost use Rattle.cdx_models.specs.Equal.{equal};
+ghost use Rattle.cdx_models.specs.EqualLaws.{equal_laws};
+ghost use Rattle.cdx_service.specs.Trees.{service_tree, services_tree, service_items};
 ghost use Rattle.cdx_service.specs.Laws.{service_there, services_there};
 
 mod compared;
@@ -18,7 +18,7 @@ use cdx_models::{ExternalReferences, HasTree, OrganizationalEntity, Properties};
 use cdx_schema::Kinded;
 use cdx_service_data::Data;
 use cdx_signature::Signature;
-use compared::{same_service, same_services};
+use compared::{equal_service, equal_services};
 use copied::{copy_service, copy_services};
 use std::alloc::{AllocError, Global};
 
@@ -94,7 +94,7 @@ pub struct Services {
 impl Services {
     /// The empty list. It takes no memory.
     pub fn new(alloc: Global) -> Services
-        ensures { services_listed result ≡ [] }
+        ensures { service_items result ≡ [] }
     {
         Services {
             items: Vec::new(alloc),
@@ -103,7 +103,7 @@ impl Services {
 
     /// The empty list, with room for so many services. Only want of memory refuses.
     pub fn with_capacity(alloc: Global, capacity: usize) -> Result<Services, AllocError>
-        ensures { IfOk result (λ l. services_listed l ≡ []) }
+        ensures { IfOk result (λ l. service_items l ≡ []) }
     {
         let items = Vec::with_capacity(alloc, capacity)?;
         Ok(Services { items })
@@ -112,8 +112,8 @@ impl Services {
     /// Appends a service. Where memory runs out, the list is as before and the service is dropped.
     pub fn push(&mut self, item: Service) -> Result<(), AllocError>
         ensures ok { OnOk result
-            (services_listed self.new ≡ services_listed self.old ++ item ∷ []) }
-        ensures err { OnErr result (services_listed self.new ≡ services_listed self.old) }
+            (service_items self.new ≡ service_items self.old ++ item ∷ []) }
+        ensures err { OnErr result (service_items self.new ≡ service_items self.old) }
     {
         self.items.push(item)?;
         Ok(())
@@ -121,22 +121,22 @@ impl Services {
 
     /// How many services there are. It takes no memory.
     pub fn len(&self) -> usize
-        ensures { result ≡ length (services_listed self.now) }
+        ensures { result ≡ length (service_items self.now) }
     {
         self.items.len()
     }
 
     /// The service at a place, counted from 0, or `None` exactly from the length on. It takes no memory.
     pub fn get(&self, at: usize) -> Option<&Service>
-        ensures item { option_copied result ≡ slice_get (services_listed self.now) at }
-        ensures there { is_some result ≡ nat_lt at (length (services_listed self.now)) }
+        ensures item { option_copied result ≡ slice_get (service_items self.now) at }
+        ensures there { is_some result ≡ nat_lt at (length (service_items self.now)) }
     {
         self.items.get(at)
     }
 
     /// The services. It takes no memory.
     pub fn as_slice(&self) -> &[Service]
-        ensures { result.now ≡ services_listed self.now }
+        ensures { result.now ≡ service_items self.now }
     {
         self.items.as_slice()
     }
@@ -152,7 +152,7 @@ impl HasTree for Service {
     }
 
     fn agrees(&self, other: &Service) -> bool {
-        same_service(self, other)
+        equal_service(self, other)
     }
 }
 
@@ -161,15 +161,15 @@ impl Kinded for Service {
 }
 
 impl PartialEq for Service {
-    ghost eq = { λ a b. same (service_tree a) (service_tree b) };
+    ghost eq = { λ a b. equal (service_tree a) (service_tree b) };
 
-    ghost laws = { same_laws service_tree };
+    ghost laws = { equal_laws service_tree };
 
     fn eq(&self, other: &Service) -> bool
-        ensures test { result ≡ same (service_tree self.now) (service_tree other.now) }
+        ensures test { result ≡ equal (service_tree self.now) (service_tree other.now) }
         ensures equality { IsTrue result ↔ (service_tree self.now ≡ service_tree other.now) }
     {
-        self.same(other)
+        self.equals(other)
     }
 }
 
@@ -183,7 +183,7 @@ impl HasTree for Services {
     }
 
     fn agrees(&self, other: &Services) -> bool {
-        same_services(self, other)
+        equal_services(self, other)
     }
 }
 
@@ -192,14 +192,14 @@ impl Kinded for Services {
 }
 
 impl PartialEq for Services {
-    ghost eq = { λ a b. same (services_tree a) (services_tree b) };
+    ghost eq = { λ a b. equal (services_tree a) (services_tree b) };
 
-    ghost laws = { same_laws services_tree };
+    ghost laws = { equal_laws services_tree };
 
     fn eq(&self, other: &Services) -> bool
-        ensures test { result ≡ same (services_tree self.now) (services_tree other.now) }
+        ensures test { result ≡ equal (services_tree self.now) (services_tree other.now) }
         ensures equality { IsTrue result ↔ (services_tree self.now ≡ services_tree other.now) }
     {
-        self.same(other)
+        self.equals(other)
     }
 }

@@ -14,7 +14,7 @@ use Rattle.cdx_schema.specs.Nodes.{◌⊕◌}
 use Rattle.cdx_schema.specs.Table.{rows, list}
 use Rattle.cdx_schema.specs.Trips.{is_passed_over}
 use Rattle.cdx_schema.specs.XmlSpelling.{lone, each_under, as_flows, item_node, any_flow, nodes_of, items_nodes}
-use Rattle.cdx_write.specs.Spelling.{inner, written}
+use Rattle.cdx_write.specs.Spelling.{inner, spelled_events}
 use Rattle.cdx_write.specs.Writing.{start_tag, end_tag}
 use Rattle.cdx_service_data.specs.Records.{classification_tree, service_data_tree, service_classification, service_entry, data_tree}
 use Rattle.cdx_service_data.specs.declared.service.Data.{Data}
@@ -151,7 +151,7 @@ flows_inner w xs b is e =
 
 -- ---- under a tag
 
-pub data_written : (tag : List ℕ) (x : Data) (w : SpecVersion) → start_tag tag ∷ inner (data_tree x) w a_data ++ end_tag tag ∷ [] ≡ written (data_tree x) w tag a_data
-unfolding written inner kept nodes_of
+pub data_written : (tag : List ℕ) (x : Data) (w : SpecVersion) → start_tag tag ∷ inner (data_tree x) w a_data ++ end_tag tag ∷ [] ≡ spelled_events (data_tree x) w tag a_data
+unfolding spelled_events inner kept nodes_of
 data_written tag (variant.Classification xs) w = refl
 data_written tag (variant.ServiceData xs) w = refl

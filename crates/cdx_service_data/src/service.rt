@@ -4,12 +4,12 @@ ghost use Rattle.cdx_models.specs.Trees.{classification, service_data, list_tree
 ghost use Rattle.cdx_schema.specs.Kinds.{a_data};
 ghost use Rattle.std.specs.Prelude.{◌≡◌, refl, IfOk, is_some, ◌||◌, ◌↔◌, IsTrue};
 ghost use Rattle.cdx_models.specs.Entries.{entry_of};
-ghost use Rattle.cdx_models.specs.Same.{same};
-ghost use Rattle.cdx_models.specs.SameLaws.{same_laws};
+ghost use Rattle.cdx_models.specs.Equal.{equal};
+ghost use Rattle.cdx_models.specs.EqualLaws.{equal_laws};
 ghost use Rattle.cdx_service_data.specs.Records.{classification_tree, service_data_tree, service_classification, service_entry, data_tree, data_there};
 
 use cdx_events::{List, Text};
-use cdx_models::{HasTree, copy_row, same_row};
+use cdx_models::{HasTree, copy_row, equal_row};
 use cdx_schema::{Kinded, Record};
 use std::alloc::{AllocError, Global};
 
@@ -65,17 +65,17 @@ impl Record for DataClassification {
 }
 
 impl PartialEq for DataClassification {
-    ghost eq = { λ a b. same (classification_tree a) (classification_tree b) };
+    ghost eq = { λ a b. equal (classification_tree a) (classification_tree b) };
 
-    ghost laws = { same_laws classification_tree };
+    ghost laws = { equal_laws classification_tree };
 
     fn eq(&self, other: &DataClassification) -> bool
         ensures test { result
-            ≡ same (classification_tree self.now) (classification_tree other.now) }
+            ≡ equal (classification_tree self.now) (classification_tree other.now) }
         ensures equality { IsTrue result
             ↔ (classification_tree self.now ≡ classification_tree other.now) }
     {
-        self.same(other)
+        self.equals(other)
     }
 }
 
@@ -104,8 +104,8 @@ impl HasTree for ServiceData {
     }
 
     fn agrees(&self, other: &ServiceData) -> bool {
-        same_row(&self.name, &other.name)
-            && same_row(&self.description, &other.description)
+        equal_row(&self.name, &other.name)
+            && equal_row(&self.description, &other.description)
             && self.classification.agrees(&other.classification)
     }
 }
@@ -119,16 +119,16 @@ impl Record for ServiceData {
 }
 
 impl PartialEq for ServiceData {
-    ghost eq = { λ a b. same (service_data_tree a) (service_data_tree b) };
+    ghost eq = { λ a b. equal (service_data_tree a) (service_data_tree b) };
 
-    ghost laws = { same_laws service_data_tree };
+    ghost laws = { equal_laws service_data_tree };
 
     fn eq(&self, other: &ServiceData) -> bool
-        ensures test { result ≡ same (service_data_tree self.now) (service_data_tree other.now) }
+        ensures test { result ≡ equal (service_data_tree self.now) (service_data_tree other.now) }
         ensures equality { IsTrue result
             ↔ (service_data_tree self.now ≡ service_data_tree other.now) }
     {
-        self.same(other)
+        self.equals(other)
     }
 }
 
@@ -157,9 +157,9 @@ impl HasTree for Data {
     fn agrees(&self, other: &Data) -> bool {
         match (self, other) {
             (Data::Classification(one), Data::Classification(other)) => one.agrees(other),
-            (Data::Classification(one), Data::ServiceData(other)) => same_entries(one, other),
-            (Data::ServiceData(one), Data::Classification(other)) => same_entries(other, one),
-            (Data::ServiceData(one), Data::ServiceData(other)) => same_entries(one, other),
+            (Data::Classification(one), Data::ServiceData(other)) => equal_entries(one, other),
+            (Data::ServiceData(one), Data::Classification(other)) => equal_entries(other, one),
+            (Data::ServiceData(one), Data::ServiceData(other)) => equal_entries(one, other),
         }
     }
 }
@@ -169,15 +169,15 @@ impl Kinded for Data {
 }
 
 impl PartialEq for Data {
-    ghost eq = { λ a b. same (data_tree a) (data_tree b) };
+    ghost eq = { λ a b. equal (data_tree a) (data_tree b) };
 
-    ghost laws = { same_laws data_tree };
+    ghost laws = { equal_laws data_tree };
 
     fn eq(&self, other: &Data) -> bool
-        ensures test { result ≡ same (data_tree self.now) (data_tree other.now) }
+        ensures test { result ≡ equal (data_tree self.now) (data_tree other.now) }
         ensures equality { IsTrue result ↔ (data_tree self.now ≡ data_tree other.now) }
     {
-        self.same(other)
+        self.equals(other)
     }
 }
 
@@ -193,30 +193,30 @@ impl ServiceData {
 /// A value that may stand among a service's data.
 trait Entry: HasTree {
     /// Whether it is the same entry as a service data. It takes no memory.
-    fn same_entry(&self, other: &ServiceData) -> bool
-        ensures { result ≡ same (entry_of (Self.tree self.now)) (service_entry other.now) };
+    fn equal_entry(&self, other: &ServiceData) -> bool
+        ensures { result ≡ equal (entry_of (Self.tree self.now)) (service_entry other.now) };
 }
 
 impl Entry for DataClassification {
-    fn same_entry(&self, other: &ServiceData) -> bool {
-        !other.is_flow() && self.same(&other.classification)
+    fn equal_entry(&self, other: &ServiceData) -> bool {
+        !other.is_flow() && self.equals(&other.classification)
     }
 }
 
 impl Entry for ServiceData {
-    fn same_entry(&self, other: &ServiceData) -> bool {
+    fn equal_entry(&self, other: &ServiceData) -> bool {
         if self.is_flow() {
-            self.same(other)
+            self.equals(other)
         } else {
-            self.classification.same_entry(other)
+            self.classification.equal_entry(other)
         }
     }
 }
 
 /// Whether the entries are equal one by one. It takes no memory.
-fn same_entries<T: Entry + Drop>(one: &List<T>, other: &List<ServiceData>) -> bool
+fn equal_entries<T: Entry + Drop>(one: &List<T>, other: &List<ServiceData>) -> bool
     ensures { result
-        ≡ same (list_tree (λ x. entry_of (T.tree x)) one.now)
+        ≡ equal (list_tree (λ x. entry_of (T.tree x)) one.now)
         (list_tree service_entry other.now) }
 {
     let one = one.as_slice();
@@ -225,7 +225,7 @@ fn same_entries<T: Entry + Drop>(one: &List<T>, other: &List<ServiceData>) -> bo
         return false;
     }
     for i in 0..one.len() {
-        if !one[i].same_entry(&other[i]) {
+        if !one[i].equal_entry(&other[i]) {
             return false;
         }
     }

@@ -26,7 +26,7 @@ use Rattle.cdx_leaf.specs.Fault.{FailsAt}
 use Rattle.cdx_leaf.specs.Each.{each_node, plan_step}
 use Rattle.cdx_leaf.specs.Listing.{listing_plan, ReadsItems}
 use Rattle.cdx_signature.specs.Parts.{signer_part}
-use Rattle.cdx_leaf.specs.RowContents.{content_is}
+use Rattle.cdx_leaf.specs.RowContents.{content_from_rows}
 use Rattle.cdx_leaf.specs.Reading.{Reads, ReadsAs, behind_end}
 use Rattle.cdx_leaf.specs.Trees.{collected}
 use Rattle.cdx_leaf.proofs.ChildSteps.{each_is}
@@ -71,11 +71,11 @@ reads_listed name inner alone plain listed old new v n a result reads d ns p nod
 
 pub reads_signers : (old new : Cursor) (v : SpecVersion) (n : OwnedName) (a : List OwnedAttribute) (result : Result (List Signer) XmlReadError)
     → ReadsItems signer_tree (a_record signer) (λ d. d) old new v n (codes "signer") Strict result → ReadsAs (λ xs. fields signers (one (list_tree signer_tree xs))) old new n a v (a_record signers) (λ d. d) result
-reads_signers old new v n a result reads = reads_listed signers (codes "signer") (content_is signers) refl signers_listed old new v n a result reads
+reads_signers old new v n a result reads = reads_listed signers (codes "signer") (content_from_rows signers) refl signers_listed old new v n a result reads
 
 pub reads_chain : (old new : Cursor) (v : SpecVersion) (n : OwnedName) (a : List OwnedAttribute) (result : Result (List Signer) XmlReadError)
     → ReadsItems signer_tree (a_record signer) (λ d. d) old new v n (codes "chain") Strict result → ReadsAs (λ xs. fields chain (one (list_tree signer_tree xs))) old new n a v (a_record chain) (λ d. d) result
-reads_chain old new v n a result reads = reads_listed chain (codes "chain") (content_is chain) refl chain_listed old new v n a result reads
+reads_chain old new v n a result reads = reads_listed chain (codes "chain") (content_from_rows chain) refl chain_listed old new v n a result reads
 
 -- ---- a whole signature
 

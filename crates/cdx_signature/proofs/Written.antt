@@ -10,7 +10,7 @@ use Rattle.cdx_schema.specs.Nodes.{◌⊕◌}
 use Rattle.cdx_schema.specs.Table.{rows}
 use Rattle.cdx_schema.specs.Keeping.{kept}
 use Rattle.cdx_schema.specs.XmlSpelling.{plain_element, nodes_of}
-use Rattle.cdx_write.specs.Spelling.{written}
+use Rattle.cdx_write.specs.Spelling.{spelled_events}
 use Rattle.cdx_write.specs.Writing.{start_tag, end_tag}
 
 no_more_nodes : (xs : Nodes) → xs ⊕ no_nodes ≡ xs
@@ -22,20 +22,20 @@ in_another tag name xs =
     ap (λ ys. start_tag tag ∷ events_of (plain_element name [] ys) ++ end_tag tag ∷ []) (sym (no_more_nodes xs))
     ∙ ap (λ s. start_tag tag ∷ s ++ end_tag tag ∷ []) (sym (append-nil (events_of (plain_element name [] (xs ⊕ no_nodes)))))
 
-pub single_signature : (ts : Trees) (w : SpecVersion) (tag : List ℕ) → written (fields signer ts) w tag (a_record signer) ≡ written (fields signer ts) w tag a_signature
-unfolding written kept nodes_of
+pub single_signature : (ts : Trees) (w : SpecVersion) (tag : List ℕ) → spelled_events (fields signer ts) w tag (a_record signer) ≡ spelled_events (fields signer ts) w tag a_signature
+unfolding spelled_events kept nodes_of
 single_signature ts V1_3 tag = refl
 single_signature ts V1_4 tag = refl
 single_signature ts V1_5 tag = refl
 
-pub signers_signature : (ts : Trees) (w : SpecVersion) (tag : List ℕ) → start_tag tag ∷ written (items ts) w (codes "signers") (a_list signer_list) ++ end_tag tag ∷ [] ≡ written (fields signers (one (items ts))) w tag a_signature
-unfolding written kept nodes_of rows
+pub signers_signature : (ts : Trees) (w : SpecVersion) (tag : List ℕ) → start_tag tag ∷ spelled_events (items ts) w (codes "signers") (a_list signer_list) ++ end_tag tag ∷ [] ≡ spelled_events (fields signers (one (items ts))) w tag a_signature
+unfolding spelled_events kept nodes_of rows
 signers_signature ts V1_3 tag = in_another tag (codes "signers") _
 signers_signature ts V1_4 tag = in_another tag (codes "signers") _
 signers_signature ts V1_5 tag = in_another tag (codes "signers") _
 
-pub chain_signature : (ts : Trees) (w : SpecVersion) (tag : List ℕ) → start_tag tag ∷ written (items ts) w (codes "chain") (a_list chain_list) ++ end_tag tag ∷ [] ≡ written (fields chain (one (items ts))) w tag a_signature
-unfolding written kept nodes_of rows
+pub chain_signature : (ts : Trees) (w : SpecVersion) (tag : List ℕ) → start_tag tag ∷ spelled_events (items ts) w (codes "chain") (a_list chain_list) ++ end_tag tag ∷ [] ≡ spelled_events (fields chain (one (items ts))) w tag a_signature
+unfolding spelled_events kept nodes_of rows
 chain_signature ts V1_3 tag = in_another tag (codes "chain") _
 chain_signature ts V1_4 tag = in_another tag (codes "chain") _
 chain_signature ts V1_5 tag = in_another tag (codes "chain") _

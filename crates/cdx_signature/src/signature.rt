@@ -5,8 +5,8 @@ ghost use Rattle.cdx_schema.specs.Kinds.{a_signature, a_text};
 ghost use Rattle.std.specs.Prelude.{◌≡◌, refl, IfOk, ◌↔◌, IsTrue};
 ghost use Rattle.cdx_signature.specs.Records.{algorithm_tree, signer_tree, signature_tree, signature_there};
 ghost use Rattle.cdx_signature.specs.Signatures.{algorithm_of, algorithm_name, signer_of};
-ghost use Rattle.cdx_models.specs.Same.{same};
-ghost use Rattle.cdx_models.specs.SameLaws.{same_laws};
+ghost use Rattle.cdx_models.specs.Equal.{equal};
+ghost use Rattle.cdx_models.specs.EqualLaws.{equal_laws};
 
 use cdx_events::{List, Text};
 use cdx_models::HasTree;
@@ -134,15 +134,15 @@ impl Kinded for Algorithm {
 }
 
 impl PartialEq for Algorithm {
-    ghost eq = { λ a b. same (algorithm_tree a) (algorithm_tree b) };
+    ghost eq = { λ a b. equal (algorithm_tree a) (algorithm_tree b) };
 
-    ghost laws = { same_laws algorithm_tree };
+    ghost laws = { equal_laws algorithm_tree };
 
     fn eq(&self, other: &Algorithm) -> bool
-        ensures test { result ≡ same (algorithm_tree self.now) (algorithm_tree other.now) }
+        ensures test { result ≡ equal (algorithm_tree self.now) (algorithm_tree other.now) }
         ensures equality { IsTrue result ↔ (algorithm_tree self.now ≡ algorithm_tree other.now) }
     {
-        self.same(other)
+        self.equals(other)
     }
 }
 
@@ -193,15 +193,15 @@ impl Record for Signer {
 }
 
 impl PartialEq for Signer {
-    ghost eq = { λ a b. same (signer_tree a) (signer_tree b) };
+    ghost eq = { λ a b. equal (signer_tree a) (signer_tree b) };
 
-    ghost laws = { same_laws signer_tree };
+    ghost laws = { equal_laws signer_tree };
 
     fn eq(&self, other: &Signer) -> bool
-        ensures test { result ≡ same (signer_tree self.now) (signer_tree other.now) }
+        ensures test { result ≡ equal (signer_tree self.now) (signer_tree other.now) }
         ensures equality { IsTrue result ↔ (signer_tree self.now ≡ signer_tree other.now) }
     {
-        self.same(other)
+        self.equals(other)
     }
 }
 
@@ -272,14 +272,14 @@ impl Kinded for Signature {
 }
 
 impl PartialEq for Signature {
-    ghost eq = { λ a b. same (signature_tree a) (signature_tree b) };
+    ghost eq = { λ a b. equal (signature_tree a) (signature_tree b) };
 
-    ghost laws = { same_laws signature_tree };
+    ghost laws = { equal_laws signature_tree };
 
     fn eq(&self, other: &Signature) -> bool
-        ensures test { result ≡ same (signature_tree self.now) (signature_tree other.now) }
+        ensures test { result ≡ equal (signature_tree self.now) (signature_tree other.now) }
         ensures equality { IsTrue result ↔ (signature_tree self.now ≡ signature_tree other.now) }
     {
-        self.same(other)
+        self.equals(other)
     }
 }

@@ -20,41 +20,41 @@ use Rattle.cdx_tool.specs.declared.question.NoBill.TheVariants as lack
 
 -- ---- the question that a value is
 
-pub record Asked : Type 0 where
+pub record Inquiry : Type 0 where
   pub from : SpecVersion
   pub doc : Doc
 
-abbrev pub asking : SpecVersion → Result Doc Misread → Result Asked Misread
-asking from (Ok doc) = Ok (record { from = from; doc = doc })
-asking from (Err e) = Err e
+abbrev pub inquiring : SpecVersion → Result Doc Misread → Result Inquiry Misread
+inquiring from (Ok doc) = Ok (record { from = from; doc = doc })
+inquiring from (Err e) = Err e
 
-abbrev pub asked_parts : Option SpecVersion → Option Data → Result Asked Misread
-asked_parts None doc = Err shape
-asked_parts (Some from) None = Err shape
-asked_parts (Some from) (Some doc) = asking from (doc_in doc)
+abbrev pub inquiry_parts : Option SpecVersion → Option Data → Result Inquiry Misread
+inquiry_parts None doc = Err shape
+inquiry_parts (Some from) None = Err shape
+inquiry_parts (Some from) (Some doc) = inquiring from (doc_in doc)
 
 -- An object with `from` and `doc`, and no other member. Its shape comes before the balance of its events.
-abbrev pub asked_of : Data → Result Asked Misread
-asked_of d = if member_count d == 2 then asked_parts (version_at (codes "from") d) (get (codes "doc") d) else Err shape
+abbrev pub inquiry_of : Data → Result Inquiry Misread
+inquiry_of d = if member_count d == 2 then inquiry_parts (version_at (codes "from") d) (get (codes "doc") d) else Err shape
 
 -- ---- the bill that it asks about
 
 -- why there is none
-pub data Lack : Type 0 where
-  misread : Misread → Lack
-  bill_refused : Refusal → Lack
+pub data WhyNoBill : Type 0 where
+  misread : Misread → WhyNoBill
+  bill_refused : Refusal → WhyNoBill
 
-abbrev pub billed : Result Tree Refusal → Result Tree Lack
+abbrev pub billed : Result Tree Refusal → Result Tree WhyNoBill
 billed (Ok b) = Ok b
 billed (Err r) = Err (bill_refused r)
 
-abbrev pub bill_of : Result Asked Misread → Result Tree Lack
+abbrev pub bill_of : Result Inquiry Misread → Result Tree WhyNoBill
 bill_of (Ok a) = billed (denotes a.doc a.from)
 bill_of (Err e) = Err (misread e)
 
 -- The bill that a value asks about. Why it is no question comes before its document's first fault.
-abbrev pub bill_in : Data → Result Tree Lack
-bill_in d = bill_of (asked_of d)
+abbrev pub bill_in : Data → Result Tree WhyNoBill
+bill_in d = bill_of (inquiry_of d)
 
 -- The bytes are a question about the bill.
 abbrev pub AsksFor : List ℕ → Tree → Type 0
@@ -62,12 +62,12 @@ AsksFor bytes b = (d : Data) × (document_in_json bytes ≡ Some d) × (bill_in 
 
 -- ---- what is answered where there is none
 
-abbrev pub reply_to_lack : Lack → Reply
+abbrev pub reply_to_lack : WhyNoBill → Reply
 reply_to_lack (misread e) = reply_to_misread e
 reply_to_lack (bill_refused r) = reply 1 (refusal_value r)
 
 -- f is what is answered to a bill
-abbrev pub reply_to_bill : (Tree → Data) → Result Tree Lack → Reply
+abbrev pub reply_to_bill : (Tree → Data) → Result Tree WhyNoBill → Reply
 reply_to_bill f (Ok b) = reply 0 (f b)
 reply_to_bill f (Err l) = reply_to_lack l
 
@@ -81,11 +81,11 @@ reply_asking f bytes = reply_if_read f (document_in_json bytes)
 
 -- ---- what the calls give
 
-abbrev pub IsQuestion : Question → Asked → Type 0
+abbrev pub IsQuestion : Question → Inquiry → Type 0
 IsQuestion q a = (q.from ≡ a.from) × IsDoc q.doc a.doc
 
 -- The error is what is owed: a lack. Want of memory alone is free.
-abbrev pub Lacks : Result Tree Lack → NoBill → Type 0
+abbrev pub Lacks : Result Tree WhyNoBill → NoBill → Type 0
 Lacks owed (lack.Misread (misreading.Memory m)) = Unit {0}
 Lacks owed (lack.Misread misreading.Shape) = owed ≡ Err (misread shape)
 Lacks owed (lack.Misread (misreading.Unbalanced place)) = owed ≡ Err (misread (unbalanced place))
@@ -93,6 +93,6 @@ Lacks owed (lack.Refused (error.Memory m)) = Unit {0}
 Lacks owed (lack.Refused e) = (r : Refusal) × (refusal_of e ≡ Some r) × (owed ≡ Err (bill_refused r))
 
 -- The answer is what is owed: the bill, or why there is none.
-abbrev pub GivesBill : Result Tree Lack → Result Bom NoBill → Type 0
+abbrev pub GivesBill : Result Tree WhyNoBill → Result Bom NoBill → Type 0
 GivesBill owed (Ok bill) = owed ≡ Ok (bom_tree bill)
 GivesBill owed (Err e) = Lacks owed e

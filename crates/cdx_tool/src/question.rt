@@ -10,7 +10,7 @@ ghost use Rattle.cdx_schema.specs.Roads.{Refusal};
 ghost use Rattle.cdx_bom.specs.Docs.{refusal_of};
 ghost use Rattle.cdx_request.specs.Refusals.{refusal_value as refused_for, imbalance_value as unbalanced_at};
 ghost use Rattle.cdx_request.specs.Replies.{reply};
-ghost use Rattle.cdx_tool.specs.Asks.{IsQuestion, asked_of, bill_in, GivesBill, Lack, Lacks, reply_to_bill};
+ghost use Rattle.cdx_tool.specs.Asks.{IsQuestion, inquiry_of, bill_in, GivesBill, WhyNoBill, Lacks, reply_to_bill};
 
 use crate::answer::{Answer, answer_value, imbalance_value, refusal_value, refuse};
 use crate::part::{count_members, take_member, version_at};
@@ -67,7 +67,7 @@ impl From<RoadError> for NoBill {
 /// `Shape` comes exactly where the value is no such object, and else `Unbalanced` exactly where the document's events
 /// aren't balanced.
 pub fn read_question(alloc: Global, value: Value) -> Result<Question, RequestError>
-    ensures { ReadsOwed IsQuestion (asked_of (view value)) result }
+    ensures { ReadsOwed IsQuestion (inquiry_of (view value)) result }
 {
     if count_members(&value) != 2 {
         return Err(RequestError::Shape);
@@ -114,8 +114,8 @@ fn answer_refused(alloc: Global, error: &RoadError) -> Result<Answer, AllocError
 /// and `{"refused":{..}}` for a document whose events aren't balanced or that has a fault, by `imbalance_value` and
 /// `refusal_value`. Only want of memory refuses.
 pub fn answer_lack(alloc: Global, error: NoBill) -> Result<Answer, AllocError>
-    requires { (owed : Owed Tree Lack) × Lacks owed error }
-    ensures { (owed : Owed Tree Lack) (f : Tree → Data) → Lacks owed error
+    requires { (owed : Owed Tree WhyNoBill) × Lacks owed error }
+    ensures { (owed : Owed Tree WhyNoBill) (f : Tree → Data) → Lacks owed error
         → IfOk result (λ a. reply_of a ≡ reply_to_bill f owed) }
 {
     match error {

@@ -7,7 +7,7 @@ use Rattle.cdx_models.specs.Versions.{label}
 use Rattle.cdx_schema.specs.Faults.{JsonFault}
 use Rattle.cdx_json.specs.Gives.{Fails}
 use Rattle.cdx_component.specs.declared.component.Components.{Components}
-use Rattle.cdx_component.specs.Trees.{listed_components}
+use Rattle.cdx_component.specs.Trees.{component_items}
 use Rattle.cdx_bom.specs.declared.bom.Bom.{Bom}
 use Rattle.cdx_bom.specs.Trees.{bom_tree}
 
@@ -15,7 +15,7 @@ use Rattle.cdx_bom.specs.Trees.{bom_tree}
 
 abbrev pub components_counted : Option Components → ℕ
 components_counted None = 0
-components_counted (Some components) = length (listed_components components)
+components_counted (Some components) = length (component_items components)
 
 -- The answer is the number of components in the list of the bill that is owed, or the fault that is owed.
 abbrev pub CountsComponents : Result Tree JsonFault → Result ℕ JsonReadError → Type 0

@@ -38,7 +38,7 @@ fn differing<T: FromJson + PartialEq + Drop>(
         if case.word == "differs" {
             let other = held::<T>(alloc, case.given, V5)?;
             equal = equal.saturating_add(usize::from(copy == other));
-            same = same.saturating_add(usize::from(copy.same(&other)));
+            same = same.saturating_add(usize::from(copy.equals(&other)));
         }
     }
     let told = if (equal, same) == (1, 1) {

@@ -7,7 +7,7 @@ use Rattle.cdx_schema.specs.Membership.{IsOf}
 use Rattle.cdx_schema.specs.Groups.{group}
 use Rattle.cdx_component.specs.declared.component.Component.{Component}
 use Rattle.cdx_component.specs.declared.component.Component.TheViews.{out-Component}
-use Rattle.cdx_component.specs.Trees.{origin, naming, marks, contents, component_tree, components_tree, pedigree_tree}
+use Rattle.cdx_component.specs.Trees.{origin, naming, marks, component_contents, component_tree, components_tree, pedigree_tree}
 use Rattle.cdx_component.specs.Laws.{component_tree-out}
 use Rattle.cdx_service.specs.declared.service.Service.{Service}
 use Rattle.cdx_service.specs.declared.service.Service.TheViews.{out-Service}
@@ -21,11 +21,11 @@ joined none us (r ∷ rs) qs h k = let e : true ≡ false = h in absurd cc
 joined (more t ts) us [] qs h k = let e : true ≡ false = h in absurd cc
 joined (more t ts) us (r ∷ rs) qs h k = (h.0, joined ts us rs qs h.1 k)
 
-pub component_joined : (c : Component) → AreFields (origin (out-Component c)) (group 0 component) → AreFields (naming (out-Component c)) (group 1 component) → AreFields (marks (out-Component c)) (group 2 component) → AreFields (contents components_tree pedigree_tree (out-Component c)) (group 3 component) → IsOf (component_tree c) (a_record component)
+pub component_joined : (c : Component) → AreFields (origin (out-Component c)) (group 0 component) → AreFields (naming (out-Component c)) (group 1 component) → AreFields (marks (out-Component c)) (group 2 component) → AreFields (component_contents components_tree pedigree_tree (out-Component c)) (group 3 component) → IsOf (component_tree c) (a_record component)
 unfolding rows
 component_joined c first second third fourth =
     let x = out-Component c in
-    let last = contents components_tree pedigree_tree x in
+    let last = component_contents components_tree pedigree_tree x in
     let P : Tree → Type 0 = λ t. IsOf t (a_record component) in
     subst P (sym (component_tree-out c)) (
       refl,

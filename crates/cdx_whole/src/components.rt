@@ -4,7 +4,7 @@ ghost use Rattle.cdx_models.specs.Trees.{component, pedigree, present};
 ghost use Rattle.cdx_schema.specs.Kinds.{components, optional, a_list, a_record};
 ghost use Rattle.cdx_schema.specs.Membership.{IsOf};
 ghost use Rattle.cdx_schema.specs.Groups.{group};
-ghost use Rattle.cdx_component.specs.Trees.{origin, naming, marks, contents, component_tree, components_tree, pedigree_tree};
+ghost use Rattle.cdx_component.specs.Trees.{origin, naming, marks, component_contents, component_tree, components_tree, pedigree_tree};
 ghost use Rattle.cdx_component.specs.declared.component.Component.{out-Component};
 ghost use Rattle.cdx_whole.specs.Fields.{IsField, AreFields};
 
@@ -46,7 +46,7 @@ fn tell_marks(held: &Component)
 
 #[cycle(component_told)]
 fn tell_contents(held: &Component)
-    ensures { AreFields (contents components_tree pedigree_tree (out-Component held.now))
+    ensures { AreFields (component_contents components_tree pedigree_tree (out-Component held.now))
         (group 3 component) }
 {
     tell_pedigree_row(&held.pedigree);

@@ -12,7 +12,7 @@ use Rattle.cdx_schema.specs.Keeping.{kept, keep, items_kept}
 use Rattle.cdx_schema.specs.Trips.{is_passed_over}
 use Rattle.cdx_schema.specs.XmlSpelling.{each_under, nodes_of, items_nodes, lone, spelled}
 use Rattle.cdx_write.specs.Listed.{IsListOf, item_put}
-use Rattle.cdx_write.specs.Spelling.{written, inner}
+use Rattle.cdx_write.specs.Spelling.{spelled_events, inner}
 use Rattle.cdx_write.specs.Stays.{keeps_presence, passed_kept}
 use Rattle.cdx_write.specs.WrittenRows.{child_written}
 use Rattle.cdx_write.specs.Writing.{start_tag, end_tag}
@@ -23,11 +23,11 @@ use Rattle.cdx_write.proofs.RowWords.{child_there}
 
 pub item_passed : (tag : List ℕ) (k : Kind) (t : Tree) (w : SpecVersion) (b : Bool) → keeps_presence k ≡ true → b ≡ is_passed_over t → b ≡ true → item_put tag k t w ≡ []
 unfolding item_put
-item_passed tag k t w b keeps is e = ap (λ d. if d then [] else written t w tag k) (passed_kept k keeps w w t ∙ sym is ∙ e)
+item_passed tag k t w b keeps is e = ap (λ d. if d then [] else spelled_events t w tag k) (passed_kept k keeps w w t ∙ sym is ∙ e)
 
-pub item_there : (tag : List ℕ) (k : Kind) (t : Tree) (w : SpecVersion) (b : Bool) → keeps_presence k ≡ true → b ≡ is_passed_over t → b ≡ false → written t w tag k ≡ item_put tag k t w
+pub item_there : (tag : List ℕ) (k : Kind) (t : Tree) (w : SpecVersion) (b : Bool) → keeps_presence k ≡ true → b ≡ is_passed_over t → b ≡ false → spelled_events t w tag k ≡ item_put tag k t w
 unfolding item_put
-item_there tag k t w b keeps is e = ap (λ d. if d then [] else written t w tag k) (sym (passed_kept k keeps w w t ∙ sym is ∙ e))
+item_there tag k t w b keeps is e = ap (λ d. if d then [] else spelled_events t w tag k) (sym (passed_kept k keeps w w t ∙ sym is ∙ e))
 
 -- ---- all items
 
@@ -39,7 +39,7 @@ item_events true u w tag k = refl
 item_events false u w tag k = append-nil (events_of (spelled u w tag k))
 
 items_are : {A : Type 0} (see : A → Tree) (tag : List ℕ) (k : Kind) (w : SpecVersion) (xs : List A) → flat_map (items_put see tag k w) xs ≡ events_of_all (items_nodes (items_kept w w (each see xs) k) w (each_under tag) k)
-unfolding nodes_of kept item_put written
+unfolding nodes_of kept item_put spelled_events
 items_are see tag k w [] = refl
 items_are see tag k w (x ∷ xs) =
     ap (λ s. s ++ flat_map (items_put see tag k w) xs) (sym (item_events (is_passed_over (keep w (see x) k)) (keep w (see x) k) w tag k))
@@ -54,9 +54,9 @@ list_inner see tag k l w xs is =
     ∙ ap (λ s. events_of_all (items_nodes (items_kept w w (each see xs) (list l).kind) w (each_under s) (list l).kind)) (sym is.1)
 
 -- a list under its tag
-pub list_is : {A : Type 0} (see : A → Tree) (tag : List ℕ) (l : Lists) (w : SpecVersion) (xs : List A) → start_tag tag ∷ inner (list_tree see xs) w (a_list l) ++ end_tag tag ∷ [] ≡ written (list_tree see xs) w tag (a_list l)
-unfolding written inner nodes_of kept
+pub list_is : {A : Type 0} (see : A → Tree) (tag : List ℕ) (l : Lists) (w : SpecVersion) (xs : List A) → start_tag tag ∷ inner (list_tree see xs) w (a_list l) ++ end_tag tag ∷ [] ≡ spelled_events (list_tree see xs) w tag (a_list l)
+unfolding spelled_events inner nodes_of kept
 list_is see tag l w xs = refl
 
-pub list_child : {A : Type 0} (see : A → Tree) (name : List ℕ) (l : Lists) (w : SpecVersion) (xs : List A) → written (list_tree see xs) w name (a_list l) ≡ child_written name (a_list l) (list_tree see xs) w
+pub list_child : {A : Type 0} (see : A → Tree) (name : List ℕ) (l : Lists) (w : SpecVersion) (xs : List A) → spelled_events (list_tree see xs) w name (a_list l) ≡ child_written name (a_list l) (list_tree see xs) w
 list_child see name l w xs = child_there name (a_list l) (list_tree see xs) w refl refl

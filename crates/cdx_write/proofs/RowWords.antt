@@ -17,7 +17,7 @@ use Rattle.cdx_schema.specs.Trips.{is_hollow}
 use Rattle.cdx_schema.specs.XmlTexts.{text_of}
 use Rattle.cdx_schema.specs.XmlSpelling.{attribute_of, plain_element, tag_of, nodes_of, spelled}
 use Rattle.cdx_write.specs.Lone.{IsLone}
-use Rattle.cdx_write.specs.Spelling.{written, inner, Tag, spelled_as, spelling}
+use Rattle.cdx_write.specs.Spelling.{spelled_events, inner, Tag, spelled_as, spelling}
 use Rattle.cdx_write.specs.Stays.{keeps_presence, presence_kept, KeepsHollow}
 use Rattle.cdx_write.specs.WrittenRows.{attribute_written, child_written, filled_written, cdata_written, late_written}
 use Rattle.cdx_write.specs.Writing.{Appends, simple_tag}
@@ -61,9 +61,9 @@ no_attribute_added old new e = sym (append-nil old) ∙ ap (λ s. old ++ s) (sym
 
 -- ---- children
 
-pub child_there : (name : List ℕ) (k : Kind) (t : Tree) (w : SpecVersion) → keeps_presence k ≡ true → is_absent t ≡ false → written t w name k ≡ child_written name k t w
+pub child_there : (name : List ℕ) (k : Kind) (t : Tree) (w : SpecVersion) → keeps_presence k ≡ true → is_absent t ≡ false → spelled_events t w name k ≡ child_written name k t w
 unfolding child_written
-child_there name k t w keeps there = if_is false (is_absent (keep w t k)) [] (written t w name k) (sym (presence_kept k keeps w w t ∙ there))
+child_there name k t w keeps there = if_is false (is_absent (keep w t k)) [] (spelled_events t w name k) (sym (presence_kept k keeps w w t ∙ there))
 
 pub child_none : (name : List ℕ) (k : Kind) (w : SpecVersion) → child_written name k absent w ≡ []
 unfolding child_written kept
@@ -95,8 +95,8 @@ pub text_cdata : (s : List ℕ) (w : SpecVersion) → CData s ∷ [] ≡ cdata_w
 unfolding cdata_written kept
 text_cdata s w = refl
 
-pub lone_written : (k : Kind) (t : Tree) (w : SpecVersion) (tag : List ℕ) (s : List ℕ) → IsLone k t → s ≡ text_of t → simple_tag tag s ≡ written t w tag k
-unfolding written
+pub lone_written : (k : Kind) (t : Tree) (w : SpecVersion) (tag : List ℕ) (s : List ℕ) → IsLone k t → s ≡ text_of t → simple_tag tag s ≡ spelled_events t w tag k
+unfolding spelled_events
 lone_written k t w tag s lone e =
     ap (simple_tag tag) e
     ∙ ap (λ xs. events_of (plain_element tag [] xs)) (sym (lone.nodes w))

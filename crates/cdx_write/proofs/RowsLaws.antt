@@ -1,4 +1,4 @@
--- A record that is written row by row is the schema's spelling of it.
+-- A record that is spelled_events row by row is the schema's spelling of it.
 use Rattle.std.proofs.Common.{◌≡◌, ℕ, Bool, true, false, not, ◌&&◌, if◌then◌else◌, List, [], ◌∷◌, ◌++◌, refl, sym, ap, ◌∙◌, append_assoc}
 use Rattle.std.proofs.lemmas.List.{append-nil}
 use Rattle.cdx_events.specs.declared.name.OwnedAttribute.{OwnedAttribute}
@@ -14,21 +14,21 @@ use Rattle.cdx_schema.specs.Table.{rows}
 use Rattle.cdx_schema.specs.Keeping.{kept, keep, rows_kept}
 use Rattle.cdx_schema.specs.Trips.{is_hollow}
 use Rattle.cdx_schema.specs.XmlSpelling.{row_attributes, attributes_in, ordered, row_nodes, nodes_of, fields_nodes, spelled}
-use Rattle.cdx_write.specs.Spelling.{written, inner}
+use Rattle.cdx_write.specs.Spelling.{spelled_events, inner}
 use Rattle.cdx_schema.specs.Plain.{is_plain}
 use Rattle.cdx_schema.proofs.PlainNames.{plain_name}
-use Rattle.cdx_write.specs.WrittenRows.{attribute_written, child_written, filled_written, cdata_written, late_written, since_written, attribute_then, attributes_written, row_then, rows_written, are_rows_of}
+use Rattle.cdx_write.specs.WrittenRows.{attribute_written, child_written, filled_written, cdata_written, late_written, written_since, attribute_then, attributes_written, row_then, rows_written, are_rows_of}
 use Rattle.cdx_write.specs.Writing.{opening, end_tag}
 
 pub events_append : (xs ys : Nodes) → events_of_all (xs ⊕ ys) ≡ events_of_all xs ++ events_of_all ys
 events_append no_nodes ys = refl
 events_append (node x xs) ys = ap (λ s. events_of x ++ s) (events_append xs ys) ∙ sym (append_assoc (events_of x) (events_of_all xs) (events_of_all ys))
 
-since_put_is : {A : Type 0} (s w : SpecVersion) (xs : List A) → since_written s w xs ≡ (if knows s w then xs else [])
+put_since_is : {A : Type 0} (s w : SpecVersion) (xs : List A) → written_since s w xs ≡ (if knows s w then xs else [])
 unfolding late_written
-since_put_is V1_3 w xs = refl
-since_put_is V1_4 w xs = refl
-since_put_is V1_5 w xs = refl
+put_since_is V1_3 w xs = refl
+put_since_is V1_4 w xs = refl
+put_since_is V1_5 w xs = refl
 
 -- ---- attributes
 
@@ -44,8 +44,8 @@ none_known false rest = refl
 attribute_row : (x : Spelled) (k : Kind) (r : Row) (t : Tree) (w : SpecVersion) (rest : List OwnedAttribute) → x ≡ r.xml
     → attribute_then (record r { xml = x }) t w rest ≡ (if knows r.since w then row_attributes (record r { xml = x }) (keep w t r.kind) else []) ++ rest
 unfolding attribute_written
-attribute_row (attribute name) k r t w rest e = ap (λ s. s ++ rest) (since_put_is r.since w _)
-attribute_row (attribute_or name n) k r t w rest e = ap (λ s. s ++ rest) (since_put_is r.since w _)
+attribute_row (attribute name) k r t w rest e = ap (λ s. s ++ rest) (put_since_is r.since w _)
+attribute_row (attribute_or name n) k r t w rest e = ap (λ s. s ++ rest) (put_since_is r.since w _)
 attribute_row content k r t w rest e = sym (none_known (knows r.since w) rest)
 attribute_row one_text k r t w rest e = sym (none_known (knows r.since w) rest)
 attribute_row as_cdata k r t w rest e = sym (none_known (knows r.since w) rest)
@@ -102,12 +102,12 @@ nothing : (b : Bool) (s rest : List XmlEvent) → s ≡ [] → rest ≡ (if b th
 nothing true s rest e = ap (λ q. q ++ rest) (sym e)
 nothing false s rest e = refl
 
-something : (since w : SpecVersion) (a s rest : List XmlEvent) → a ≡ s → since_written since w a ++ rest ≡ (if knows since w then s else []) ++ rest
-something since w a s rest e = ap (λ q. q ++ rest) (since_put_is since w a ∙ ap (λ q. if knows since w then q else []) e)
+something : (since w : SpecVersion) (a s rest : List XmlEvent) → a ≡ s → written_since since w a ++ rest ≡ (if knows since w then s else []) ++ rest
+something since w a s rest e = ap (λ q. q ++ rest) (put_since_is since w a ∙ ap (λ q. if knows since w then q else []) e)
 
 row_is : (x : Spelled) (r : Row) (t : Tree) (w : SpecVersion) (rest : List XmlEvent)
     → row_then (record r { xml = x }) t w rest ≡ (if knows r.since w then row_events x r.kind t w else []) ++ rest
-unfolding inner written child_written filled_written cdata_written
+unfolding inner spelled_events child_written filled_written cdata_written
 row_is (attribute name) r t w rest = nothing (knows r.since w) _ rest (none_there (is_absent (keep w t r.kind)))
 row_is (attribute_or name n) r t w rest = nothing (knows r.since w) _ rest (none_there (is_absent (keep w t r.kind)))
 row_is content r t w rest = something r.since w _ _ rest (sym (inner_there (keep w t r.kind) w r.kind))
@@ -139,8 +139,8 @@ record_kept V1_5 n ts = refl
 
 -- the element of a record, from its attributes and its rows
 pub record_is : (n : Name) (ts : Trees) (w : SpecVersion) (tag : List ℕ) → ((xs : List OwnedAttribute) → ordered n xs ≡ xs)
-    → written (fields n ts) w tag (a_record n) ≡ opening tag (attributes_written ts w (rows n)) ∷ rows_written ts w (rows n) ++ end_tag tag ∷ []
-unfolding written nodes_of
+    → spelled_events (fields n ts) w tag (a_record n) ≡ opening tag (attributes_written ts w (rows n)) ∷ rows_written ts w (rows n) ++ end_tag tag ∷ []
+unfolding spelled_events nodes_of
 record_is n ts w tag plain =
     ap (λ u. events_of (spelled u w tag (a_record n))) (record_kept w n ts)
     ∙ ap (λ xs. opening tag xs ∷ events_of_all (fields_nodes (rows_kept w w ts (rows n)) w (rows n)) ++ end_tag tag ∷ []) (plain (attributes_in (rows_kept w w ts (rows n)) (rows n) w) ∙ sym (attributes_are ts w (rows n)))
@@ -149,10 +149,10 @@ record_is n ts w tag plain =
 -- the same of a record's tree, from attributes that are its own
 pub record_made : (n : Name) (t : Tree) (w : SpecVersion) (tag : List ℕ) (as' : List OwnedAttribute) → t ≡ fields n (fields_of t) → is_plain n ≡ true
     → as' ≡ attributes_written (fields_of t) w (rows n)
-    → opening tag as' ∷ rows_written (fields_of t) w (rows n) ++ end_tag tag ∷ [] ≡ written t w tag (a_record n)
+    → opening tag as' ∷ rows_written (fields_of t) w (rows n) ++ end_tag tag ∷ [] ≡ spelled_events t w tag (a_record n)
 record_made n t w tag as' is_record plain is =
     ap (λ xs. opening tag xs ∷ rows_written (fields_of t) w (rows n) ++ end_tag tag ∷ []) is
-    ∙ sym (record_is n (fields_of t) w tag (plain_name n plain).in_order) ∙ ap (λ u. written u w tag (a_record n)) (sym is_record)
+    ∙ sym (record_is n (fields_of t) w tag (plain_name n plain).in_order) ∙ ap (λ u. spelled_events u w tag (a_record n)) (sym is_record)
 
 -- what stands between the tags of a record
 pub record_inner : (n : Name) (ts : Trees) (w : SpecVersion) → inner (fields n ts) w (a_record n) ≡ rows_written ts w (rows n)
@@ -162,8 +162,8 @@ record_inner n ts w = ap (λ u. events_of_all (nodes_of u w (a_record n))) (reco
 -- ---- rows in groups
 
 attribute_then_more : (x : Spelled) (r : Row) (t : Tree) (w : SpecVersion) (a b : List OwnedAttribute) → attribute_then (record r { xml = x }) t w (a ++ b) ≡ attribute_then (record r { xml = x }) t w a ++ b
-attribute_then_more (attribute name) r t w a b = sym (append_assoc (since_written r.since w (attribute_written name r.kind t w)) a b)
-attribute_then_more (attribute_or name n) r t w a b = sym (append_assoc (since_written r.since w (attribute_written name r.kind t w)) a b)
+attribute_then_more (attribute name) r t w a b = sym (append_assoc (written_since r.since w (attribute_written name r.kind t w)) a b)
+attribute_then_more (attribute_or name n) r t w a b = sym (append_assoc (written_since r.since w (attribute_written name r.kind t w)) a b)
 attribute_then_more content r t w a b = refl
 attribute_then_more one_text r t w a b = refl
 attribute_then_more as_cdata r t w a b = refl
@@ -176,16 +176,16 @@ attribute_then_more the_version r t w a b = refl
 row_then_more : (x : Spelled) (r : Row) (t : Tree) (w : SpecVersion) (a b : List XmlEvent) → row_then (record r { xml = x }) t w (a ++ b) ≡ row_then (record r { xml = x }) t w a ++ b
 row_then_more (attribute name) r t w a b = refl
 row_then_more (attribute_or name n) r t w a b = refl
-row_then_more content r t w a b = sym (append_assoc (since_written r.since w (inner t w r.kind)) a b)
-row_then_more one_text r t w a b = sym (append_assoc (since_written r.since w (inner t w r.kind)) a b)
-row_then_more as_cdata r t w a b = sym (append_assoc (since_written r.since w (cdata_written r.kind t w)) a b)
-row_then_more (child name) r t w a b = sym (append_assoc (since_written r.since w (child_written name r.kind t w)) a b)
-row_then_more (filled_child name) r t w a b = sym (append_assoc (since_written r.since w (filled_written name r.kind t w)) a b)
-row_then_more (children name) r t w a b = sym (append_assoc (since_written r.since w (inner t w r.kind)) a b)
-row_then_more (either_child m n) r t w a b = sym (append_assoc (since_written r.since w (child_written m r.kind t w)) a b)
+row_then_more content r t w a b = sym (append_assoc (written_since r.since w (inner t w r.kind)) a b)
+row_then_more one_text r t w a b = sym (append_assoc (written_since r.since w (inner t w r.kind)) a b)
+row_then_more as_cdata r t w a b = sym (append_assoc (written_since r.since w (cdata_written r.kind t w)) a b)
+row_then_more (child name) r t w a b = sym (append_assoc (written_since r.since w (child_written name r.kind t w)) a b)
+row_then_more (filled_child name) r t w a b = sym (append_assoc (written_since r.since w (filled_written name r.kind t w)) a b)
+row_then_more (children name) r t w a b = sym (append_assoc (written_since r.since w (inner t w r.kind)) a b)
+row_then_more (either_child m n) r t w a b = sym (append_assoc (written_since r.since w (child_written m r.kind t w)) a b)
 row_then_more the_version r t w a b = refl
 
--- Two groups of rows, written one after the other, are all of them.
+-- Two groups of rows, spelled_events one after the other, are all of them.
 pub rows_in_groups : (ts us : Trees) (w : SpecVersion) (rs qs : List Row) → are_rows_of ts rs ≡ true → rows_written (ts ⧺ us) w (rs ++ qs) ≡ rows_written ts w rs ++ rows_written us w qs
 unfolding rows_written
 rows_in_groups none us w [] qs e = refl

@@ -7,7 +7,7 @@ use Rattle.cdx_schema.specs.Kinds.{Lists, Kind}
 use Rattle.cdx_schema.specs.Table.{list}
 use Rattle.cdx_schema.specs.Keeping.{keep}
 use Rattle.cdx_schema.specs.Trips.{is_passed_over}
-use Rattle.cdx_write.specs.Spelling.{written}
+use Rattle.cdx_write.specs.Spelling.{spelled_events}
 
 -- A list whose items are of the kind, each under the name.
 abbrev pub IsListOf : Kind → List ℕ → Lists → Type 0
@@ -15,4 +15,4 @@ IsListOf k tag l = ((list l).kind ≡ k) × ((list l).name ≡ tag)
 
 -- An item under a name; a list passes over a hollow contact.
 unfoldable pub item_put : List ℕ → Kind → Tree → SpecVersion → List XmlEvent
-item_put tag k t w = if is_passed_over (keep w t k) then [] else written t w tag k
+item_put tag k t w = if is_passed_over (keep w t k) then [] else spelled_events t w tag k

@@ -1,4 +1,4 @@
--- What a record's rows are written as, one after the other.
+-- What a record's rows are spelled_events as, one after the other.
 use Rattle.std.specs.Prelude.{ℕ, List, [], ◌∷◌, ◌++◌, Bool, true, false, if◌then◌else◌}
 use Rattle.cdx_events.specs.declared.name.OwnedAttribute.{OwnedAttribute}
 use Rattle.cdx_events.specs.declared.event.XmlEvent.{XmlEvent}
@@ -12,7 +12,7 @@ use Rattle.cdx_schema.specs.Keeping.{keep}
 use Rattle.cdx_schema.specs.Trips.{is_hollow}
 use Rattle.cdx_schema.specs.XmlTexts.{text_of}
 use Rattle.cdx_schema.specs.XmlSpelling.{attribute_of}
-use Rattle.cdx_write.specs.Spelling.{written, inner}
+use Rattle.cdx_write.specs.Spelling.{spelled_events, inner}
 
 -- ---- one row, as the version keeps it, where it is there
 
@@ -20,9 +20,9 @@ unfoldable pub attribute_written : List ℕ → Kind → Tree → SpecVersion �
 attribute_written name k t w = attribute_of name (keep w t k)
 
 unfoldable pub child_written : List ℕ → Kind → Tree → SpecVersion → List XmlEvent
-child_written name k t w = if is_absent (keep w t k) then [] else written t w name k
+child_written name k t w = if is_absent (keep w t k) then [] else spelled_events t w name k
 
--- the same for a child that isn't written where it is hollow
+-- the same for a child that isn't spelled_events where it is hollow
 unfoldable pub filled_written : List ℕ → Kind → Tree → SpecVersion → List XmlEvent
 filled_written name k t w = if is_hollow (keep w t k) then [] else child_written name k t w
 
@@ -33,10 +33,10 @@ cdata_written k t w = if is_absent (keep w t k) then [] else CData (text_of (kee
 unfoldable pub late_written : {A : Type 0} → SpecVersion → SpecVersion → List A → List A
 late_written since w xs = if knows since w then xs else []
 
-abbrev pub since_written : {A : Type 0} → SpecVersion → SpecVersion → List A → List A
-since_written V1_3 w xs = xs
-since_written V1_4 w xs = late_written V1_4 w xs
-since_written V1_5 w xs = late_written V1_5 w xs
+abbrev pub written_since : {A : Type 0} → SpecVersion → SpecVersion → List A → List A
+written_since V1_3 w xs = xs
+written_since V1_4 w xs = late_written V1_4 w xs
+written_since V1_5 w xs = late_written V1_5 w xs
 
 -- ---- the rows of a record, or a group of them
 
@@ -45,8 +45,8 @@ abbrev pub attribute_then : Row → Tree → SpecVersion → List OwnedAttribute
 attribute_then r t w rest = by r.xml
   where
     by : Spelled → List OwnedAttribute
-    by (attribute name) = since_written r.since w (attribute_written name r.kind t w) ++ rest
-    by (attribute_or name n) = since_written r.since w (attribute_written name r.kind t w) ++ rest
+    by (attribute name) = written_since r.since w (attribute_written name r.kind t w) ++ rest
+    by (attribute_or name n) = written_since r.since w (attribute_written name r.kind t w) ++ rest
     by _ = rest
 
 unfoldable pub attributes_written : Trees → SpecVersion → List Row → List OwnedAttribute
@@ -61,13 +61,13 @@ row_then r t w rest = by r.xml
     by : Spelled → List XmlEvent
     by (attribute name) = rest
     by (attribute_or name n) = rest
-    by content = since_written r.since w (inner t w r.kind) ++ rest
-    by one_text = since_written r.since w (inner t w r.kind) ++ rest
-    by as_cdata = since_written r.since w (cdata_written r.kind t w) ++ rest
-    by (child name) = since_written r.since w (child_written name r.kind t w) ++ rest
-    by (filled_child name) = since_written r.since w (filled_written name r.kind t w) ++ rest
-    by (children name) = since_written r.since w (inner t w r.kind) ++ rest
-    by (either_child m n) = since_written r.since w (child_written m r.kind t w) ++ rest
+    by content = written_since r.since w (inner t w r.kind) ++ rest
+    by one_text = written_since r.since w (inner t w r.kind) ++ rest
+    by as_cdata = written_since r.since w (cdata_written r.kind t w) ++ rest
+    by (child name) = written_since r.since w (child_written name r.kind t w) ++ rest
+    by (filled_child name) = written_since r.since w (filled_written name r.kind t w) ++ rest
+    by (children name) = written_since r.since w (inner t w r.kind) ++ rest
+    by (either_child m n) = written_since r.since w (child_written m r.kind t w) ++ rest
     by the_version = rest
 
 unfoldable pub rows_written : Trees → SpecVersion → List Row → List XmlEvent

@@ -4,7 +4,7 @@ ghost use Rattle.std.specs.Prelude.{◌≡◌, IfOk, true, ℕ, List};
 ghost use Rattle.cdx_schema.specs.Trips.{is_hollow, is_passed_over};
 ghost use Rattle.cdx_schema.specs.XmlTexts.{text_of};
 ghost use Rattle.cdx_write.specs.Lone.{IsLone};
-ghost use Rattle.cdx_write.specs.Spelling.{written};
+ghost use Rattle.cdx_write.specs.Spelling.{spelled_events};
 ghost use Rattle.cdx_write.specs.Stays.{keeps_presence, KeepsHollow};
 ghost use Rattle.cdx_write.specs.WillWrite.{will_write};
 ghost use Rattle.cdx_write.specs.Writing.{Appends};
@@ -29,7 +29,7 @@ pub trait Element: Kinded {
     /// of memory is refused; the writer then has a prefix of that.
     fn write_as(&self, writer: &mut EventWriter, tag: &str, target: Target) -> WriteResult
         ensures { Appends writer.old writer.new
-            (written (Self.tree self.now) target.version tag.now Self.kind) result };
+            (spelled_events (Self.tree self.now) target.version tag.now Self.kind) result };
 
     ghost keeps: { keeps_presence Self.kind ≡ true };
 }
@@ -76,7 +76,7 @@ pub fn write_lone<T: Lone>(
     target: Target,
 ) -> WriteResult
     ensures { Appends writer.old writer.new
-        (written (T.tree held.now) target.version tag.now T.kind) result }
+        (spelled_events (T.tree held.now) target.version tag.now T.kind) result }
 {
     let text = held.xml_text(target.alloc)?;
     write_simple_tag(target.alloc, writer, tag, text.as_str())

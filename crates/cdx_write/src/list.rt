@@ -3,7 +3,7 @@
 ghost use Rattle.cdx_models.specs.Trees.{present, list_tree};
 ghost use Rattle.cdx_schema.specs.Kinds.{Lists, a_list};
 ghost use Rattle.cdx_write.specs.Listed.{IsListOf, item_put};
-ghost use Rattle.cdx_write.specs.Spelling.{written, inner};
+ghost use Rattle.cdx_write.specs.Spelling.{spelled_events, inner};
 ghost use Rattle.cdx_write.specs.WrittenRows.{child_written, late_written};
 ghost use Rattle.cdx_write.specs.Writing.{Appends};
 
@@ -53,7 +53,7 @@ pub fn write_list<T: Item>(
 ) -> WriteResult
     ensures { (l : Lists) → IsListOf T.kind item_tag.now l
         → Appends writer.old writer.new
-        (written (list_tree T.tree held.now) target.version tag.now (a_list l)) result }
+        (spelled_events (list_tree T.tree held.now) target.version tag.now (a_list l)) result }
 {
     write_start_tag(target.alloc, writer, tag)?;
     write_items(writer, item_tag, held, target)?;

@@ -4,7 +4,7 @@ ghost use Rattle.std.specs.Prelude.{◌≡◌, refl, IfOk};
 ghost use Rattle.cdx_models.specs.Trees.{fields_of};
 ghost use Rattle.cdx_schema.specs.Kinds.{a_record};
 ghost use Rattle.cdx_schema.specs.Table.{rows};
-ghost use Rattle.cdx_write.specs.Spelling.{written};
+ghost use Rattle.cdx_write.specs.Spelling.{spelled_events};
 ghost use Rattle.cdx_write.specs.WrittenRows.{attributes_written, rows_written};
 ghost use Rattle.cdx_write.specs.Writing.{Appends};
 
@@ -39,7 +39,7 @@ pub fn write_record<T: WrittenRecord>(
     target: Target,
 ) -> WriteResult
     ensures { Appends writer.old writer.new
-        (written (T.tree held.now) target.version tag.now (a_record T.name)) result }
+        (spelled_events (T.tree held.now) target.version tag.now (a_record T.name)) result }
 {
     let attributes = held.attributes(target)?;
     write_opening(target.alloc, writer, tag, attributes)?;

@@ -3,7 +3,7 @@
 ghost use Rattle.std.specs.Prelude.{◌≡◌, ◌↔◌, true};
 ghost use Rattle.cdx_models.specs.Trees.{metadata, present, list_tree};
 ghost use Rattle.cdx_models.specs.Records.{tool_tree};
-ghost use Rattle.cdx_models.specs.Same.{same as same_trees, same_each};
+ghost use Rattle.cdx_models.specs.Equal.{equal, equal_each};
 ghost use Rattle.cdx_schema.specs.Kinds.{a_record, a_tools, a_bill};
 ghost use Rattle.cdx_schema.specs.Trips.{settled, IsSame};
 ghost use Rattle.cdx_nest.specs.Trees.{object_tree, tools_tree, metadata_tree};
@@ -11,9 +11,9 @@ ghost use Rattle.cdx_bom.specs.Trees.{bom_tree};
 ghost use Rattle.cdx_bom.specs.SettledBills.{settled_inventory};
 
 use crate::bom::Bom;
-use crate::bom::compared::{same_contents, same_identity, same_relations};
+use crate::bom::compared::{equal_contents, equal_identity, equal_relations};
 use cdx_events::List;
-use cdx_models::{HasTree, Tool, same_row};
+use cdx_models::{HasTree, Tool, equal_row};
 use cdx_nest::{Components, Metadata, Services, Tools};
 
 /// Whether two bills are the same: equal, once an empty tool list counts as a tools object without services and
@@ -27,22 +27,22 @@ pub fn same(one: &Bom, other: &Bom) -> bool
 #[tactic(auto, using(crate::proofs::Settled::bills_compared))]
 fn same_settled(one: &Bom, other: &Bom) -> bool
     ensures { result
-        ≡ same_trees (settled (bom_tree one.now) a_bill) (settled (bom_tree other.now) a_bill) }
+        ≡ equal (settled (bom_tree one.now) a_bill) (settled (bom_tree other.now) a_bill) }
 {
-    same_settled_inventory(one, other) && same_relations(one, other)
+    same_settled_inventory(one, other) && equal_relations(one, other)
 }
 
 #[tactic(auto, using(crate::proofs::Settled::inventory_settled))]
 fn same_settled_inventory(one: &Bom, other: &Bom) -> bool
-    ensures { result ≡ same_each (settled_inventory one.now) (settled_inventory other.now) }
+    ensures { result ≡ equal_each (settled_inventory one.now) (settled_inventory other.now) }
 {
-    same_identity(one, other)
+    equal_identity(one, other)
         && same_metadata_row(&one.metadata, &other.metadata)
-        && same_contents(one, other)
+        && equal_contents(one, other)
 }
 
 fn same_tools(one: &Tools, other: &Tools) -> bool
-    ensures { result ≡ same_trees (settled (tools_tree one.now) a_tools)
+    ensures { result ≡ equal (settled (tools_tree one.now) a_tools)
         (settled (tools_tree other.now) a_tools) }
 {
     match (one, other) {
@@ -70,7 +70,7 @@ fn same_tools(one: &Tools, other: &Tools) -> bool
                 services: other_services,
                 components: other_components,
             },
-        ) => same_row(services, other_services) && same_row(components, other_components),
+        ) => equal_row(services, other_services) && equal_row(components, other_components),
     }
 }
 
@@ -80,9 +80,9 @@ fn is_nothing(
     services: &Option<Services>,
     components: &Option<Components>,
 ) -> bool
-    ensures list { result ≡ same_trees (settled (list_tree tool_tree tools.now) a_tools)
+    ensures list { result ≡ equal (settled (list_tree tool_tree tools.now) a_tools)
         (settled (object_tree services.now components.now) a_tools) }
-    ensures object { result ≡ same_trees (settled (object_tree services.now components.now) a_tools)
+    ensures object { result ≡ equal (settled (object_tree services.now components.now) a_tools)
         (settled (list_tree tool_tree tools.now) a_tools) }
 {
     if tools.len() != 0 {
@@ -92,7 +92,7 @@ fn is_nothing(
 }
 
 fn same_tools_row(one: &Option<Tools>, other: &Option<Tools>) -> bool
-    ensures { result ≡ same_trees (settled (present tools_tree one.now) a_tools)
+    ensures { result ≡ equal (settled (present tools_tree one.now) a_tools)
         (settled (present tools_tree other.now) a_tools) }
 {
     match (one, other) {
@@ -105,21 +105,21 @@ fn same_tools_row(one: &Option<Tools>, other: &Option<Tools>) -> bool
 
 #[tactic(auto, using(crate::proofs::Settled::metadata_settled))]
 fn same_metadata(one: &Metadata, other: &Metadata) -> bool
-    ensures { result ≡ same_trees (settled (metadata_tree one.now) (a_record metadata))
+    ensures { result ≡ equal (settled (metadata_tree one.now) (a_record metadata))
         (settled (metadata_tree other.now) (a_record metadata)) }
 {
-    same_row(&one.timestamp, &other.timestamp)
+    equal_row(&one.timestamp, &other.timestamp)
         && same_tools_row(&one.tools, &other.tools)
-        && same_row(&one.authors, &other.authors)
-        && same_row(&one.component, &other.component)
-        && same_row(&one.manufacture, &other.manufacture)
-        && same_row(&one.supplier, &other.supplier)
-        && same_row(&one.licenses, &other.licenses)
-        && same_row(&one.properties, &other.properties)
+        && equal_row(&one.authors, &other.authors)
+        && equal_row(&one.component, &other.component)
+        && equal_row(&one.manufacture, &other.manufacture)
+        && equal_row(&one.supplier, &other.supplier)
+        && equal_row(&one.licenses, &other.licenses)
+        && equal_row(&one.properties, &other.properties)
 }
 
 fn same_metadata_row(one: &Option<Metadata>, other: &Option<Metadata>) -> bool
-    ensures { result ≡ same_trees (settled (present metadata_tree one.now) (a_record metadata))
+    ensures { result ≡ equal (settled (present metadata_tree one.now) (a_record metadata))
         (settled (present metadata_tree other.now) (a_record metadata)) }
 {
     match (one, other) {

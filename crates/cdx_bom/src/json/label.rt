@@ -6,7 +6,7 @@ ghost use Rattle.cdx_schema.specs.Kinds.{a_version};
 ghost use Rattle.cdx_bom.specs.Labels.{named_tree};
 ghost use Rattle.cdx_bom.specs.Stays.{label_stays};
 
-use crate::bom::compared::same_label;
+use crate::bom::compared::equal_label;
 use cdx_json::{Context, FromJson, Keeping, Kept, ToJson, here};
 use cdx_models::{HasTree, JsonKind, JsonReadError, SpecVersion};
 use cdx_schema::Kinded;
@@ -31,7 +31,7 @@ impl HasTree for Label {
     }
 
     fn agrees(&self, other: &Label) -> bool {
-        same_label(self.version, other.version)
+        equal_label(self.version, other.version)
     }
 }
 

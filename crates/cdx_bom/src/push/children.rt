@@ -6,7 +6,7 @@ ghost use Rattle.cdx_schema.specs.Table.{rows};
 ghost use Rattle.cdx_schema.specs.XmlReading.{children_from, record_plan};
 ghost use Rattle.cdx_machine.specs.Several.{at_position, found_from};
 ghost use Rattle.cdx_nest_machine.specs.Children.{HasReader};
-ghost use Rattle.cdx_bom.specs.Frames.{nest_reads, bill_reads};
+ghost use Rattle.cdx_bom.specs.Frames.{nest_reads, bill_readers};
 
 use crate::push::frame::BillKind;
 use cdx_events::OwnedName;
@@ -50,8 +50,8 @@ fn find_relation(version: SpecVersion, name: &OwnedName) -> Found
 
 /// What reads the child of the position in a bill.
 pub(crate) fn bill_child(position: usize) -> Reads<LeafKind, BillKind>
-    requires { HasReader (at_position bill_reads) position }
-    ensures { at_position bill_reads position ≡ Some result }
+    requires { HasReader (at_position bill_readers) position }
+    ensures { at_position bill_readers position ≡ Some result }
 {
     match position {
         0 => Reads::Nested(BillKind::Nest(NestKind::Metadata)),

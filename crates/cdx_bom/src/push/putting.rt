@@ -8,7 +8,7 @@ ghost use Rattle.cdx_nest_machine.specs.declared.nested.Reads.TheVariants.{Leaf,
 ghost use Rattle.cdx_push.specs.Leaf.{value_kind as leaf_value_kind, value_tree as leaf_value_tree};
 ghost use Rattle.cdx_nest.specs.Frames.{value_kind as nest_value_kind, value_tree as nest_value_tree};
 ghost use Rattle.cdx_bom.specs.Reading.{bill_slots};
-ghost use Rattle.cdx_bom.specs.Frames.{bill_reads};
+ghost use Rattle.cdx_bom.specs.Frames.{bill_readers};
 ghost use Rattle.cdx_bom.specs.declared.push.frame.BillKind.TheVariants.{Nest};
 
 use crate::xml::reading::part::BillPart;
@@ -18,7 +18,7 @@ use cdx_push::LeafValue;
 /// Puts the metadata, the components or the services of a bill into their field.
 #[tactic(auto, unfolding(cdx_machine::proofs::OnRows::on_rows))]
 pub(crate) fn put_nested(part: &mut BillPart, position: usize, value: NestValue)
-    requires { at_position bill_reads position ≡ Some (Nested (Nest (nest_value_kind value))) }
+    requires { at_position bill_readers position ≡ Some (Nested (Nest (nest_value_kind value))) }
     ensures { Puts (record_plan bill).children position (nest_value_tree value)
         (bill_slots part.old) (bill_slots part.new) }
 {
@@ -33,7 +33,7 @@ pub(crate) fn put_nested(part: &mut BillPart, position: usize, value: NestValue)
 /// Puts what another child of a bill was read as into its field.
 #[tactic(auto, unfolding(cdx_machine::proofs::OnRows::on_rows))]
 pub(crate) fn put_relation(part: &mut BillPart, position: usize, value: LeafValue)
-    requires { at_position bill_reads position ≡ Some (Leaf (leaf_value_kind value)) }
+    requires { at_position bill_readers position ≡ Some (Leaf (leaf_value_kind value)) }
     ensures { Puts (record_plan bill).children position (leaf_value_tree value)
         (bill_slots part.old) (bill_slots part.new) }
 {

@@ -4,7 +4,7 @@ ghost use Rattle.std.specs.Prelude.{◌≡◌, ◌+◌, ◌≤◌, List, [], ◌
 ghost use Rattle.cdx_events.specs.declared.event.XmlEvent.{XmlEvent};
 ghost use Rattle.cdx_schema.specs.Early.{IsEarly};
 ghost use Rattle.cdx_push_reader.specs.Pushed.{heard};
-ghost use Rattle.cdx_push_reader.specs.PushAnswers.{reader_version, fault_of, is_spent, is_memory, is_want, Feeds, TellsFault, Finishes};
+ghost use Rattle.cdx_push_reader.specs.PushAnswers.{reader_version, fault_of, is_spent, lacks_memory, is_want, Feeds, TellsFault, Finishes};
 ghost use Rattle.cdx_bom.specs.Trees.{bom_tree};
 
 use crate::bom::Bom;
@@ -61,8 +61,8 @@ impl PushReader {
             → heard ⟦<BillMachine as RootMachine>⟧.holds bom_tree self.new.fed
             (events ++ piece.now) }
         ensures version { reader_version self.new.fed ≡ reader_version self.old.fed }
-        ensures spent { is_spent self.new.fed ≡ is_memory result }
-        ensures again { is_spent self.old.fed ≡ true → is_memory result ≡ true }
+        ensures spent { is_spent self.new.fed ≡ lacks_memory result }
+        ensures again { is_spent self.old.fed ≡ true → lacks_memory result ≡ true }
         ensures told { TellsFault result (fault_of self.old.fed) (fault_of self.new.fed) }
     {
         self.fed.feed(piece)

@@ -4,7 +4,7 @@ ghost use Rattle.cdx_models.specs.Trees.{action, commit};
 ghost use Rattle.cdx_schema.specs.XmlReading.{record_plan};
 ghost use Rattle.cdx_code.specs.Slots.{action_slots, commit_slots};
 ghost use Rattle.std.specs.Prelude.{refl};
-ghost use Rattle.cdx_leaf.specs.RowContents.{content_is};
+ghost use Rattle.cdx_leaf.specs.RowContents.{content_from_rows};
 
 use crate::{Commit, Commits, IdentifiableAction};
 use cdx_events::EventReader;
@@ -36,7 +36,7 @@ impl Children for IdentifiableAction {
 impl XmlRecord for IdentifiableAction {
     type Part = IdentifiableAction;
 
-    ghost no_content = { content_is action };
+    ghost no_content = { content_from_rows action };
 
     ghost by_rows = { λ part. (refl, refl) };
 
@@ -79,7 +79,7 @@ impl Children for Commit {
 impl XmlRecord for Commit {
     type Part = Commit;
 
-    ghost no_content = { content_is commit };
+    ghost no_content = { content_from_rows commit };
 
     ghost by_rows = { λ part. (refl, refl) };
 

@@ -2,7 +2,7 @@
 
 ghost use Rattle.std.specs.Prelude.{◌≡◌, IfOk};
 ghost use Rattle.cdx_models.specs.Trees.{present};
-ghost use Rattle.cdx_component.specs.Trees.{component_tree, components_tree, pedigree_tree, origin, naming, marks, contents};
+ghost use Rattle.cdx_component.specs.Trees.{component_tree, components_tree, pedigree_tree, origin, naming, marks, component_contents};
 ghost use Rattle.cdx_component.specs.PartTrees.{origin_trees, naming_trees, marks_trees, contents_trees};
 ghost use Rattle.cdx_component.specs.declared.component.Component.{out-Component};
 
@@ -71,7 +71,7 @@ fn copy_marks(component: &Component, alloc: Global) -> Result<Marks, AllocError>
 #[cycle(component_copy)]
 fn copy_contents(component: &Component, alloc: Global) -> Result<Contents, AllocError>
     ensures { IfOk result (λ r. contents_trees r
-        ≡ contents components_tree pedigree_tree (out-Component component.now)) }
+        ≡ component_contents components_tree pedigree_tree (out-Component component.now)) }
 {
     let external_references = copy_row(alloc, &component.external_references)?;
     let properties = copy_row(alloc, &component.properties)?;

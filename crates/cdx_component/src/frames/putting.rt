@@ -8,7 +8,7 @@ ghost use Rattle.cdx_leaf.specs.Listing.{listing_slots};
 ghost use Rattle.cdx_machine.specs.Several.{at_position, Puts};
 ghost use Rattle.cdx_nest_machine.specs.declared.nested.Reads.TheVariants.{Leaf, Nested};
 ghost use Rattle.cdx_push.specs.Leaf.{value_kind as leaf_value_kind, value_tree as leaf_value_tree};
-ghost use Rattle.cdx_component.specs.Trees.{component_tree, listed_components};
+ghost use Rattle.cdx_component.specs.Trees.{component_tree, component_items};
 ghost use Rattle.cdx_component.specs.PartTrees.{origin_trees, marks_trees, contents_trees};
 ghost use Rattle.cdx_component.specs.ReadingParts.{naming_part, component_part, pedigree_part};
 ghost use Rattle.cdx_component.specs.Frames.{value_kind, value_tree, component_reads, pedigree_reads, reads_of};
@@ -33,8 +33,8 @@ pub(crate) fn push_component(
 ) -> Result<(), AllocError>
     requires { at_position (reads_of ListKind) position ≡ Some (Nested (value_kind value)) }
     ensures { OnOk result (Puts (list_plan components).children position (value_tree value)
-        (listing_slots component_tree (listed_components list.old))
-        (listing_slots component_tree (listed_components list.new))) }
+        (listing_slots component_tree (component_items list.old))
+        (listing_slots component_tree (component_items list.new))) }
 {
     match (position, value) {
         (0, ComponentValue::Component(component)) => list.push(component),

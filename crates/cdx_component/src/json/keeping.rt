@@ -6,7 +6,7 @@ ghost use Rattle.cdx_schema.specs.Kinds.{components, a_list, a_record};
 ghost use Rattle.cdx_schema.specs.Keeping.{kept};
 ghost use Rattle.cdx_json.specs.KeptRows.{rows_held};
 ghost use Rattle.cdx_component.specs.declared.component.Component.{out-Component};
-ghost use Rattle.cdx_component.specs.Trees.{component_tree, components_tree, pedigree_tree, origin, naming, marks, contents};
+ghost use Rattle.cdx_component.specs.Trees.{component_tree, components_tree, pedigree_tree, origin, naming, marks, component_contents};
 ghost use Rattle.cdx_component.specs.PartTrees.{origin_trees, naming_trees, marks_trees, contents_trees};
 ghost use Rattle.cdx_schema.specs.Groups.{group};
 
@@ -156,7 +156,7 @@ fn keep_marks(held: &Component, keeping: Keeping) -> Result<Marks, AllocError>
 #[tactic(auto, unfolding(cdx_json::proofs::OnRows::on_rows))]
 fn keep_contents(held: &Component, keeping: Keeping) -> Result<Contents, AllocError>
     ensures { IfOk result (λ r. contents_trees r ≡ rows_held keeping.version keeping.label
-        (contents components_tree pedigree_tree (out-Component held.now))
+        (component_contents components_tree pedigree_tree (out-Component held.now))
         (group 3 component)) }
 {
     let external_references = keep_row(&held.external_references, keeping)?;

@@ -10,7 +10,7 @@ ghost use Rattle.cdx_schema.specs.Table.{rows};
 ghost use Rattle.cdx_json.specs.KeptRows.{put_kept, rows_put};
 ghost use Rattle.cdx_component.specs.declared.component.Component.{out-Component};
 ghost use Rattle.cdx_component.specs.declared.component.Pedigree.{out-Pedigree};
-ghost use Rattle.cdx_component.specs.Trees.{component_tree, components_tree, pedigree_tree, origin, naming, marks, contents, pedigree_fields};
+ghost use Rattle.cdx_component.specs.Trees.{component_tree, components_tree, pedigree_tree, origin, naming, marks, component_contents, pedigree_fields};
 ghost use Rattle.cdx_schema.specs.Groups.{group};
 
 use crate::component::{Component, Components, Pedigree};
@@ -122,7 +122,7 @@ fn put_marks(held: &Component, map: &mut Members, target: Target) -> Result<(), 
 #[cycle(component_write)]
 fn put_contents(held: &Component, map: &mut Members, target: Target) -> Result<(), AllocError>
     ensures { OnOk result (members_view map.new.entries ≡ rows_put
-        (contents components_tree pedigree_tree (out-Component held.now)) target.version
+        (component_contents components_tree pedigree_tree (out-Component held.now)) target.version
         (group 3 component) (members_view map.old.entries)) }
 {
     put_pedigree_row(&held.pedigree, map, "pedigree", target)?;

@@ -4,7 +4,7 @@ ghost use Rattle.cdx_models.specs.Trees.{swid, evidence, copyright};
 ghost use Rattle.cdx_schema.specs.XmlReading.{record_plan};
 ghost use Rattle.cdx_component_parts.specs.Parts.{swid_slots, evidence_slots, no_copyright_fields};
 ghost use Rattle.std.specs.Prelude.{refl};
-ghost use Rattle.cdx_leaf.specs.RowContents.{content_is};
+ghost use Rattle.cdx_leaf.specs.RowContents.{content_from_rows};
 ghost use Rattle.cdx_component_parts.specs.Whole.{copyright_whole};
 
 use crate::component::{ComponentEvidence, Copyright, CopyrightTexts, Cpe, Swid};
@@ -37,7 +37,7 @@ impl Children for Swid {
 impl XmlRecord for Swid {
     type Part = Swid;
 
-    ghost no_content = { content_is swid };
+    ghost no_content = { content_from_rows swid };
 
     ghost by_rows = { λ part. (refl, refl) };
 
@@ -91,7 +91,7 @@ impl Children for ComponentEvidence {
 impl XmlRecord for ComponentEvidence {
     type Part = ComponentEvidence;
 
-    ghost no_content = { content_is evidence };
+    ghost no_content = { content_from_rows evidence };
 
     ghost by_rows = { λ part. (refl, refl) };
 
@@ -114,7 +114,7 @@ impl TextRecord for Copyright {
 
     ghost at = { 0 };
 
-    ghost content = { content_is copyright };
+    ghost content = { content_from_rows copyright };
 
     ghost whole = { copyright_whole };
 

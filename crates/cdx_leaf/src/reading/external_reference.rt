@@ -42,11 +42,11 @@ impl Children for ReferencePart {
 impl XmlRecord for ExternalReference {
     ghost use Rattle.std.specs.Prelude.{refl};
     ghost use Rattle.cdx_models.specs.Trees.{reference};
-    ghost use Rattle.cdx_leaf.specs.RowContents.{content_is};
+    ghost use Rattle.cdx_leaf.specs.RowContents.{content_from_rows};
 
     type Part = ReferencePart;
 
-    ghost no_content = { content_is reference };
+    ghost no_content = { content_from_rows reference };
 
     ghost by_rows = { λ part. (refl, refl) };
 

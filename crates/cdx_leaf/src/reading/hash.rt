@@ -12,7 +12,7 @@ use cdx_models::{Hash, HashValue, Hashes};
 
 impl TextRecord for Hash {
     ghost use Rattle.cdx_models.specs.Trees.{hash};
-    ghost use Rattle.cdx_leaf.specs.RowContents.{content_is};
+    ghost use Rattle.cdx_leaf.specs.RowContents.{content_from_rows};
     ghost use Rattle.cdx_leaf.specs.Whole.{hash_whole};
     ghost use Rattle.cdx_leaf.specs.Parts.{text_alone};
 
@@ -22,7 +22,7 @@ impl TextRecord for Hash {
 
     ghost at = { 1 };
 
-    ghost content = { content_is hash };
+    ghost content = { content_from_rows hash };
 
     ghost whole = { hash_whole };
 

@@ -39,11 +39,11 @@ impl Children for OrganizationalContact {
 impl XmlRecord for OrganizationalContact {
     ghost use Rattle.std.specs.Prelude.{refl};
     ghost use Rattle.cdx_models.specs.Trees.{contact};
-    ghost use Rattle.cdx_leaf.specs.RowContents.{content_is};
+    ghost use Rattle.cdx_leaf.specs.RowContents.{content_from_rows};
 
     type Part = OrganizationalContact;
 
-    ghost no_content = { content_is contact };
+    ghost no_content = { content_from_rows contact };
 
     ghost by_rows = { λ part. (refl, refl) };
 
@@ -89,11 +89,11 @@ impl Children for OrganizationalEntity {
 impl XmlRecord for OrganizationalEntity {
     ghost use Rattle.std.specs.Prelude.{refl};
     ghost use Rattle.cdx_models.specs.Trees.{entity};
-    ghost use Rattle.cdx_leaf.specs.RowContents.{content_is};
+    ghost use Rattle.cdx_leaf.specs.RowContents.{content_from_rows};
 
     type Part = OrganizationalEntity;
 
-    ghost no_content = { content_is entity };
+    ghost no_content = { content_from_rows entity };
 
     ghost by_rows = { λ part. (refl, refl) };
 

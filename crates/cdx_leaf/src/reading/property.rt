@@ -12,7 +12,7 @@ use cdx_models::{Properties, Property};
 
 impl TextRecord for Property {
     ghost use Rattle.cdx_models.specs.Trees.{property};
-    ghost use Rattle.cdx_leaf.specs.RowContents.{content_is};
+    ghost use Rattle.cdx_leaf.specs.RowContents.{content_from_rows};
     ghost use Rattle.cdx_leaf.specs.Whole.{property_whole};
     ghost use Rattle.cdx_leaf.specs.Parts.{text_alone};
 
@@ -22,7 +22,7 @@ impl TextRecord for Property {
 
     ghost at = { 1 };
 
-    ghost content = { content_is property };
+    ghost content = { content_from_rows property };
 
     ghost whole = { property_whole };
 

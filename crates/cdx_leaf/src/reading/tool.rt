@@ -45,11 +45,11 @@ impl Children for Tool {
 impl XmlRecord for Tool {
     ghost use Rattle.std.specs.Prelude.{refl};
     ghost use Rattle.cdx_models.specs.Trees.{tool};
-    ghost use Rattle.cdx_leaf.specs.RowContents.{content_is};
+    ghost use Rattle.cdx_leaf.specs.RowContents.{content_from_rows};
 
     type Part = Tool;
 
-    ghost no_content = { content_is tool };
+    ghost no_content = { content_from_rows tool };
 
     ghost by_rows = { λ part. (refl, refl) };
 

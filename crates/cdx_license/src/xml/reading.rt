@@ -4,7 +4,7 @@ ghost use Rattle.std.specs.Prelude.{refl};
 ghost use Rattle.cdx_models.specs.Trees.{license, expression};
 ghost use Rattle.cdx_schema.specs.XmlReading.{record_plan, choice_plan};
 ghost use Rattle.cdx_license.specs.Parts.{license_part, reference_alone, choices_part};
-ghost use Rattle.cdx_leaf.specs.RowContents.{content_is};
+ghost use Rattle.cdx_leaf.specs.RowContents.{content_from_rows};
 ghost use Rattle.cdx_license.specs.Whole.{expression_whole};
 ghost use Rattle.cdx_schema.specs.Kinds.{licenses};
 
@@ -78,7 +78,7 @@ impl Children for LicensePart {
 impl XmlRecord for License {
     type Part = LicensePart;
 
-    ghost no_content = { content_is license };
+    ghost no_content = { content_from_rows license };
 
     ghost by_rows = { λ part. (refl, refl) };
 
@@ -111,7 +111,7 @@ impl TextRecord for Expression {
 
     ghost at = { 1 };
 
-    ghost content = { content_is expression };
+    ghost content = { content_from_rows expression };
 
     ghost whole = { expression_whole };
 

@@ -1,32 +1,32 @@
 //! Whether metadata are equal.
 
 ghost use Rattle.std.specs.Prelude.{◌≡◌};
-ghost use Rattle.cdx_models.specs.Same.{same, same_each};
+ghost use Rattle.cdx_models.specs.Equal.{equal, equal_each};
 ghost use Rattle.cdx_nest.specs.Trees.{metadata_tree, makers, terms};
 
 use crate::metadata::Metadata;
-use cdx_models::{HasTree, same_row};
+use cdx_models::{HasTree, equal_row};
 
-fn same_makers(one: &Metadata, other: &Metadata) -> bool
-    ensures { result ≡ same_each (makers one.now) (makers other.now) }
+fn equal_makers(one: &Metadata, other: &Metadata) -> bool
+    ensures { result ≡ equal_each (makers one.now) (makers other.now) }
 {
-    same_row(&one.timestamp, &other.timestamp)
-        && same_row(&one.tools, &other.tools)
-        && same_row(&one.authors, &other.authors)
-        && same_row(&one.component, &other.component)
-        && same_row(&one.manufacture, &other.manufacture)
-        && same_row(&one.supplier, &other.supplier)
+    equal_row(&one.timestamp, &other.timestamp)
+        && equal_row(&one.tools, &other.tools)
+        && equal_row(&one.authors, &other.authors)
+        && equal_row(&one.component, &other.component)
+        && equal_row(&one.manufacture, &other.manufacture)
+        && equal_row(&one.supplier, &other.supplier)
 }
 
-fn same_terms(one: &Metadata, other: &Metadata) -> bool
-    ensures { result ≡ same_each (terms one.now) (terms other.now) }
+fn equal_terms(one: &Metadata, other: &Metadata) -> bool
+    ensures { result ≡ equal_each (terms one.now) (terms other.now) }
 {
-    same_row(&one.licenses, &other.licenses) && same_row(&one.properties, &other.properties)
+    equal_row(&one.licenses, &other.licenses) && equal_row(&one.properties, &other.properties)
 }
 
 #[tactic(auto, using(crate::proofs::Compared::metadata_compared))]
-pub(crate) fn same_metadata(one: &Metadata, other: &Metadata) -> bool
-    ensures { result ≡ same (metadata_tree one.now) (metadata_tree other.now) }
+pub(crate) fn equal_metadata(one: &Metadata, other: &Metadata) -> bool
+    ensures { result ≡ equal (metadata_tree one.now) (metadata_tree other.now) }
 {
-    same_makers(one, other) && same_terms(one, other)
+    equal_makers(one, other) && equal_terms(one, other)
 }

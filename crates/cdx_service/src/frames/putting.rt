@@ -9,7 +9,7 @@ ghost use Rattle.cdx_machine.specs.Several.{at_position, Puts};
 ghost use Rattle.cdx_nest_machine.specs.declared.nested.Reads.TheVariants.{Leaf, Nested};
 ghost use Rattle.cdx_push.specs.Leaf.{value_kind as leaf_value_kind, value_tree as leaf_value_tree};
 ghost use Rattle.cdx_service.specs.Frames.{value_kind, value_tree, service_readers, services_readers, naming_readers, access_readers, contents_readers};
-ghost use Rattle.cdx_service.specs.Trees.{service_tree, services_listed};
+ghost use Rattle.cdx_service.specs.Trees.{service_tree, service_items};
 ghost use Rattle.cdx_service.specs.ReadingParts.{service_part};
 
 use crate::frames::ServiceValue;
@@ -103,8 +103,8 @@ pub(crate) fn push_service(
 ) -> Result<(), AllocError>
     requires { at_position services_readers position ≡ Some (Nested (value_kind value)) }
     ensures { OnOk result (Puts (plan_of_list services).children position
-        (value_tree value) (items_slots service_tree (services_listed list.old))
-        (items_slots service_tree (services_listed list.new))) }
+        (value_tree value) (items_slots service_tree (service_items list.old))
+        (items_slots service_tree (service_items list.new))) }
 {
     match (position, value) {
         (0, ServiceValue::Service(service)) => list.push(service),

@@ -1,7 +1,7 @@
 //! The data of services.
 
 ghost use Rattle.cdx_models.specs.Trees.{classification, service_data};
-ghost use Rattle.cdx_leaf.specs.RowContents.{content_is};
+ghost use Rattle.cdx_leaf.specs.RowContents.{content_from_rows};
 ghost use Rattle.cdx_service_data.specs.Whole.{classification_whole};
 ghost use Rattle.cdx_leaf.specs.Parts.{text_alone};
 ghost use Rattle.std.specs.Prelude.{refl};
@@ -24,7 +24,7 @@ impl TextRecord for DataClassification {
 
     ghost at = { 1 };
 
-    ghost content = { content_is classification };
+    ghost content = { content_from_rows classification };
 
     ghost whole = { classification_whole };
 
@@ -72,7 +72,7 @@ impl Children for ServiceDataPart {
 impl XmlRecord for ServiceData {
     type Part = ServiceDataPart;
 
-    ghost no_content = { content_is service_data };
+    ghost no_content = { content_from_rows service_data };
 
     ghost by_rows = { λ part. (refl, refl) };
 

@@ -4,7 +4,7 @@ ghost use Rattle.cdx_models.specs.Trees.{signer};
 ghost use Rattle.cdx_schema.specs.XmlReading.{record_plan, signature_plan};
 ghost use Rattle.cdx_signature.specs.Parts.{signer_part, signature_part};
 ghost use Rattle.std.specs.Prelude.{refl};
-ghost use Rattle.cdx_leaf.specs.RowContents.{content_is};
+ghost use Rattle.cdx_leaf.specs.RowContents.{content_from_rows};
 
 use crate::parts::{SignaturePart, SignerPart};
 use crate::signature::{Algorithm, Signature, Signer};
@@ -37,7 +37,7 @@ impl Children for SignerPart {
 impl XmlRecord for Signer {
     type Part = SignerPart;
 
-    ghost no_content = { content_is signer };
+    ghost no_content = { content_from_rows signer };
 
     ghost by_rows = { λ part. (refl, refl) };
 

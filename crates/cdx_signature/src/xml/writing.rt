@@ -6,7 +6,7 @@ ghost use Rattle.cdx_models.specs.Trees.{signer, list_tree};
 ghost use Rattle.cdx_schema.specs.Kinds.{Lists, a_record, a_list};
 ghost use Rattle.cdx_write.specs.Listed.{IsListOf};
 ghost use Rattle.cdx_write.specs.Lone.{text_is_lone};
-ghost use Rattle.cdx_write.specs.Spelling.{untagged, written};
+ghost use Rattle.cdx_write.specs.Spelling.{untagged, spelled_events};
 ghost use Rattle.cdx_write.specs.WillWrite.{will_write};
 ghost use Rattle.cdx_write.specs.Writing.{Appends, start_tag, end_tag};
 
@@ -89,7 +89,7 @@ fn write_signers(
 ) -> WriteResult
     ensures { (l : Lists) → IsListOf (a_record signer) item_tag.now l
         → Appends writer.old writer.new (start_tag tag.now
-        ∷ written (list_tree signer_tree held.now) target.version name.now (a_list l)
+        ∷ spelled_events (list_tree signer_tree held.now) target.version name.now (a_list l)
         ++ end_tag tag.now
         ∷ [])
         result }

@@ -1,5 +1,5 @@
 use Rattle.std.proofs.lemmas.Bool.Decides.{same_from_decides}
-use Rattle.cdx_models.specs.SameLaws.{same-Decides}
+use Rattle.cdx_models.specs.EqualLaws.{equal-Decides}
 use Rattle.cdx_bom.specs.Trees.{bom_tree}
 use Rattle.cdx_canon.specs.Canon.{plain}
 use Rattle.cdx_canon.specs.Answers.{is_equal}
@@ -9,4 +9,4 @@ pub returns : goal.returns
 returns c =
     let left = bom_tree c.args.left in
     let right = bom_tree c.args.right in
-    same_from_decides c.same.result (is_equal left right) c.same.ensures (same-Decides (plain left) (plain right))
+    same_from_decides c.same.result (is_equal left right) c.same.ensures (equal-Decides (plain left) (plain right))

@@ -5,12 +5,12 @@ ghost use Rattle.cdx_models.specs.Trees.{component, pedigree, present};
 ghost use Rattle.cdx_schema.specs.Kinds.{components, a_list, a_record};
 ghost use Rattle.cdx_schema.specs.Table.{rows};
 ghost use Rattle.cdx_schema.specs.Groups.{group};
-ghost use Rattle.cdx_write.specs.Spelling.{written, inner};
+ghost use Rattle.cdx_write.specs.Spelling.{spelled_events, inner};
 ghost use Rattle.cdx_write.specs.WrittenRows.{child_written, rows_written};
 ghost use Rattle.cdx_write.specs.Writing.{Appends};
 ghost use Rattle.cdx_component.specs.declared.component.Component.{out-Component};
 ghost use Rattle.cdx_component.specs.declared.component.Pedigree.{out-Pedigree};
-ghost use Rattle.cdx_component.specs.Trees.{component_tree, components_tree, pedigree_tree, contents, component_fields, pedigree_fields};
+ghost use Rattle.cdx_component.specs.Trees.{component_tree, components_tree, pedigree_tree, component_contents, component_fields, pedigree_fields};
 
 use crate::component::{Component, Components, Pedigree};
 use crate::xml::writing::rows::{
@@ -33,7 +33,7 @@ pub(crate) fn write_component(
     target: Target,
 ) -> WriteResult
     ensures { Appends writer.old writer.new
-        (written (component_tree held.now) target.version tag.now (a_record component)) result }
+        (spelled_events (component_tree held.now) target.version tag.now (a_record component)) result }
 {
     let attributes = component_attributes(held, target)?;
     write_opening(target.alloc, writer, tag, attributes)?;
@@ -50,7 +50,7 @@ pub(crate) fn write_components(
     target: Target,
 ) -> WriteResult
     ensures { Appends writer.old writer.new
-        (written (components_tree held.now) target.version tag.now (a_list components)) result }
+        (spelled_events (components_tree held.now) target.version tag.now (a_list components)) result }
 {
     write_start_tag(target.alloc, writer, tag)?;
     write_items(held, writer, target)?;
@@ -66,7 +66,7 @@ pub(crate) fn write_pedigree(
     target: Target,
 ) -> WriteResult
     ensures { Appends writer.old writer.new
-        (written (pedigree_tree held.now) target.version tag.now (a_record pedigree)) result }
+        (spelled_events (pedigree_tree held.now) target.version tag.now (a_record pedigree)) result }
 {
     write_start_tag(target.alloc, writer, tag)?;
     write_pedigree_rows(held, writer, target)?;
@@ -103,7 +103,7 @@ fn write_rows(held: &Component, writer: &mut EventWriter, target: Target) -> Wri
 #[cycle(component_elements)]
 fn write_contents_rows(held: &Component, writer: &mut EventWriter, target: Target) -> WriteResult
     ensures { Appends writer.old writer.new (rows_written
-        (contents components_tree pedigree_tree (out-Component held.now)) target.version
+        (component_contents components_tree pedigree_tree (out-Component held.now)) target.version
         (group 3 component))
         result }
 {

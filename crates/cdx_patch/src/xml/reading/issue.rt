@@ -4,7 +4,7 @@ ghost use Rattle.cdx_models.specs.Trees.{source, issue};
 ghost use Rattle.cdx_schema.specs.XmlReading.{record_plan};
 ghost use Rattle.cdx_patch.specs.Slots.{source_slots, issue_slots};
 ghost use Rattle.std.specs.Prelude.{refl};
-ghost use Rattle.cdx_leaf.specs.RowContents.{content_is};
+ghost use Rattle.cdx_leaf.specs.RowContents.{content_from_rows};
 
 use crate::{Issue, Source};
 use cdx_events::EventReader;
@@ -35,7 +35,7 @@ impl Children for Source {
 impl XmlRecord for Source {
     type Part = Source;
 
-    ghost no_content = { content_is source };
+    ghost no_content = { content_from_rows source };
 
     ghost by_rows = { λ part. (refl, refl) };
 
@@ -77,7 +77,7 @@ impl Children for Issue {
 impl XmlRecord for Issue {
     type Part = Issue;
 
-    ghost no_content = { content_is issue };
+    ghost no_content = { content_from_rows issue };
 
     ghost by_rows = { λ part. (refl, refl) };
 

@@ -4,7 +4,7 @@ ghost use Rattle.cdx_models.specs.Trees.{diff, patch};
 ghost use Rattle.cdx_schema.specs.XmlReading.{record_plan};
 ghost use Rattle.cdx_patch.specs.Slots.{diff_slots, patch_slots};
 ghost use Rattle.std.specs.Prelude.{refl};
-ghost use Rattle.cdx_leaf.specs.RowContents.{content_is};
+ghost use Rattle.cdx_leaf.specs.RowContents.{content_from_rows};
 
 use crate::{Diff, Patch, Patches};
 use cdx_events::EventReader;
@@ -36,7 +36,7 @@ impl Children for Diff {
 impl XmlRecord for Diff {
     type Part = Diff;
 
-    ghost no_content = { content_is diff };
+    ghost no_content = { content_from_rows diff };
 
     ghost by_rows = { λ part. (refl, refl) };
 
@@ -75,7 +75,7 @@ impl Children for Patch {
 impl XmlRecord for Patch {
     type Part = Patch;
 
-    ghost no_content = { content_is patch };
+    ghost no_content = { content_from_rows patch };
 
     ghost by_rows = { λ part. (refl, refl) };
 

@@ -4,7 +4,7 @@ ghost use Rattle.std.specs.Prelude.{refl};
 ghost use Rattle.cdx_models.specs.Trees.{composition};
 ghost use Rattle.cdx_schema.specs.XmlReading.{record_plan};
 ghost use Rattle.cdx_relations.specs.Parts.{composition_part};
-ghost use Rattle.cdx_leaf.specs.RowContents.{content_is};
+ghost use Rattle.cdx_leaf.specs.RowContents.{content_from_rows};
 
 use crate::composition::{BomReference, Composition, Compositions};
 use crate::parts::CompositionPart;
@@ -77,7 +77,7 @@ impl Children for CompositionPart {
 impl XmlRecord for Composition {
     type Part = CompositionPart;
 
-    ghost no_content = { content_is composition };
+    ghost no_content = { content_from_rows composition };
 
     ghost by_rows = { λ part. (refl, refl) };
 

@@ -8,7 +8,7 @@ ghost use Rattle.cdx_leaf.specs.Trees.{collected};
 ghost use Rattle.cdx_schema.specs.XmlReading.{record_plan};
 ghost use Rattle.cdx_relations.specs.Parts.{dependency_part};
 ghost use Rattle.std.specs.Prelude.{refl};
-ghost use Rattle.cdx_leaf.specs.RowContents.{content_is};
+ghost use Rattle.cdx_leaf.specs.RowContents.{content_from_rows};
 
 use crate::composition::BomReference;
 use crate::dependency::{Dependencies, Dependency};
@@ -55,7 +55,7 @@ impl Children for Dependency {
 impl XmlRecord for Dependency {
     type Part = Dependency;
 
-    ghost no_content = { content_is dependency };
+    ghost no_content = { content_from_rows dependency };
 
     ghost by_rows = { λ part. (refl, refl) };
 

@@ -4,7 +4,7 @@ ghost use Rattle.std.specs.Prelude.{refl};
 ghost use Rattle.cdx_models.specs.Trees.{text, list_tree};
 ghost use Rattle.cdx_schema.specs.Kinds.{Lists, a_reference, a_list};
 ghost use Rattle.cdx_write.specs.Listed.{IsListOf};
-ghost use Rattle.cdx_write.specs.Spelling.{written, inner};
+ghost use Rattle.cdx_write.specs.Spelling.{spelled_events, inner};
 ghost use Rattle.cdx_write.specs.Writing.{Appends};
 
 use crate::composition::BomReference;
@@ -22,7 +22,7 @@ pub(crate) fn write_reference(
     target: &Text,
 ) -> WriteResult
     ensures { (w : SpecVersion)
-        → Appends writer.old writer.new (written (text target.now) w tag.now a_reference) result }
+        → Appends writer.old writer.new (spelled_events (text target.now) w tag.now a_reference) result }
 {
     let name = OwnedName::local(alloc, "ref")?;
     let value = target.copy(alloc)?;

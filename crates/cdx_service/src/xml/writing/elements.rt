@@ -5,7 +5,7 @@ ghost use Rattle.cdx_models.specs.Trees.{service, present};
 ghost use Rattle.cdx_schema.specs.Kinds.{services, a_list, a_record};
 ghost use Rattle.cdx_schema.specs.Table.{rows};
 ghost use Rattle.cdx_schema.specs.Groups.{group};
-ghost use Rattle.cdx_write.specs.Spelling.{written, inner};
+ghost use Rattle.cdx_write.specs.Spelling.{spelled_events, inner};
 ghost use Rattle.cdx_write.specs.WrittenRows.{child_written, rows_written};
 ghost use Rattle.cdx_write.specs.Writing.{Appends};
 ghost use Rattle.cdx_service.specs.declared.service.Service.{out-Service};
@@ -29,7 +29,7 @@ pub(crate) fn write_service(
     target: Target,
 ) -> WriteResult
     ensures { Appends writer.old writer.new
-        (written (service_tree held.now) target.version tag.now (a_record service)) result }
+        (spelled_events (service_tree held.now) target.version tag.now (a_record service)) result }
 {
     let attributes = service_attributes(held, target)?;
     write_opening(target.alloc, writer, tag, attributes)?;
@@ -46,7 +46,7 @@ pub(crate) fn write_services(
     target: Target,
 ) -> WriteResult
     ensures { Appends writer.old writer.new
-        (written (services_tree held.now) target.version tag.now (a_list services)) result }
+        (spelled_events (services_tree held.now) target.version tag.now (a_list services)) result }
 {
     write_start_tag(target.alloc, writer, tag)?;
     write_items(held, writer, target)?;

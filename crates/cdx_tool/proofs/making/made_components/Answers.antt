@@ -1,6 +1,6 @@
 use Rattle.std.proofs.Common.{◌≡◌, ℕ, ap, subst, ◌∙◌, arith}
 use Rattle.cdx_models.specs.Trees.{each}
-use Rattle.cdx_component.specs.Trees.{component_tree, listed_components}
+use Rattle.cdx_component.specs.Trees.{component_tree, component_items}
 use Rattle.cdx_request.specs.Made.{made_components}
 use Rattle.cdx_tool.proofs.MadeBills.{none_made, one_made, all_made}
 use Rattle.cdx_tool.proofs.making.made_components.Goals as goal
@@ -15,4 +15,4 @@ loop-number-preserved c =
 pub returns : goal.returns
 returns c =
     let all : c.loop-number.number ≡ c.args.count = omega arith in
-    all_made c.loop-number.components c.args.count (subst (λ (n : ℕ). each component_tree (listed_components c.loop-number.components) ≡ made_components 0 n) all c.loop-number.invariant)
+    all_made c.loop-number.components c.args.count (subst (λ (n : ℕ). each component_tree (component_items c.loop-number.components) ≡ made_components 0 n) all c.loop-number.invariant)

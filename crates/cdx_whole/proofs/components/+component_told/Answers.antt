@@ -3,7 +3,7 @@ use Rattle.cdx_models.specs.Trees.{component, pedigree, Tree}
 use Rattle.cdx_schema.specs.Kinds.{components, a_list, a_record}
 use Rattle.cdx_schema.specs.Table.{rows, list}
 use Rattle.cdx_schema.specs.Membership.{IsOf}
-use Rattle.cdx_component.specs.Trees.{component_tree, listed_components}
+use Rattle.cdx_component.specs.Trees.{component_tree, component_items}
 use Rattle.cdx_component.specs.Laws.{components_tree-out, pedigree_tree-out}
 use Rattle.cdx_whole.proofs.Lists.{none_told, one_more_told, all_told}
 use Rattle.cdx_whole.proofs.Joined.{component_joined}
@@ -33,7 +33,7 @@ pub tell_components-returns : goal.tell_components-returns
 unfolding list
 tell_components-returns t c =
     let P : Tree → Type 0 = λ x. IsOf x (a_list components) in
-    subst P (sym (components_tree-out c.args.held.now)) (tt, all_told component_tree (a_record component) c.as_slice-item-items.result.now (listed_components c.args.held.now) c.loop-item.item-index (omega arith) c.as_slice-item-items.ensures c.loop-item.invariant)
+    subst P (sym (components_tree-out c.args.held.now)) (tt, all_told component_tree (a_record component) c.as_slice-item-items.result.now (component_items c.args.held.now) c.loop-item.item-index (omega arith) c.as_slice-item-items.ensures c.loop-item.invariant)
 
 pub tell_pedigree_row-returns-in-None : goal.tell_pedigree_row-returns-in-None
 tell_pedigree_row-returns-in-None t c = rw c.in-None.is (inl (refl, refl))

@@ -3,7 +3,7 @@ use Rattle.cdx_models.specs.Trees.{service, Tree}
 use Rattle.cdx_schema.specs.Kinds.{services, a_list, a_record}
 use Rattle.cdx_schema.specs.Table.{rows, list}
 use Rattle.cdx_schema.specs.Membership.{IsOf}
-use Rattle.cdx_service.specs.Trees.{service_tree, services_listed}
+use Rattle.cdx_service.specs.Trees.{service_tree, service_items}
 use Rattle.cdx_service.specs.Laws.{services_tree-out}
 use Rattle.cdx_whole.proofs.Lists.{none_told, one_more_told, all_told}
 use Rattle.cdx_whole.proofs.Joined.{service_joined}
@@ -27,7 +27,7 @@ pub tell_services-returns : goal.tell_services-returns
 unfolding list
 tell_services-returns t c =
     let P : Tree → Type 0 = λ x. IsOf x (a_list services) in
-    subst P (sym (services_tree-out c.args.held.now)) (tt, all_told service_tree (a_record service) c.as_slice-item-items.result.now (services_listed c.args.held.now) c.loop-item.item-index (omega arith) c.as_slice-item-items.ensures c.loop-item.invariant)
+    subst P (sym (services_tree-out c.args.held.now)) (tt, all_told service_tree (a_record service) c.as_slice-item-items.result.now (service_items c.args.held.now) c.loop-item.item-index (omega arith) c.as_slice-item-items.ensures c.loop-item.invariant)
 
 pub tell_services_row-returns-in-None : goal.tell_services_row-returns-in-None
 tell_services_row-returns-in-None t c = rw c.in-None.is (inl (refl, refl))

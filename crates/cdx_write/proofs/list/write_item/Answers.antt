@@ -1,4 +1,4 @@
-use Rattle.cdx_write.specs.Spelling.{written}
+use Rattle.cdx_write.specs.Spelling.{spelled_events}
 use Rattle.cdx_write.specs.Listed.{item_put}
 use Rattle.cdx_write.proofs.RowWords.{appends_same, nothing_added}
 use Rattle.cdx_write.proofs.Lists.{item_passed, item_there}
@@ -12,5 +12,5 @@ pub returns-else-is_passed_over : goal.returns-else-is_passed_over
 returns-else-is_passed_over g c =
     let k = g.T.Kinded.kind in
     let t = g.T.HasTree.tree c.args.held.now in
-    appends_same c.args.writer.now c.write_as.new.writer (written t c.args.target.version c.args.tag.now k) (item_put c.args.tag.now k t c.args.target.version) c.write_as.result
+    appends_same c.args.writer.now c.write_as.new.writer (spelled_events t c.args.target.version c.args.tag.now k) (item_put c.args.tag.now k t c.args.target.version) c.write_as.result
     (item_there c.args.tag.now k t c.args.target.version c.is_passed_over.result g.met.T.Element.keeps c.is_passed_over.ensures c.if-is_passed_over.false) c.write_as.ensures

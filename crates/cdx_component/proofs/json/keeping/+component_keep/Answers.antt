@@ -5,7 +5,7 @@ use Rattle.cdx_schema.specs.Table.{rows, list}
 use Rattle.cdx_schema.specs.Keeping.{kept}
 use Rattle.cdx_json.specs.KeptRows.{rows_held}
 use Rattle.cdx_json.proofs.Spelled.{list_kept}
-use Rattle.cdx_component.specs.Trees.{component_tree, listed_components}
+use Rattle.cdx_component.specs.Trees.{component_tree, component_items}
 use Rattle.cdx_component.specs.Laws.{components_tree-out}
 use Rattle.cdx_component.proofs.Grouped.{component_kept, pedigree_kept}
 use Rattle.cdx_component.proofs.json.keeping.+component_keep.Goals as goal
@@ -20,7 +20,7 @@ keep_pedigree-returns t c = pedigree_kept c.args.keeping.version c.args.keeping.
 pub keep_components-returns : goal.keep_components-returns
 unfolding list
 keep_components-returns t c =
-    components_tree-out c.loop-item.copies ∙ list_kept component_tree (a_record component) components c.args.keeping.version c.args.keeping.label (listed_components c.loop-item.copies) c.deref-item-items.result.now (listed_components c.args.held.now) c.loop-item.item-index refl c.deref-item-items.ensures.value (omega arith) c.loop-item.invariant
+    components_tree-out c.loop-item.copies ∙ list_kept component_tree (a_record component) components c.args.keeping.version c.args.keeping.label (component_items c.loop-item.copies) c.deref-item-items.result.now (component_items c.args.held.now) c.loop-item.item-index refl c.deref-item-items.ensures.value (omega arith) c.loop-item.invariant
     ∙ ap (λ u. kept c.args.keeping.version c.args.keeping.label u (a_list components)) (sym (components_tree-out c.args.held.now))
 
 pub keep_contents-returns : goal.keep_contents-returns

@@ -7,7 +7,7 @@ use Rattle.cdx_json.specs.KeptRows.{rows_put}
 use Rattle.cdx_json.proofs.Spelled.{field_put, nothing_put, list_spelled}
 use Rattle.cdx_models.specs.Trees.{component, pedigree}
 use Rattle.cdx_schema.specs.Kinds.{components, a_list, a_record}
-use Rattle.cdx_component.specs.Trees.{component_tree, components_tree, pedigree_tree, listed_components}
+use Rattle.cdx_component.specs.Trees.{component_tree, components_tree, pedigree_tree, component_items}
 use Rattle.cdx_component.specs.Laws.{components_tree-out}
 use Rattle.cdx_component.specs.Stays.{pedigree_stays, components_stay}
 use Rattle.cdx_component.proofs.Grouped.{component_spelled, pedigree_spelled}
@@ -19,7 +19,7 @@ write_component-returns t c = component_spelled c.put_contents.new.map c.args.he
 pub write_components-returns : goal.write_components-returns
 unfolding list
 write_components-returns t c =
-    list_spelled component_tree (a_record component) components c.args.target.version c.loop-item.values c.deref-item-items.result.now (listed_components c.args.held.now) c.loop-item.item-index refl c.deref-item-items.ensures.value (omega arith) c.loop-item.invariant
+    list_spelled component_tree (a_record component) components c.args.target.version c.loop-item.values c.deref-item-items.result.now (component_items c.args.held.now) c.loop-item.item-index refl c.deref-item-items.ensures.value (omega arith) c.loop-item.invariant
     ∙ ap (λ u. jspell (keep c.args.target.version u (a_list components)) c.args.target.version (a_list components)) (sym (components_tree-out c.args.held.now))
 
 pub write_pedigree-returns : goal.write_pedigree-returns

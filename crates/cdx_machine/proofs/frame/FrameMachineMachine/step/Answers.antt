@@ -1,6 +1,6 @@
 use Rattle.std.proofs.Common.{sym, ap, ◌∙◌}
 use Rattle.std.proofs.lemmas.Result.{err_from_is_err_and}
-use Rattle.cdx_events.specs.Event.{kind_of}
+use Rattle.cdx_events.specs.Event.{event_kind}
 use Rattle.cdx_machine.specs.declared.frame.Inside.TheVariants.{Nothing, Read, Skipped}
 use Rattle.cdx_machine.specs.Frames.{read_as}
 use Rattle.cdx_machine.specs.Several.{reads_boxed}
@@ -42,13 +42,13 @@ returns-in_err-self-in-StartElement g c = λ v p d o h is t.
     let q = err_from_is_err_and c.from_residual-in_err-self-in-StartElement.result c.from_residual-in_err-self-in-StartElement.ensures.1 in
     let f = g.F.Frame in
     let m = c.args.self.now in
-    rw (q.1, q.2) (own_start_fails_by (read_as f.kind) f.plan f.first f.last g.met.F.Frame.frame (reads_boxed f.plan g.F.Child.Machines.position_of g.F.Child.Machines.holds) f.slots _ v p d m.name m.version m.part _ o c.args.place c.args.event.now c.in-StartElement.name c.in-StartElement.attributes c.in-StartElement.namespace c.in_err-self-in-StartElement.field-0.0 c.in-StartElement.is (inside_is (read_as f.kind) f.plan f.first f.last g.met.F.Frame.frame (reads_boxed f.plan g.F.Child.Machines.position_of g.F.Child.Machines.holds) f.slots (Unit {0}) v p d m.name m.version (f.slots m.part) m.inside Nothing o h (sym c.replace.ensures.value ∙ c.in-Nothing.is)) is (c.in_err-self-in-StartElement.ensures (ap kind_of c.in-StartElement.is) d c.in-StartElement.namespace))
+    rw (q.1, q.2) (own_start_fails_by (read_as f.kind) f.plan f.first f.last g.met.F.Frame.frame (reads_boxed f.plan g.F.Child.Machines.position_of g.F.Child.Machines.holds) f.slots _ v p d m.name m.version m.part _ o c.args.place c.args.event.now c.in-StartElement.name c.in-StartElement.attributes c.in-StartElement.namespace c.in_err-self-in-StartElement.field-0.0 c.in-StartElement.is (inside_is (read_as f.kind) f.plan f.first f.last g.met.F.Frame.frame (reads_boxed f.plan g.F.Child.Machines.position_of g.F.Child.Machines.holds) f.slots (Unit {0}) v p d m.name m.version (f.slots m.part) m.inside Nothing o h (sym c.replace.ensures.value ∙ c.in-Nothing.is)) is (c.in_err-self-in-StartElement.ensures (ap event_kind c.in-StartElement.is) d c.in-StartElement.namespace))
 
 pub returns-in_ok-self-in-StartElement : goal.returns-in_ok-self-in-StartElement
 returns-in_ok-self-in-StartElement g c = λ v p d o h is t.
     let f = g.F.Frame in
     let m = c.args.self.now in
-    own_enters_by (read_as f.kind) f.plan f.first f.last g.met.F.Frame.frame (reads_boxed f.plan g.F.Child.Machines.position_of g.F.Child.Machines.holds) f.slots _ v p d m.name m.version m.part o c.args.place c.args.event.now c.in-StartElement.name c.in-StartElement.attributes c.in-StartElement.namespace c.in_ok-self-in-StartElement.field-0 c.in-StartElement.is (inside_is (read_as f.kind) f.plan f.first f.last g.met.F.Frame.frame (reads_boxed f.plan g.F.Child.Machines.position_of g.F.Child.Machines.holds) f.slots (Unit {0}) v p d m.name m.version (f.slots m.part) m.inside Nothing o h (sym c.replace.ensures.value ∙ c.in-Nothing.is)) is (c.in_ok-self-in-StartElement.ensures (ap kind_of c.in-StartElement.is) d c.in-StartElement.namespace)
+    own_enters_by (read_as f.kind) f.plan f.first f.last g.met.F.Frame.frame (reads_boxed f.plan g.F.Child.Machines.position_of g.F.Child.Machines.holds) f.slots _ v p d m.name m.version m.part o c.args.place c.args.event.now c.in-StartElement.name c.in-StartElement.attributes c.in-StartElement.namespace c.in_ok-self-in-StartElement.field-0 c.in-StartElement.is (inside_is (read_as f.kind) f.plan f.first f.last g.met.F.Frame.frame (reads_boxed f.plan g.F.Child.Machines.position_of g.F.Child.Machines.holds) f.slots (Unit {0}) v p d m.name m.version (f.slots m.part) m.inside Nothing o h (sym c.replace.ensures.value ∙ c.in-Nothing.is)) is (c.in_ok-self-in-StartElement.ensures (ap event_kind c.in-StartElement.is) d c.in-StartElement.namespace)
 
 pub returns-in-EndElement : goal.returns-in-EndElement
 returns-in-EndElement g c = λ v p d o h is t.

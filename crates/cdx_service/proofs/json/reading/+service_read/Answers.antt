@@ -11,7 +11,7 @@ use Rattle.cdx_json.proofs.Loops.{goes_on, stops, ends}
 use Rattle.cdx_models.specs.Trees.{service, items}
 use Rattle.cdx_schema.specs.Kinds.{services, a_list, a_record, optional}
 use Rattle.cdx_json.proofs.Values.{list_err, list_gives}
-use Rattle.cdx_service.specs.Trees.{service_tree, services_tree, services_listed}
+use Rattle.cdx_service.specs.Trees.{service_tree, services_tree, service_items}
 use Rattle.cdx_service.specs.Laws.{services_tree-out}
 use Rattle.cdx_service.specs.Groups.{service_by_groups}
 use Rattle.cdx_service.proofs.Deep.{service_deep, service_none, service_some}
@@ -47,15 +47,15 @@ service_from_members-returns t c = rw (c.in_ok-service_naming.ensures, c.in-Ok.e
 
 pub services_from_items-returns-in-Err : goal.services_from_items-returns-in-Err
 services_from_items-returns-in-Err t c =
-    stops service_tree (services_listed c.loop-i.list) c.deref-item-items.result.now c.loop-i.i c.item-item.result (a_record service) c.args.context.version (depth_of c.args.context.depth) (items_read (items_view c.args.items.now.items) c.args.context.version (a_record service) (depth_of c.args.context.depth) 0) c.in-Err.e c.at_item.result c.loop-i-test.true c.item-item.is c.in-Err.ensures c.at_item.ensures c.loop-i.invariant
+    stops service_tree (service_items c.loop-i.list) c.deref-item-items.result.now c.loop-i.i c.item-item.result (a_record service) c.args.context.version (depth_of c.args.context.depth) (items_read (items_view c.args.items.now.items) c.args.context.version (a_record service) (depth_of c.args.context.depth) 0) c.in-Err.e c.at_item.result c.loop-i-test.true c.item-item.is c.in-Err.ensures c.at_item.ensures c.loop-i.invariant
 
 pub services_from_items-loop-i-preserved : goal.services_from_items-loop-i-preserved
 services_from_items-loop-i-preserved t c =
-    rw c.in_ok-push-in-Ok.ensures.ok (goes_on service_tree (services_listed c.loop-i.list) c.deref-item-items.result.now c.loop-i.i c.item-item.result c.in-Ok.held (a_record service) c.args.context.version (depth_of c.args.context.depth) (items_read (items_view c.args.items.now.items) c.args.context.version (a_record service) (depth_of c.args.context.depth) 0) c.loop-i-test.true c.item-item.is c.in-Ok.ensures c.loop-i.invariant)
+    rw c.in_ok-push-in-Ok.ensures.ok (goes_on service_tree (service_items c.loop-i.list) c.deref-item-items.result.now c.loop-i.i c.item-item.result c.in-Ok.held (a_record service) c.args.context.version (depth_of c.args.context.depth) (items_read (items_view c.args.items.now.items) c.args.context.version (a_record service) (depth_of c.args.context.depth) 0) c.loop-i-test.true c.item-item.is c.in-Ok.ensures c.loop-i.invariant)
 
 pub services_from_items-returns : goal.services_from_items-returns
 services_from_items-returns t c =
-    ap (λ r. r >>= λ ts. Ok (items ts)) (ends service_tree (services_listed c.loop-i.list) c.deref-item-items.result.now c.loop-i.i (a_record service) c.args.context.version (depth_of c.args.context.depth) (items_read (items_view c.args.items.now.items) c.args.context.version (a_record service) (depth_of c.args.context.depth) 0) (omega arith) c.loop-i.invariant) ∙ ap Ok (sym (services_tree-out c.loop-i.list))
+    ap (λ r. r >>= λ ts. Ok (items ts)) (ends service_tree (service_items c.loop-i.list) c.deref-item-items.result.now c.loop-i.i (a_record service) c.args.context.version (depth_of c.args.context.depth) (items_read (items_view c.args.items.now.items) c.args.context.version (a_record service) (depth_of c.args.context.depth) 0) (omega arith) c.loop-i.invariant) ∙ ap Ok (sym (services_tree-out c.loop-i.list))
 
 pub read_services-returns-in-None : goal.read_services-returns-in-None
 read_services-returns-in-None t c = list_err c.here.result (view c.args.value.now) services c.args.context.version (depth_of c.args.context.depth) c.in-None.ensures c.here.ensures

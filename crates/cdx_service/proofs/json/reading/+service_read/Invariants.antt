@@ -5,7 +5,7 @@ use Rattle.cdx_schema.specs.JsonReading.{items_read}
 use Rattle.cdx_schema.specs.Depths.{depth_of}
 use Rattle.cdx_json.proofs.Loops.{with_front}
 use Rattle.cdx_models.specs.Trees.{service, each}
-use Rattle.cdx_service.specs.Trees.{service_tree, services_listed}
+use Rattle.cdx_service.specs.Trees.{service_tree, service_items}
 use Rattle.cdx_service.proofs.json.reading.+service_read.Given as goal
 
 -- Each service is one level deeper, and at most 32 stand in one another.
@@ -30,4 +30,4 @@ decreases-service_from_members l = 10 * (40 - l.context.depth.services) + 5
 
 abbrev pub invariant-services_from_items-loop-i : goal.invariant-services_from_items-loop-i
 invariant-services_from_items-loop-i l =
-    with_front (each service_tree (services_listed l.list)) (items_read (items_view (drop l.i l.item-items)) l.context.version (a_record service) (depth_of l.context.depth) l.i) ≡ items_read (items_view l.items.items) l.context.version (a_record service) (depth_of l.context.depth) 0
+    with_front (each service_tree (service_items l.list)) (items_read (items_view (drop l.i l.item-items)) l.context.version (a_record service) (depth_of l.context.depth) l.i) ≡ items_read (items_view l.items.items) l.context.version (a_record service) (depth_of l.context.depth) 0

@@ -7,7 +7,7 @@ use Rattle.cdx_json.specs.KeptRows.{rows_put}
 use Rattle.cdx_json.proofs.Spelled.{field_put, nothing_put, list_spelled}
 use Rattle.cdx_models.specs.Trees.{service}
 use Rattle.cdx_schema.specs.Kinds.{services, a_list, a_record}
-use Rattle.cdx_service.specs.Trees.{service_tree, services_tree, services_listed}
+use Rattle.cdx_service.specs.Trees.{service_tree, services_tree, service_items}
 use Rattle.cdx_service.specs.Laws.{services_tree-out}
 use Rattle.cdx_service.specs.Stays.{services_stay}
 use Rattle.cdx_service.proofs.Grouped.{service_spelled}
@@ -19,7 +19,7 @@ write_service-returns t c = service_spelled c.put_service_contents.new.map c.arg
 pub write_services-returns : goal.write_services-returns
 unfolding list
 write_services-returns t c =
-    list_spelled service_tree (a_record service) services c.args.target.version c.loop-item.values c.deref-item-items.result.now (services_listed c.args.held.now) c.loop-item.item-index refl c.deref-item-items.ensures.value (omega arith) c.loop-item.invariant
+    list_spelled service_tree (a_record service) services c.args.target.version c.loop-item.values c.deref-item-items.result.now (service_items c.args.held.now) c.loop-item.item-index refl c.deref-item-items.ensures.value (omega arith) c.loop-item.invariant
     ∙ ap (λ u. jspell (keep c.args.target.version u (a_list services)) c.args.target.version (a_list services)) (sym (services_tree-out c.args.held.now))
 
 pub put_service_contents-returns : goal.put_service_contents-returns

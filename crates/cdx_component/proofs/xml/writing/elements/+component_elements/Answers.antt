@@ -7,14 +7,14 @@ use Rattle.cdx_schema.specs.Kinds.{components, a_list, a_record}
 use Rattle.cdx_schema.specs.Table.{rows, list}
 use Rattle.cdx_schema.specs.Groups.{group}
 use Rattle.cdx_write.specs.Listed.{item_put}
-use Rattle.cdx_write.specs.Spelling.{written, inner}
+use Rattle.cdx_write.specs.Spelling.{spelled_events, inner}
 use Rattle.cdx_write.specs.WrittenRows.{child_written, rows_written}
 use Rattle.cdx_write.specs.Writing.{opening, start_tag, end_tag}
 use Rattle.cdx_write.proofs.Appended.{first_fails, item_fails, item_written, items_end, from, then_fails, then_last, ◌▸◌}
 use Rattle.cdx_write.proofs.Lists.{items_put}
 use Rattle.cdx_write.proofs.RowWords.{appends_same, nothing_added, child_none}
 use Rattle.cdx_component.specs.declared.component.Component.TheViews.{out-Component, out-Pedigree}
-use Rattle.cdx_component.specs.Trees.{component_tree, components_tree, pedigree_tree, origin, naming, marks, contents, component_fields, pedigree_fields, listed_components}
+use Rattle.cdx_component.specs.Trees.{component_tree, components_tree, pedigree_tree, origin, naming, marks, component_contents, component_fields, pedigree_fields, component_items}
 use Rattle.cdx_component.proofs.Written.{component_in_groups, component_made, pedigree_made, component_item, pedigree_child, components_inner, components_made, components_child}
 use Rattle.cdx_component.proofs.xml.writing.elements.+component_elements.Goals as goal
 
@@ -26,7 +26,7 @@ write_component-returns-in_err-write_opening t c =
     let start = opening tag c.in_ok-attributes.attributes in
     let content = rows_written (component_fields components_tree pedigree_tree (out-Component x)) c.args.target.version (rows component) in
     let same = component_made x c.args.target.version tag c.in_ok-attributes.attributes c.in_ok-attributes.ensures in
-    rw (p.1, p.2) (appends_same c.args.writer.now c.write_opening.new.writer (start ∷ content ++ end_tag tag ∷ []) (written (component_tree x) c.args.target.version tag (a_record component)) (Err _) same
+    rw (p.1, p.2) (appends_same c.args.writer.now c.write_opening.new.writer (start ∷ content ++ end_tag tag ∷ []) (spelled_events (component_tree x) c.args.target.version tag (a_record component)) (Err _) same
     (first_fails c.args.writer.now c.write_opening.new.writer (start ∷ []) (content ++ end_tag tag ∷ []) _ c.in_err-write_opening.ensures))
 
 pub write_component-returns-in_err-write_rows : goal.write_component-returns-in_err-write_rows
@@ -37,7 +37,7 @@ write_component-returns-in_err-write_rows t c =
     let start = opening tag c.in_ok-attributes.attributes in
     let content = rows_written (component_fields components_tree pedigree_tree (out-Component x)) c.args.target.version (rows component) in
     let same = component_made x c.args.target.version tag c.in_ok-attributes.attributes c.in_ok-attributes.ensures in
-    rw (p.1, p.2) (appends_same c.args.writer.now c.write_rows.new.writer (start ∷ content ++ end_tag tag ∷ []) (written (component_tree x) c.args.target.version tag (a_record component)) (Err _) same
+    rw (p.1, p.2) (appends_same c.args.writer.now c.write_rows.new.writer (start ∷ content ++ end_tag tag ∷ []) (spelled_events (component_tree x) c.args.target.version tag (a_record component)) (Err _) same
     (then_fails (from c.args.writer.now ▸ (start ∷ [], c.in_ok-write_opening.ensures)) c.write_rows.new.writer content (end_tag tag ∷ []) _ c.in_err-write_rows.ensures))
 
 pub write_component-returns : goal.write_component-returns
@@ -47,7 +47,7 @@ write_component-returns t c =
     let start = opening tag c.in_ok-attributes.attributes in
     let content = rows_written (component_fields components_tree pedigree_tree (out-Component x)) c.args.target.version (rows component) in
     let same = component_made x c.args.target.version tag c.in_ok-attributes.attributes c.in_ok-attributes.ensures in
-    appends_same c.args.writer.now c.write_close_tag.new.writer (start ∷ content ++ end_tag tag ∷ []) (written (component_tree x) c.args.target.version tag (a_record component)) c.write_close_tag.result same
+    appends_same c.args.writer.now c.write_close_tag.new.writer (start ∷ content ++ end_tag tag ∷ []) (spelled_events (component_tree x) c.args.target.version tag (a_record component)) c.write_close_tag.result same
     ((from c.args.writer.now ▸ (start ∷ [], c.in_ok-write_opening.ensures) ▸ (content, c.in_ok-write_rows.ensures)).then_all c.write_close_tag.new.writer (end_tag tag ∷ []) c.write_close_tag.result c.write_close_tag.ensures)
 
 pub write_components-returns-in_err-write_start_tag : goal.write_components-returns-in_err-write_start_tag
@@ -58,7 +58,7 @@ write_components-returns-in_err-write_start_tag t c =
     let start = start_tag tag in
     let content = inner (components_tree x) c.args.target.version (a_list components) in
     let same = components_made tag c.args.target.version x in
-    rw (p.1, p.2) (appends_same c.args.writer.now c.write_start_tag.new.writer (start ∷ content ++ end_tag tag ∷ []) (written (components_tree x) c.args.target.version tag (a_list components)) (Err _) same
+    rw (p.1, p.2) (appends_same c.args.writer.now c.write_start_tag.new.writer (start ∷ content ++ end_tag tag ∷ []) (spelled_events (components_tree x) c.args.target.version tag (a_list components)) (Err _) same
     (first_fails c.args.writer.now c.write_start_tag.new.writer (start ∷ []) (content ++ end_tag tag ∷ []) _ c.in_err-write_start_tag.ensures))
 
 pub write_components-returns-in_err-write_items : goal.write_components-returns-in_err-write_items
@@ -69,7 +69,7 @@ write_components-returns-in_err-write_items t c =
     let start = start_tag tag in
     let content = inner (components_tree x) c.args.target.version (a_list components) in
     let same = components_made tag c.args.target.version x in
-    rw (p.1, p.2) (appends_same c.args.writer.now c.write_items.new.writer (start ∷ content ++ end_tag tag ∷ []) (written (components_tree x) c.args.target.version tag (a_list components)) (Err _) same
+    rw (p.1, p.2) (appends_same c.args.writer.now c.write_items.new.writer (start ∷ content ++ end_tag tag ∷ []) (spelled_events (components_tree x) c.args.target.version tag (a_list components)) (Err _) same
     (then_fails (from c.args.writer.now ▸ (start ∷ [], c.in_ok-write_start_tag.ensures)) c.write_items.new.writer content (end_tag tag ∷ []) _ c.in_err-write_items.ensures))
 
 pub write_components-returns : goal.write_components-returns
@@ -79,7 +79,7 @@ write_components-returns t c =
     let start = start_tag tag in
     let content = inner (components_tree x) c.args.target.version (a_list components) in
     let same = components_made tag c.args.target.version x in
-    appends_same c.args.writer.now c.write_close_tag.new.writer (start ∷ content ++ end_tag tag ∷ []) (written (components_tree x) c.args.target.version tag (a_list components)) c.write_close_tag.result same
+    appends_same c.args.writer.now c.write_close_tag.new.writer (start ∷ content ++ end_tag tag ∷ []) (spelled_events (components_tree x) c.args.target.version tag (a_list components)) c.write_close_tag.result same
     ((from c.args.writer.now ▸ (start ∷ [], c.in_ok-write_start_tag.ensures) ▸ (content, c.in_ok-write_items.ensures)).then_all c.write_close_tag.new.writer (end_tag tag ∷ []) c.write_close_tag.result c.write_close_tag.ensures)
 
 pub write_pedigree-returns-in_err-write_start_tag : goal.write_pedigree-returns-in_err-write_start_tag
@@ -90,7 +90,7 @@ write_pedigree-returns-in_err-write_start_tag t c =
     let start = start_tag tag in
     let content = rows_written (pedigree_fields components_tree (out-Pedigree x)) c.args.target.version (rows pedigree) in
     let same = pedigree_made x c.args.target.version tag in
-    rw (p.1, p.2) (appends_same c.args.writer.now c.write_start_tag.new.writer (start ∷ content ++ end_tag tag ∷ []) (written (pedigree_tree x) c.args.target.version tag (a_record pedigree)) (Err _) same
+    rw (p.1, p.2) (appends_same c.args.writer.now c.write_start_tag.new.writer (start ∷ content ++ end_tag tag ∷ []) (spelled_events (pedigree_tree x) c.args.target.version tag (a_record pedigree)) (Err _) same
     (first_fails c.args.writer.now c.write_start_tag.new.writer (start ∷ []) (content ++ end_tag tag ∷ []) _ c.in_err-write_start_tag.ensures))
 
 pub write_pedigree-returns-in_err-write_pedigree_rows : goal.write_pedigree-returns-in_err-write_pedigree_rows
@@ -101,7 +101,7 @@ write_pedigree-returns-in_err-write_pedigree_rows t c =
     let start = start_tag tag in
     let content = rows_written (pedigree_fields components_tree (out-Pedigree x)) c.args.target.version (rows pedigree) in
     let same = pedigree_made x c.args.target.version tag in
-    rw (p.1, p.2) (appends_same c.args.writer.now c.write_pedigree_rows.new.writer (start ∷ content ++ end_tag tag ∷ []) (written (pedigree_tree x) c.args.target.version tag (a_record pedigree)) (Err _) same
+    rw (p.1, p.2) (appends_same c.args.writer.now c.write_pedigree_rows.new.writer (start ∷ content ++ end_tag tag ∷ []) (spelled_events (pedigree_tree x) c.args.target.version tag (a_record pedigree)) (Err _) same
     (then_fails (from c.args.writer.now ▸ (start ∷ [], c.in_ok-write_start_tag.ensures)) c.write_pedigree_rows.new.writer content (end_tag tag ∷ []) _ c.in_err-write_pedigree_rows.ensures))
 
 pub write_pedigree-returns : goal.write_pedigree-returns
@@ -111,7 +111,7 @@ write_pedigree-returns t c =
     let start = start_tag tag in
     let content = rows_written (pedigree_fields components_tree (out-Pedigree x)) c.args.target.version (rows pedigree) in
     let same = pedigree_made x c.args.target.version tag in
-    appends_same c.args.writer.now c.write_close_tag.new.writer (start ∷ content ++ end_tag tag ∷ []) (written (pedigree_tree x) c.args.target.version tag (a_record pedigree)) c.write_close_tag.result same
+    appends_same c.args.writer.now c.write_close_tag.new.writer (start ∷ content ++ end_tag tag ∷ []) (spelled_events (pedigree_tree x) c.args.target.version tag (a_record pedigree)) c.write_close_tag.result same
     ((from c.args.writer.now ▸ (start ∷ [], c.in_ok-write_start_tag.ensures) ▸ (content, c.in_ok-write_pedigree_rows.ensures)).then_all c.write_close_tag.new.writer (end_tag tag ∷ []) c.write_close_tag.result c.write_close_tag.ensures)
 
 pub write_items-loop-item-init : goal.write_items-loop-item-init
@@ -130,14 +130,14 @@ write_items-returns-in_err-write_component t c =
     let x = c.item-item.result in
     let f = items_put component_tree (codes "component") (a_record component) c.args.target.version in
     let new = c.write_component.new.writer in
-    let all = flat_map f (listed_components c.args.held.now) in
+    let all = flat_map f (component_items c.args.held.now) in
     rw (p.1, p.2) (appends_same c.args.writer.now new (all ++ []) (inner (components_tree c.args.held.now) c.args.target.version (a_list components)) (Err _) (append-nil all ∙ components_inner c.args.target.version c.args.held.now)
-    (item_fails f c.args.writer.now c.loop-item.writer new [] c.deref-item-items.result.now (listed_components c.args.held.now) c.loop-item.item-index x _ c.deref-item-items.ensures.value c.loop-item-test.true c.item-item.is c.loop-item.invariant
-    (appends_same c.loop-item.writer new (written (component_tree x) c.args.target.version (codes "component") (a_record component)) (item_put (codes "component") (a_record component) (component_tree x) c.args.target.version) (Err _) (component_item (codes "component") c.args.target.version x) c.in_err-write_component.ensures)))
+    (item_fails f c.args.writer.now c.loop-item.writer new [] c.deref-item-items.result.now (component_items c.args.held.now) c.loop-item.item-index x _ c.deref-item-items.ensures.value c.loop-item-test.true c.item-item.is c.loop-item.invariant
+    (appends_same c.loop-item.writer new (spelled_events (component_tree x) c.args.target.version (codes "component") (a_record component)) (item_put (codes "component") (a_record component) (component_tree x) c.args.target.version) (Err _) (component_item (codes "component") c.args.target.version x) c.in_err-write_component.ensures)))
 
 pub write_items-returns : goal.write_items-returns
 write_items-returns t c =
-    items_end (items_put component_tree (codes "component") (a_record component) c.args.target.version) c.args.writer.now c.loop-item.writer c.deref-item-items.result.now (listed_components c.args.held.now) c.loop-item.item-index c.deref-item-items.ensures.value c.loop-item-test.false c.loop-item.invariant
+    items_end (items_put component_tree (codes "component") (a_record component) c.args.target.version) c.args.writer.now c.loop-item.writer c.deref-item-items.result.now (component_items c.args.held.now) c.loop-item.item-index c.deref-item-items.ensures.value c.loop-item-test.false c.loop-item.invariant
     ∙ ap (λ s. c.args.writer.now ++ s) (components_inner c.args.target.version c.args.held.now)
 
 pub write_rows-returns-in_err-write_origin_rows : goal.write_rows-returns-in_err-write_origin_rows
@@ -146,7 +146,7 @@ write_rows-returns-in_err-write_origin_rows t c =
     let g0 = rows_written (origin (out-Component c.args.held.now)) c.args.target.version (group 0 component) in
     let g1 = rows_written (naming (out-Component c.args.held.now)) c.args.target.version (group 1 component) in
     let g2 = rows_written (marks (out-Component c.args.held.now)) c.args.target.version (group 2 component) in
-    let g3 = rows_written (contents components_tree pedigree_tree (out-Component c.args.held.now)) c.args.target.version (group 3 component) in
+    let g3 = rows_written (component_contents components_tree pedigree_tree (out-Component c.args.held.now)) c.args.target.version (group 3 component) in
     rw (p.1, p.2) (appends_same c.args.writer.now c.write_origin_rows.new.writer (g0 ++ (g1 ++ (g2 ++ g3))) (rows_written (component_fields components_tree pedigree_tree (out-Component c.args.held.now)) c.args.target.version (rows component)) (Err _) (component_in_groups (out-Component c.args.held.now) c.args.target.version)
     (first_fails c.args.writer.now c.write_origin_rows.new.writer g0 (g1 ++ (g2 ++ g3)) _ c.in_err-write_origin_rows.ensures))
 
@@ -156,7 +156,7 @@ write_rows-returns-in_err-write_naming_rows t c =
     let g0 = rows_written (origin (out-Component c.args.held.now)) c.args.target.version (group 0 component) in
     let g1 = rows_written (naming (out-Component c.args.held.now)) c.args.target.version (group 1 component) in
     let g2 = rows_written (marks (out-Component c.args.held.now)) c.args.target.version (group 2 component) in
-    let g3 = rows_written (contents components_tree pedigree_tree (out-Component c.args.held.now)) c.args.target.version (group 3 component) in
+    let g3 = rows_written (component_contents components_tree pedigree_tree (out-Component c.args.held.now)) c.args.target.version (group 3 component) in
     rw (p.1, p.2) (appends_same c.args.writer.now c.write_naming_rows.new.writer (g0 ++ (g1 ++ (g2 ++ g3))) (rows_written (component_fields components_tree pedigree_tree (out-Component c.args.held.now)) c.args.target.version (rows component)) (Err _) (component_in_groups (out-Component c.args.held.now) c.args.target.version)
     (then_fails (from c.args.writer.now ▸ (g0, c.in_ok-write_origin_rows.ensures)) c.write_naming_rows.new.writer g1 (g2 ++ g3) _ c.in_err-write_naming_rows.ensures))
 
@@ -166,7 +166,7 @@ write_rows-returns-in_err-write_marks_rows t c =
     let g0 = rows_written (origin (out-Component c.args.held.now)) c.args.target.version (group 0 component) in
     let g1 = rows_written (naming (out-Component c.args.held.now)) c.args.target.version (group 1 component) in
     let g2 = rows_written (marks (out-Component c.args.held.now)) c.args.target.version (group 2 component) in
-    let g3 = rows_written (contents components_tree pedigree_tree (out-Component c.args.held.now)) c.args.target.version (group 3 component) in
+    let g3 = rows_written (component_contents components_tree pedigree_tree (out-Component c.args.held.now)) c.args.target.version (group 3 component) in
     rw (p.1, p.2) (appends_same c.args.writer.now c.write_marks_rows.new.writer (g0 ++ (g1 ++ (g2 ++ g3))) (rows_written (component_fields components_tree pedigree_tree (out-Component c.args.held.now)) c.args.target.version (rows component)) (Err _) (component_in_groups (out-Component c.args.held.now) c.args.target.version)
     (then_fails (from c.args.writer.now ▸ (g0, c.in_ok-write_origin_rows.ensures) ▸ (g1, c.in_ok-write_naming_rows.ensures)) c.write_marks_rows.new.writer g2 g3 _ c.in_err-write_marks_rows.ensures))
 
@@ -175,7 +175,7 @@ write_rows-returns t c =
     let g0 = rows_written (origin (out-Component c.args.held.now)) c.args.target.version (group 0 component) in
     let g1 = rows_written (naming (out-Component c.args.held.now)) c.args.target.version (group 1 component) in
     let g2 = rows_written (marks (out-Component c.args.held.now)) c.args.target.version (group 2 component) in
-    let g3 = rows_written (contents components_tree pedigree_tree (out-Component c.args.held.now)) c.args.target.version (group 3 component) in
+    let g3 = rows_written (component_contents components_tree pedigree_tree (out-Component c.args.held.now)) c.args.target.version (group 3 component) in
     appends_same c.args.writer.now c.write_contents_rows.new.writer (g0 ++ (g1 ++ (g2 ++ g3))) (rows_written (component_fields components_tree pedigree_tree (out-Component c.args.held.now)) c.args.target.version (rows component)) c.write_contents_rows.result (component_in_groups (out-Component c.args.held.now) c.args.target.version)
     ((from c.args.writer.now ▸ (g0, c.in_ok-write_origin_rows.ensures) ▸ (g1, c.in_ok-write_naming_rows.ensures) ▸ (g2, c.in_ok-write_marks_rows.ensures)).then_all c.write_contents_rows.new.writer g3 c.write_contents_rows.result c.write_contents_rows.ensures)
 
@@ -256,7 +256,7 @@ put_pedigree-returns-in-None t c =
 pub put_pedigree-returns-in-Some : goal.put_pedigree-returns-in-Some
 put_pedigree-returns-in-Some t c =
     let x = c.in-Some.held in
-    rw c.in-Some.is (appends_same c.args.writer.now c.write_pedigree.new.writer (written (pedigree_tree x) c.args.target.version c.args.name.now (a_record pedigree)) (child_written c.args.name.now (a_record pedigree) (pedigree_tree x) c.args.target.version) c.write_pedigree.result
+    rw c.in-Some.is (appends_same c.args.writer.now c.write_pedigree.new.writer (spelled_events (pedigree_tree x) c.args.target.version c.args.name.now (a_record pedigree)) (child_written c.args.name.now (a_record pedigree) (pedigree_tree x) c.args.target.version) c.write_pedigree.result
     (pedigree_child c.args.name.now c.args.target.version x) c.write_pedigree.ensures)
 
 pub put_components-returns-in-None : goal.put_components-returns-in-None
@@ -266,5 +266,5 @@ put_components-returns-in-None t c =
 pub put_components-returns-in-Some : goal.put_components-returns-in-Some
 put_components-returns-in-Some t c =
     let x = c.in-Some.held in
-    rw c.in-Some.is (appends_same c.args.writer.now c.write_components.new.writer (written (components_tree x) c.args.target.version c.args.name.now (a_list components)) (child_written c.args.name.now (a_list components) (components_tree x) c.args.target.version) c.write_components.result
+    rw c.in-Some.is (appends_same c.args.writer.now c.write_components.new.writer (spelled_events (components_tree x) c.args.target.version c.args.name.now (a_list components)) (child_written c.args.name.now (a_list components) (components_tree x) c.args.target.version) c.write_components.result
     (components_child c.args.name.now c.args.target.version x) c.write_components.ensures)

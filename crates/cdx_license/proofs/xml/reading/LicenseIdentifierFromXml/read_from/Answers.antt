@@ -8,7 +8,7 @@ use Rattle.cdx_schema.specs.XmlReading.{exact_text, ended}
 use Rattle.cdx_leaf.specs.Fault.{Refused}
 use Rattle.cdx_leaf.specs.Reading.{behind_end}
 use Rattle.cdx_license.specs.Records.{identifier_tree}
-use Rattle.cdx_leaf.specs.RowContents.{content_is}
+use Rattle.cdx_leaf.specs.RowContents.{content_from_rows}
 use Rattle.cdx_leaf.proofs.Attributes.{row_ok, rows_end}
 use Rattle.cdx_leaf.proofs.Contents.{text_content, whole_content}
 use Rattle.cdx_license.proofs.Identifiers.{identifier_id, identifier_name, identifier_none}
@@ -23,23 +23,23 @@ pub returns-in_err-id : goal.returns-in_err-id
 unfolding rows ended
 returns-in_err-id c = λ d ns p nodes rest st.
     let q = err_from_is_err_and c.from_residual.result c.from_residual.ensures.1 in
-    rw (q.1, q.2, identifier_id c.args.opened.now.version c.args.opened.now.element.now c.args.opened.now.attributes.now ns d p nodes c.if-is.ensures) (whole_content spdx_id 0 (λ nodes el q. exact_text nodes el q) (text_content spdx_id 0 (content_is spdx_id)) refl alone c.args.opened.now.version c.args.opened.now.element.now c.args.opened.now.attributes.now c.args.reader.now c.read_exact_content.new.reader c.args.reader.now.place (Ok (record {})) (Err c.in_err-id.field-0.0) (λ x s q. refl) refl (row_ok c.args.opened.now.attributes.now c.args.opened.now.version c.args.opened.now.element.now.local_name (c.args.reader.now.place - 1) _ _ _ _ refl (rows_end c.args.opened.now.attributes.now c.args.opened.now.version c.args.opened.now.element.now.local_name (c.args.reader.now.place - 1))) c.in_err-id.ensures d ns p nodes rest st)
+    rw (q.1, q.2, identifier_id c.args.opened.now.version c.args.opened.now.element.now c.args.opened.now.attributes.now ns d p nodes c.if-is.ensures) (whole_content spdx_id 0 (λ nodes el q. exact_text nodes el q) (text_content spdx_id 0 (content_from_rows spdx_id)) refl alone c.args.opened.now.version c.args.opened.now.element.now c.args.opened.now.attributes.now c.args.reader.now c.read_exact_content.new.reader c.args.reader.now.place (Ok (record {})) (Err c.in_err-id.field-0.0) (λ x s q. refl) refl (row_ok c.args.opened.now.attributes.now c.args.opened.now.version c.args.opened.now.element.now.local_name (c.args.reader.now.place - 1) _ _ _ _ refl (rows_end c.args.opened.now.attributes.now c.args.opened.now.version c.args.opened.now.element.now.local_name (c.args.reader.now.place - 1))) c.in_err-id.ensures d ns p nodes rest st)
 
 pub returns-then-is : goal.returns-then-is
 unfolding rows ended
 returns-then-is c = λ d ns p nodes rest st.
-    rw (identifier_id c.args.opened.now.version c.args.opened.now.element.now c.args.opened.now.attributes.now ns d p nodes c.if-is.ensures) (whole_content spdx_id 0 (λ nodes el q. exact_text nodes el q) (text_content spdx_id 0 (content_is spdx_id)) refl alone c.args.opened.now.version c.args.opened.now.element.now c.args.opened.now.attributes.now c.args.reader.now c.read_exact_content.new.reader c.args.reader.now.place (Ok (record {})) (Ok (c.in_ok-id.field-0-0, c.in_ok-id.id)) (λ x s q. refl) refl (row_ok c.args.opened.now.attributes.now c.args.opened.now.version c.args.opened.now.element.now.local_name (c.args.reader.now.place - 1) _ _ _ _ refl (rows_end c.args.opened.now.attributes.now c.args.opened.now.version c.args.opened.now.element.now.local_name (c.args.reader.now.place - 1))) c.in_ok-id.ensures d ns p nodes rest st)
+    rw (identifier_id c.args.opened.now.version c.args.opened.now.element.now c.args.opened.now.attributes.now ns d p nodes c.if-is.ensures) (whole_content spdx_id 0 (λ nodes el q. exact_text nodes el q) (text_content spdx_id 0 (content_from_rows spdx_id)) refl alone c.args.opened.now.version c.args.opened.now.element.now c.args.opened.now.attributes.now c.args.reader.now c.read_exact_content.new.reader c.args.reader.now.place (Ok (record {})) (Ok (c.in_ok-id.field-0-0, c.in_ok-id.id)) (λ x s q. refl) refl (row_ok c.args.opened.now.attributes.now c.args.opened.now.version c.args.opened.now.element.now.local_name (c.args.reader.now.place - 1) _ _ _ _ refl (rows_end c.args.opened.now.attributes.now c.args.opened.now.version c.args.opened.now.element.now.local_name (c.args.reader.now.place - 1))) c.in_ok-id.ensures d ns p nodes rest st)
 
 pub returns-in_err-name : goal.returns-in_err-name
 unfolding rows ended
 returns-in_err-name c = λ d ns p nodes rest st.
     let q = err_from_is_err_and c.from_residual-in_err-name.result c.from_residual-in_err-name.ensures.1 in
-    rw (q.1, q.2, identifier_name c.args.opened.now.version c.args.opened.now.element.now c.args.opened.now.attributes.now ns d p nodes c.if-is.ensures c.if-is-2.ensures) (whole_content license_name 0 (λ nodes el q. exact_text nodes el q) (text_content license_name 0 (content_is license_name)) refl alone c.args.opened.now.version c.args.opened.now.element.now c.args.opened.now.attributes.now c.args.reader.now c.read_exact_content-then-is-2.new.reader c.args.reader.now.place (Ok (record {})) (Err c.in_err-name.field-0.0) (λ x s q. refl) refl (row_ok c.args.opened.now.attributes.now c.args.opened.now.version c.args.opened.now.element.now.local_name (c.args.reader.now.place - 1) _ _ _ _ refl (rows_end c.args.opened.now.attributes.now c.args.opened.now.version c.args.opened.now.element.now.local_name (c.args.reader.now.place - 1))) c.in_err-name.ensures d ns p nodes rest st)
+    rw (q.1, q.2, identifier_name c.args.opened.now.version c.args.opened.now.element.now c.args.opened.now.attributes.now ns d p nodes c.if-is.ensures c.if-is-2.ensures) (whole_content license_name 0 (λ nodes el q. exact_text nodes el q) (text_content license_name 0 (content_from_rows license_name)) refl alone c.args.opened.now.version c.args.opened.now.element.now c.args.opened.now.attributes.now c.args.reader.now c.read_exact_content-then-is-2.new.reader c.args.reader.now.place (Ok (record {})) (Err c.in_err-name.field-0.0) (λ x s q. refl) refl (row_ok c.args.opened.now.attributes.now c.args.opened.now.version c.args.opened.now.element.now.local_name (c.args.reader.now.place - 1) _ _ _ _ refl (rows_end c.args.opened.now.attributes.now c.args.opened.now.version c.args.opened.now.element.now.local_name (c.args.reader.now.place - 1))) c.in_err-name.ensures d ns p nodes rest st)
 
 pub returns-then-is-2 : goal.returns-then-is-2
 unfolding rows ended
 returns-then-is-2 c = λ d ns p nodes rest st.
-    rw (identifier_name c.args.opened.now.version c.args.opened.now.element.now c.args.opened.now.attributes.now ns d p nodes c.if-is.ensures c.if-is-2.ensures) (whole_content license_name 0 (λ nodes el q. exact_text nodes el q) (text_content license_name 0 (content_is license_name)) refl alone c.args.opened.now.version c.args.opened.now.element.now c.args.opened.now.attributes.now c.args.reader.now c.read_exact_content-then-is-2.new.reader c.args.reader.now.place (Ok (record {})) (Ok (c.in_ok-name.field-0-0, c.in_ok-name.name)) (λ x s q. refl) refl (row_ok c.args.opened.now.attributes.now c.args.opened.now.version c.args.opened.now.element.now.local_name (c.args.reader.now.place - 1) _ _ _ _ refl (rows_end c.args.opened.now.attributes.now c.args.opened.now.version c.args.opened.now.element.now.local_name (c.args.reader.now.place - 1))) c.in_ok-name.ensures d ns p nodes rest st)
+    rw (identifier_name c.args.opened.now.version c.args.opened.now.element.now c.args.opened.now.attributes.now ns d p nodes c.if-is.ensures c.if-is-2.ensures) (whole_content license_name 0 (λ nodes el q. exact_text nodes el q) (text_content license_name 0 (content_from_rows license_name)) refl alone c.args.opened.now.version c.args.opened.now.element.now c.args.opened.now.attributes.now c.args.reader.now c.read_exact_content-then-is-2.new.reader c.args.reader.now.place (Ok (record {})) (Ok (c.in_ok-name.field-0-0, c.in_ok-name.name)) (λ x s q. refl) refl (row_ok c.args.opened.now.attributes.now c.args.opened.now.version c.args.opened.now.element.now.local_name (c.args.reader.now.place - 1) _ _ _ _ refl (rows_end c.args.opened.now.attributes.now c.args.opened.now.version c.args.opened.now.element.now.local_name (c.args.reader.now.place - 1))) c.in_ok-name.ensures d ns p nodes rest st)
 
 pub returns : goal.returns
 returns c = λ d ns p nodes rest st.

@@ -4,7 +4,7 @@ use Rattle.std.proofs.lemmas.List.{append-nil}
 use Rattle.std.proofs.lemmas.Result.{err_from_is_err_and}
 use Rattle.cdx_models.specs.Trees.{text, list_tree}
 use Rattle.cdx_schema.specs.Kinds.{a_list, a_reference}
-use Rattle.cdx_write.specs.Spelling.{written, inner}
+use Rattle.cdx_write.specs.Spelling.{spelled_events, inner}
 use Rattle.cdx_write.specs.Listed.{item_put}
 use Rattle.cdx_write.proofs.Appended.{item_fails, item_written, items_end}
 use Rattle.cdx_write.proofs.RowWords.{appends_same}
@@ -33,7 +33,7 @@ returns-in_err-write_reference c = λ w l is.
     let all = flat_map f c.args.held.now in
     rw (p.1, p.2) (appends_same c.args.writer.now new (all ++ []) (inner (list_tree text c.args.held.now) w (a_list l)) (Err _) (append-nil all ∙ list_inner text tag a_reference l w c.args.held.now is)
     (item_fails f c.args.writer.now c.loop-item.writer new [] c.as_slice-item-items.result.now c.args.held.now c.loop-item.item-index x _ c.as_slice-item-items.ensures c.loop-item-test.true c.item-item.is (c.loop-item.invariant w)
-    (appends_same c.loop-item.writer new (written (text x) w tag a_reference) (item_put tag a_reference (text x) w) (Err _) (reference_item tag x w) (c.in_err-write_reference.ensures w))))
+    (appends_same c.loop-item.writer new (spelled_events (text x) w tag a_reference) (item_put tag a_reference (text x) w) (Err _) (reference_item tag x w) (c.in_err-write_reference.ensures w))))
 
 pub returns : goal.returns
 returns c = λ w l is.

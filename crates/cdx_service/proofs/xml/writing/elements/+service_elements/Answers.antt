@@ -7,14 +7,14 @@ use Rattle.cdx_schema.specs.Kinds.{services, a_list, a_record}
 use Rattle.cdx_schema.specs.Table.{rows, list}
 use Rattle.cdx_schema.specs.Groups.{group}
 use Rattle.cdx_write.specs.Listed.{item_put}
-use Rattle.cdx_write.specs.Spelling.{written, inner}
+use Rattle.cdx_write.specs.Spelling.{spelled_events, inner}
 use Rattle.cdx_write.specs.WrittenRows.{child_written, rows_written}
 use Rattle.cdx_write.specs.Writing.{opening, start_tag, end_tag}
 use Rattle.cdx_write.proofs.Appended.{first_fails, item_fails, item_written, items_end, from, then_fails, then_last, ◌▸◌}
 use Rattle.cdx_write.proofs.Lists.{items_put}
 use Rattle.cdx_write.proofs.RowWords.{appends_same, nothing_added, child_none}
 use Rattle.cdx_service.specs.declared.service.Service.TheViews.{out-Service}
-use Rattle.cdx_service.specs.Trees.{service_tree, services_tree, service_naming, service_access, service_contents, service_fields, services_listed}
+use Rattle.cdx_service.specs.Trees.{service_tree, services_tree, service_naming, service_access, service_contents, service_fields, service_items}
 use Rattle.cdx_service.proofs.Written.{service_in_groups, service_made, service_item, services_inner, services_made, services_child}
 use Rattle.cdx_service.proofs.xml.writing.elements.+service_elements.Goals as goal
 
@@ -26,7 +26,7 @@ write_service-returns-in_err-write_opening t c =
     let start = opening tag c.in_ok-attributes.attributes in
     let content = rows_written (service_fields services_tree (out-Service x)) c.args.target.version (rows service) in
     let same = service_made x c.args.target.version tag c.in_ok-attributes.attributes c.in_ok-attributes.ensures in
-    rw (p.1, p.2) (appends_same c.args.writer.now c.write_opening.new.writer (start ∷ content ++ end_tag tag ∷ []) (written (service_tree x) c.args.target.version tag (a_record service)) (Err _) same
+    rw (p.1, p.2) (appends_same c.args.writer.now c.write_opening.new.writer (start ∷ content ++ end_tag tag ∷ []) (spelled_events (service_tree x) c.args.target.version tag (a_record service)) (Err _) same
     (first_fails c.args.writer.now c.write_opening.new.writer (start ∷ []) (content ++ end_tag tag ∷ []) _ c.in_err-write_opening.ensures))
 
 pub write_service-returns-in_err-write_rows : goal.write_service-returns-in_err-write_rows
@@ -37,7 +37,7 @@ write_service-returns-in_err-write_rows t c =
     let start = opening tag c.in_ok-attributes.attributes in
     let content = rows_written (service_fields services_tree (out-Service x)) c.args.target.version (rows service) in
     let same = service_made x c.args.target.version tag c.in_ok-attributes.attributes c.in_ok-attributes.ensures in
-    rw (p.1, p.2) (appends_same c.args.writer.now c.write_rows.new.writer (start ∷ content ++ end_tag tag ∷ []) (written (service_tree x) c.args.target.version tag (a_record service)) (Err _) same
+    rw (p.1, p.2) (appends_same c.args.writer.now c.write_rows.new.writer (start ∷ content ++ end_tag tag ∷ []) (spelled_events (service_tree x) c.args.target.version tag (a_record service)) (Err _) same
     (then_fails (from c.args.writer.now ▸ (start ∷ [], c.in_ok-write_opening.ensures)) c.write_rows.new.writer content (end_tag tag ∷ []) _ c.in_err-write_rows.ensures))
 
 pub write_service-returns : goal.write_service-returns
@@ -47,7 +47,7 @@ write_service-returns t c =
     let start = opening tag c.in_ok-attributes.attributes in
     let content = rows_written (service_fields services_tree (out-Service x)) c.args.target.version (rows service) in
     let same = service_made x c.args.target.version tag c.in_ok-attributes.attributes c.in_ok-attributes.ensures in
-    appends_same c.args.writer.now c.write_close_tag.new.writer (start ∷ content ++ end_tag tag ∷ []) (written (service_tree x) c.args.target.version tag (a_record service)) c.write_close_tag.result same
+    appends_same c.args.writer.now c.write_close_tag.new.writer (start ∷ content ++ end_tag tag ∷ []) (spelled_events (service_tree x) c.args.target.version tag (a_record service)) c.write_close_tag.result same
     ((from c.args.writer.now ▸ (start ∷ [], c.in_ok-write_opening.ensures) ▸ (content, c.in_ok-write_rows.ensures)).then_all c.write_close_tag.new.writer (end_tag tag ∷ []) c.write_close_tag.result c.write_close_tag.ensures)
 
 pub write_services-returns-in_err-write_start_tag : goal.write_services-returns-in_err-write_start_tag
@@ -58,7 +58,7 @@ write_services-returns-in_err-write_start_tag t c =
     let start = start_tag tag in
     let content = inner (services_tree x) c.args.target.version (a_list services) in
     let same = services_made tag c.args.target.version x in
-    rw (p.1, p.2) (appends_same c.args.writer.now c.write_start_tag.new.writer (start ∷ content ++ end_tag tag ∷ []) (written (services_tree x) c.args.target.version tag (a_list services)) (Err _) same
+    rw (p.1, p.2) (appends_same c.args.writer.now c.write_start_tag.new.writer (start ∷ content ++ end_tag tag ∷ []) (spelled_events (services_tree x) c.args.target.version tag (a_list services)) (Err _) same
     (first_fails c.args.writer.now c.write_start_tag.new.writer (start ∷ []) (content ++ end_tag tag ∷ []) _ c.in_err-write_start_tag.ensures))
 
 pub write_services-returns-in_err-write_items : goal.write_services-returns-in_err-write_items
@@ -69,7 +69,7 @@ write_services-returns-in_err-write_items t c =
     let start = start_tag tag in
     let content = inner (services_tree x) c.args.target.version (a_list services) in
     let same = services_made tag c.args.target.version x in
-    rw (p.1, p.2) (appends_same c.args.writer.now c.write_items.new.writer (start ∷ content ++ end_tag tag ∷ []) (written (services_tree x) c.args.target.version tag (a_list services)) (Err _) same
+    rw (p.1, p.2) (appends_same c.args.writer.now c.write_items.new.writer (start ∷ content ++ end_tag tag ∷ []) (spelled_events (services_tree x) c.args.target.version tag (a_list services)) (Err _) same
     (then_fails (from c.args.writer.now ▸ (start ∷ [], c.in_ok-write_start_tag.ensures)) c.write_items.new.writer content (end_tag tag ∷ []) _ c.in_err-write_items.ensures))
 
 pub write_services-returns : goal.write_services-returns
@@ -79,7 +79,7 @@ write_services-returns t c =
     let start = start_tag tag in
     let content = inner (services_tree x) c.args.target.version (a_list services) in
     let same = services_made tag c.args.target.version x in
-    appends_same c.args.writer.now c.write_close_tag.new.writer (start ∷ content ++ end_tag tag ∷ []) (written (services_tree x) c.args.target.version tag (a_list services)) c.write_close_tag.result same
+    appends_same c.args.writer.now c.write_close_tag.new.writer (start ∷ content ++ end_tag tag ∷ []) (spelled_events (services_tree x) c.args.target.version tag (a_list services)) c.write_close_tag.result same
     ((from c.args.writer.now ▸ (start ∷ [], c.in_ok-write_start_tag.ensures) ▸ (content, c.in_ok-write_items.ensures)).then_all c.write_close_tag.new.writer (end_tag tag ∷ []) c.write_close_tag.result c.write_close_tag.ensures)
 
 pub write_items-loop-item-init : goal.write_items-loop-item-init
@@ -98,14 +98,14 @@ write_items-returns-in_err-write_service t c =
     let x = c.item-item.result in
     let f = items_put service_tree (codes "service") (a_record service) c.args.target.version in
     let new = c.write_service.new.writer in
-    let all = flat_map f (services_listed c.args.held.now) in
+    let all = flat_map f (service_items c.args.held.now) in
     rw (p.1, p.2) (appends_same c.args.writer.now new (all ++ []) (inner (services_tree c.args.held.now) c.args.target.version (a_list services)) (Err _) (append-nil all ∙ services_inner c.args.target.version c.args.held.now)
-    (item_fails f c.args.writer.now c.loop-item.writer new [] c.deref-item-items.result.now (services_listed c.args.held.now) c.loop-item.item-index x _ c.deref-item-items.ensures.value c.loop-item-test.true c.item-item.is c.loop-item.invariant
-    (appends_same c.loop-item.writer new (written (service_tree x) c.args.target.version (codes "service") (a_record service)) (item_put (codes "service") (a_record service) (service_tree x) c.args.target.version) (Err _) (service_item (codes "service") c.args.target.version x) c.in_err-write_service.ensures)))
+    (item_fails f c.args.writer.now c.loop-item.writer new [] c.deref-item-items.result.now (service_items c.args.held.now) c.loop-item.item-index x _ c.deref-item-items.ensures.value c.loop-item-test.true c.item-item.is c.loop-item.invariant
+    (appends_same c.loop-item.writer new (spelled_events (service_tree x) c.args.target.version (codes "service") (a_record service)) (item_put (codes "service") (a_record service) (service_tree x) c.args.target.version) (Err _) (service_item (codes "service") c.args.target.version x) c.in_err-write_service.ensures)))
 
 pub write_items-returns : goal.write_items-returns
 write_items-returns t c =
-    items_end (items_put service_tree (codes "service") (a_record service) c.args.target.version) c.args.writer.now c.loop-item.writer c.deref-item-items.result.now (services_listed c.args.held.now) c.loop-item.item-index c.deref-item-items.ensures.value c.loop-item-test.false c.loop-item.invariant
+    items_end (items_put service_tree (codes "service") (a_record service) c.args.target.version) c.args.writer.now c.loop-item.writer c.deref-item-items.result.now (service_items c.args.held.now) c.loop-item.item-index c.deref-item-items.ensures.value c.loop-item-test.false c.loop-item.invariant
     ∙ ap (λ s. c.args.writer.now ++ s) (services_inner c.args.target.version c.args.held.now)
 
 pub write_rows-returns-in_err-write_naming_rows : goal.write_rows-returns-in_err-write_naming_rows
@@ -164,5 +164,5 @@ put_services-returns-in-None t c =
 pub put_services-returns-in-Some : goal.put_services-returns-in-Some
 put_services-returns-in-Some t c =
     let x = c.in-Some.held in
-    rw c.in-Some.is (appends_same c.args.writer.now c.write_services.new.writer (written (services_tree x) c.args.target.version c.args.name.now (a_list services)) (child_written c.args.name.now (a_list services) (services_tree x) c.args.target.version) c.write_services.result
+    rw c.in-Some.is (appends_same c.args.writer.now c.write_services.new.writer (spelled_events (services_tree x) c.args.target.version c.args.name.now (a_list services)) (child_written c.args.name.now (a_list services) (services_tree x) c.args.target.version) c.write_services.result
     (services_child c.args.name.now c.args.target.version x) c.write_services.ensures)

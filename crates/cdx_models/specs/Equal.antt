@@ -39,28 +39,28 @@ name_code signers = 30
 name_code chain = 31
 name_code bill = 32
 
-abbrev pub same_bool : Bool → Bool → Bool
-same_bool true b = b
-same_bool false true = false
-same_bool false false = true
+abbrev pub equal_bool : Bool → Bool → Bool
+equal_bool true b = b
+equal_bool false true = false
+equal_bool false false = true
 
 abbrev mutual
-  pub same : Tree → Tree → Bool
-  same absent absent = true
-  same absent _ = false
-  same (text a) (text b) = bytes_eq a b
-  same (text a) _ = false
-  same (number a) (number b) = a == b
-  same (number a) _ = false
-  same (boolean a) (boolean b) = same_bool a b
-  same (boolean a) _ = false
-  same (items ts) (items us) = same_each ts us
-  same (items ts) _ = false
-  same (fields n ts) (fields m us) = (name_code n == name_code m) && same_each ts us
-  same (fields n ts) _ = false
+  pub equal : Tree → Tree → Bool
+  equal absent absent = true
+  equal absent _ = false
+  equal (text a) (text b) = bytes_eq a b
+  equal (text a) _ = false
+  equal (number a) (number b) = a == b
+  equal (number a) _ = false
+  equal (boolean a) (boolean b) = equal_bool a b
+  equal (boolean a) _ = false
+  equal (items ts) (items us) = equal_each ts us
+  equal (items ts) _ = false
+  equal (fields n ts) (fields m us) = (name_code n == name_code m) && equal_each ts us
+  equal (fields n ts) _ = false
 
-  pub same_each : Trees → Trees → Bool
-  same_each none none = true
-  same_each none (more u us) = false
-  same_each (more t ts) none = false
-  same_each (more t ts) (more u us) = same t u && same_each ts us
+  pub equal_each : Trees → Trees → Bool
+  equal_each none none = true
+  equal_each none (more u us) = false
+  equal_each (more t ts) none = false
+  equal_each (more t ts) (more u us) = equal t u && equal_each ts us
