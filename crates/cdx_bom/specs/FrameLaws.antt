@@ -8,8 +8,8 @@ use Rattle.cdx_push.specs.declared.kinds.LeafKind.{LeafKind}
 use Rattle.cdx_machine.specs.Feeding.{IsNoBill}
 use Rattle.cdx_nest_machine.specs.Forms.{plan_of, IsNested, record_nested}
 use Rattle.cdx_nest_machine.specs.Children.{ReadsEach, child_kind, reads_listed}
-use Rattle.cdx_nest_machine.specs.declared.nested.Reads.{Reads}
-use Rattle.cdx_nest_machine.specs.declared.nested.Reads.TheVariants.{Leaf, Nested}
+use Rattle.cdx_nest_machine.specs.declared.nested.ChildReader.{ChildReader}
+use Rattle.cdx_nest_machine.specs.declared.nested.ChildReader.TheVariants.{Leaf, Nested}
 use Rattle.cdx_nest.specs.Frames as nests
 use Rattle.cdx_nest.specs.FrameLaws as nest_laws
 use Rattle.cdx_nest.specs.declared.frames.NestKind.{NestKind}
@@ -17,7 +17,7 @@ use Rattle.cdx_bom.specs.Frames.{kind_of, nest_reads, bill_readers, reader_of}
 use Rattle.cdx_bom.specs.declared.push.frame.BillKind.{BillKind}
 use Rattle.cdx_bom.specs.declared.push.frame.BillKind.TheVariants.{Nest, Bill}
 
-same_kind : (r : Reads LeafKind NestKind) → child_kind leaf_kind_of nests.nest_kind r ≡ child_kind leaf_kind_of kind_of (nest_reads r)
+same_kind : (r : ChildReader LeafKind NestKind) → child_kind leaf_kind_of nests.nest_kind r ≡ child_kind leaf_kind_of kind_of (nest_reads r)
 same_kind (Leaf l) = refl
 same_kind (Nested k) = refl
 

@@ -3,8 +3,8 @@ use Rattle.std.specs.Prelude.{◌≡◌, ℕ, List, [], ◌∷◌, Option, optio
 use Rattle.cdx_models.specs.Trees.{bill, Tree, Trees}
 use Rattle.cdx_schema.specs.Kinds.{Kind, a_record}
 use Rattle.cdx_machine.specs.Several.{at_position}
-use Rattle.cdx_nest_machine.specs.declared.nested.Reads.{Reads}
-use Rattle.cdx_nest_machine.specs.declared.nested.Reads.TheVariants.{Leaf, Nested}
+use Rattle.cdx_nest_machine.specs.declared.nested.ChildReader.{ChildReader}
+use Rattle.cdx_nest_machine.specs.declared.nested.ChildReader.TheVariants.{Leaf, Nested}
 use Rattle.cdx_push.specs.declared.kinds.LeafKind.{LeafKind}
 use Rattle.cdx_push.specs.declared.kinds.LeafKind.TheVariants.{Properties, ExternalReferences, Dependencies, Compositions, Signature}
 use Rattle.cdx_nest.specs.declared.frames.NestKind.{NestKind}
@@ -45,15 +45,15 @@ frame_fields (frames.Bill p) = bill_slots p
 -- ---- what reads each child
 
 -- what reads a child of what stands in a bill
-abbrev pub nest_reads : Reads LeafKind NestKind → Reads LeafKind BillKind
+abbrev pub nest_reads : ChildReader LeafKind NestKind → ChildReader LeafKind BillKind
 nest_reads (Leaf l) = Leaf l
 nest_reads (Nested k) = Nested (kinds.Nest k)
 
 -- in the order of the rows that are children
-abbrev pub bill_readers : List (Reads LeafKind BillKind)
+abbrev pub bill_readers : List (ChildReader LeafKind BillKind)
 bill_readers = Nested (kinds.Nest Metadata) ∷ Nested (kinds.Nest Components) ∷ Nested (kinds.Nest Services) ∷ Leaf ExternalReferences ∷ Leaf Dependencies ∷ Leaf Compositions ∷ Leaf Properties ∷ Leaf Signature ∷ []
 
-abbrev pub reader_of : BillKind → ℕ → Option (Reads LeafKind BillKind)
+abbrev pub reader_of : BillKind → ℕ → Option (ChildReader LeafKind BillKind)
 reader_of (kinds.Nest k) i = option_map nest_reads (nests.reader_of k i)
 reader_of kinds.Bill i = at_position bill_readers i
 

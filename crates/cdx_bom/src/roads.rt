@@ -11,7 +11,7 @@ ghost use Rattle.cdx_bom.specs.Hops.{any_first, DenotesBill, hop_document, rewri
 use crate::bom::Bom;
 use crate::doc::{Doc, Form, Hop, RoadError};
 use crate::refused::lacks_version;
-use crate::xml::writing::events_of;
+use crate::xml::writing::document_events;
 use cdx_events::List;
 use cdx_json::ToJson;
 use cdx_leaf::FromXmlDocument;
@@ -52,7 +52,7 @@ fn spell(alloc: Global, bill: &Bom, hop: Hop) -> Result<Doc, AllocError>
 {
     match hop.form {
         Form::Json => Ok(Doc::Json(bill.to_value(alloc, hop.version)?)),
-        Form::Xml => Ok(Doc::Xml(events_of(
+        Form::Xml => Ok(Doc::Xml(document_events(
             bill,
             Target {
                 alloc,

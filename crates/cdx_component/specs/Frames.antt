@@ -4,8 +4,8 @@ use Rattle.cdx_models.specs.Trees.{component, pedigree, Tree, Trees}
 use Rattle.cdx_schema.specs.Kinds.{components, Kind, a_list, a_record}
 use Rattle.cdx_leaf.specs.Listing.{listing_slots}
 use Rattle.cdx_machine.specs.Several.{at_position}
-use Rattle.cdx_nest_machine.specs.declared.nested.Reads.{Reads}
-use Rattle.cdx_nest_machine.specs.declared.nested.Reads.TheVariants.{Leaf, Nested}
+use Rattle.cdx_nest_machine.specs.declared.nested.ChildReader.{ChildReader}
+use Rattle.cdx_nest_machine.specs.declared.nested.ChildReader.TheVariants.{Leaf, Nested}
 use Rattle.cdx_push.specs.declared.kinds.LeafKind.{LeafKind}
 use Rattle.cdx_push.specs.declared.kinds.LeafKind.TheVariants.{Text, Flag, Entity, Hashes, Properties, Commits, Patches, ExternalReferences, Licenses, Signature, Swid, Evidence}
 use Rattle.cdx_component.specs.Trees.{component_tree, components_tree, pedigree_tree, component_items}
@@ -47,28 +47,28 @@ frame_fields (frames.Pedigree x) = pedigree_part x
 
 -- ---- what reads each child, in the order of the rows that are children
 
-abbrev pub origin_reads : List (Reads LeafKind ComponentKind) → List (Reads LeafKind ComponentKind)
+abbrev pub origin_reads : List (ChildReader LeafKind ComponentKind) → List (ChildReader LeafKind ComponentKind)
 origin_reads others = Leaf Entity ∷ Leaf Text ∷ Leaf Text ∷ others
 
-abbrev pub naming_reads : List (Reads LeafKind ComponentKind) → List (Reads LeafKind ComponentKind)
+abbrev pub naming_reads : List (ChildReader LeafKind ComponentKind) → List (ChildReader LeafKind ComponentKind)
 naming_reads others = Leaf Text ∷ Leaf Text ∷ Leaf Text ∷ Leaf Text ∷ Leaf Text ∷ Leaf Hashes ∷ others
 
-abbrev pub marks_reads : List (Reads LeafKind ComponentKind) → List (Reads LeafKind ComponentKind)
+abbrev pub marks_reads : List (ChildReader LeafKind ComponentKind) → List (ChildReader LeafKind ComponentKind)
 marks_reads others = Leaf Licenses ∷ Leaf Text ∷ Leaf Text ∷ Leaf Text ∷ Leaf Swid ∷ Leaf Flag ∷ others
 
-abbrev pub contents_reads : List (Reads LeafKind ComponentKind)
+abbrev pub contents_reads : List (ChildReader LeafKind ComponentKind)
 contents_reads = Nested Pedigree ∷ Leaf ExternalReferences ∷ Leaf Properties ∷ Nested Components ∷ Leaf Evidence ∷ Leaf Signature ∷ []
 
-abbrev pub component_reads : List (Reads LeafKind ComponentKind)
+abbrev pub component_reads : List (ChildReader LeafKind ComponentKind)
 component_reads = origin_reads (naming_reads (marks_reads contents_reads))
 
-abbrev pub pedigree_reads : List (Reads LeafKind ComponentKind)
+abbrev pub pedigree_reads : List (ChildReader LeafKind ComponentKind)
 pedigree_reads = Nested Components ∷ Nested Components ∷ Nested Components ∷ Leaf Commits ∷ Leaf Patches ∷ Leaf Text ∷ []
 
-abbrev pub reads_of : ComponentKind → List (Reads LeafKind ComponentKind)
+abbrev pub reads_of : ComponentKind → List (ChildReader LeafKind ComponentKind)
 reads_of Component = component_reads
 reads_of Components = Nested Component ∷ []
 reads_of Pedigree = pedigree_reads
 
-abbrev pub reader_of : ComponentKind → ℕ → Option (Reads LeafKind ComponentKind)
+abbrev pub reader_of : ComponentKind → ℕ → Option (ChildReader LeafKind ComponentKind)
 reader_of k i = at_position (reads_of k) i

@@ -23,7 +23,7 @@ use cdx_events::OwnedName;
 use cdx_leaf::{End, Rule, Start};
 use cdx_machine::Found;
 use cdx_models::{SpecVersion, XmlReadError};
-use cdx_nest_machine::{Nested, Reads};
+use cdx_nest_machine::{Nested, ChildReader};
 use cdx_push::{Leaf, LeafKind, LeafValue};
 use cdx_schema::Depth;
 use std::alloc::{AllocError, Global};
@@ -129,10 +129,10 @@ impl Nested for ComponentFrame {
         }
     }
 
-    fn child(&self, position: usize) -> Reads<LeafKind, ComponentKind> {
+    fn child(&self, position: usize) -> ChildReader<LeafKind, ComponentKind> {
         match self {
             ComponentFrame::Component(_) => component_child(position),
-            ComponentFrame::Components(_) => Reads::Nested(ComponentKind::Component),
+            ComponentFrame::Components(_) => ChildReader::Nested(ComponentKind::Component),
             ComponentFrame::Pedigree(_) => pedigree_child(position),
         }
     }

@@ -11,7 +11,7 @@ use Rattle.cdx_models.proofs.Lists.{trees-push}
 use Rattle.cdx_schema.specs.Kinds.{Kind}
 use Rattle.cdx_schema.specs.Results.{◌>>=◌}
 use Rattle.cdx_schema.specs.Faults.{JsonFault, under}
-use Rattle.cdx_schema.specs.JsonReading.{jread, items_read}
+use Rattle.cdx_schema.specs.JsonReading.{jread, array_read}
 use Rattle.cdx_models.specs.declared.errors.JsonReadError.{JsonReadError}
 use Rattle.cdx_models.specs.declared.errors.JsonReadError.TheVariants.{JsonElementReadError, BomError, Memory}
 use Rattle.cdx_json.specs.Gives.{Fails, IsWithin, fault}
@@ -39,36 +39,36 @@ suc_is i = omega arith
 
 -- one item more
 items-step : (vs : List Value) (i : ℕ) (v : Value) (k : Kind) (w : SpecVersion) (d : Depth) → i < length vs → v ≡ get_or vs i v
-    → items_read (items_view (drop i vs)) w k d i ≡ (under (Item i) (jread (view v) w k d) >>= λ t. items_read (items_view (drop (i + 1) vs)) w k d (i + 1) >>= λ ts. Ok (more t ts))
+    → array_read (items_view (drop i vs)) w k d i ≡ (under (Item i) (jread (view v) w k d) >>= λ t. array_read (items_view (drop (i + 1) vs)) w k d (i + 1) >>= λ ts. Ok (more t ts))
 unfolding jread
 items-step vs i v k w d h is =
-    at_drop_more (λ ws. items_read (items_view ws) w k d i) vs i v h
-    ∙ ap (λ y. under (Item i) (jread (view y) w k d) >>= λ t. items_read (items_view (drop (i + 1) vs)) w k d (suc i) >>= λ ts. Ok (more t ts)) (sym is)
-    ∙ ap (λ j. under (Item i) (jread (view v) w k d) >>= λ t. items_read (items_view (drop (i + 1) vs)) w k d j >>= λ ts. Ok (more t ts)) (suc_is i)
+    at_drop_more (λ ws. array_read (items_view ws) w k d i) vs i v h
+    ∙ ap (λ y. under (Item i) (jread (view y) w k d) >>= λ t. array_read (items_view (drop (i + 1) vs)) w k d (suc i) >>= λ ts. Ok (more t ts)) (sym is)
+    ∙ ap (λ j. under (Item i) (jread (view v) w k d) >>= λ t. array_read (items_view (drop (i + 1) vs)) w k d j >>= λ ts. Ok (more t ts)) (suc_is i)
 
 pub goes_on : {A : Type 0} (f : A → Tree) (done : List A) (vs : List Value) (i : ℕ) (v : Value) (x : A) (k : Kind) (w : SpecVersion) (d : Depth) (whole : Result Trees JsonFault) → i < length vs → v ≡ get_or vs i v → jread (view v) w k d ≡ Ok (f x)
-    → with_front (each f done) (items_read (items_view (drop i vs)) w k d i) ≡ whole
-    → with_front (each f (done ++ x ∷ [])) (items_read (items_view (drop (i + 1) vs)) w k d (i + 1)) ≡ whole
+    → with_front (each f done) (array_read (items_view (drop i vs)) w k d i) ≡ whole
+    → with_front (each f (done ++ x ∷ [])) (array_read (items_view (drop (i + 1) vs)) w k d (i + 1)) ≡ whole
 goes_on f done vs i v x k w d whole h is read inv =
-    let rest = items_read (items_view (drop (i + 1) vs)) w k d (i + 1) in
+    let rest = array_read (items_view (drop (i + 1) vs)) w k d (i + 1) in
     ap (λ ts. with_front ts rest) (trees-push f done x) ∙ sym (with_front-more (each f done) (f x) rest)
     ∙ ap (with_front (each f done)) (sym (items-step vs i v k w d h is ∙ ap (λ r. under (Item i) r >>= λ t. rest >>= λ ts. Ok (more t ts)) read))
     ∙ inv
 
 pub ends : {A : Type 0} (f : A → Tree) (done : List A) (vs : List Value) (i : ℕ) (k : Kind) (w : SpecVersion) (d : Depth) (whole : Result Trees JsonFault) → length vs ≤ i
-    → with_front (each f done) (items_read (items_view (drop i vs)) w k d i) ≡ whole → whole ≡ Ok (each f done)
+    → with_front (each f done) (array_read (items_view (drop i vs)) w k d i) ≡ whole → whole ≡ Ok (each f done)
 unfolding jread
 ends f done vs i k w d whole h inv =
-    sym inv ∙ ap (with_front (each f done)) (at_drop_all (λ ws. items_read (items_view ws) w k d i) vs i h) ∙ ap Ok (append_none (each f done))
+    sym inv ∙ ap (with_front (each f done)) (at_drop_all (λ ws. array_read (items_view ws) w k d i) vs i h) ∙ ap Ok (append_none (each f done))
 
 -- an item's fault is the list's
 pub stops : {A : Type 0} (f : A → Tree) (done : List A) (vs : List Value) (i : ℕ) (v : Value) (k : Kind) (w : SpecVersion) (d : Depth) (whole : Result Trees JsonFault) (old new : JsonReadError) → i < length vs → v ≡ get_or vs i v → Fails old (jread (view v) w k d) → IsWithin (Item i) old new
-    → with_front (each f done) (items_read (items_view (drop i vs)) w k d i) ≡ whole → Fails new (whole >>= λ ts. Ok (items ts))
+    → with_front (each f done) (array_read (items_view (drop i vs)) w k d i) ≡ whole → Fails new (whole >>= λ ts. Ok (items ts))
 stops f done vs i v k w d whole old (Memory m) h is fails at inv = tt
 stops f done vs i v k w d whole (Memory m) (BomError c) h is fails at inv = absurd at
 stops f done vs i v k w d whole (BomError b) (BomError c) h is fails at inv = absurd fails
 stops f done vs i v k w d whole (JsonElementReadError p q) (BomError c) h is fails at inv = absurd at
 stops f done vs i v k w d whole old (JsonElementReadError path kind) h is fails at inv =
     let failed : under (Item i) (jread (view v) w k d) ≡ Err (fault path.0 kind) = within_fails (Item i) old (JsonElementReadError path kind) (jread (view v) w k d) fails at in
-    let all = ap (with_front (each f done)) (items-step vs i v k w d h is ∙ ap (λ r. r >>= λ t. items_read (items_view (drop (i + 1) vs)) w k d (i + 1) >>= λ ts. Ok (more t ts)) failed) in
+    let all = ap (with_front (each f done)) (items-step vs i v k w d h is ∙ ap (λ r. r >>= λ t. array_read (items_view (drop (i + 1) vs)) w k d (i + 1) >>= λ ts. Ok (more t ts)) failed) in
     ap (λ r. r >>= λ ts. Ok (items ts)) (sym inv ∙ all)

@@ -6,8 +6,8 @@ use Rattle.std.specs.declared.alloc.AllocError.{AllocError}
 use Rattle.cdx_models.specs.Trees.{Tree, Trees}
 use Rattle.cdx_schema.specs.Kinds.{Kind}
 use Rattle.cdx_machine.specs.Several.{Puts}
-use Rattle.cdx_nest_machine.specs.declared.nested.Reads.{Reads}
-use Rattle.cdx_nest_machine.specs.declared.nested.Reads.TheVariants.{Leaf, Nested}
+use Rattle.cdx_nest_machine.specs.declared.nested.ChildReader.{ChildReader}
+use Rattle.cdx_nest_machine.specs.declared.nested.ChildReader.TheVariants.{Leaf, Nested}
 use Rattle.cdx_nest_machine.specs.Children.{HasReader}
 use Rattle.cdx_nest_machine.specs.Forms.{plan_of}
 use Rattle.cdx_push.specs.declared.kinds.LeafKind.{LeafKind}
@@ -39,21 +39,21 @@ different : (l : LeafKind) (k : NestKind) → Some (Leaf l) ≡ Some (Nested k) 
 different l k h = let wrong : Some (Leaf l) ≡ Some (Nested k) = h in cc
 
 module _ {K : Type 0} (of : K → NestKind) (back : NestKind → K) (is_back : (k : K) → back (of k) ≡ k) where
-  own_reader : (o : Option (Reads LeafKind K)) (r : Reader) → option_map (reads_as of) o ≡ Some r → (q : Reads LeafKind K) × (o ≡ Some q)
+  own_reader : (o : Option (ChildReader LeafKind K)) (r : Reader) → option_map (reads_as of) o ≡ Some r → (q : ChildReader LeafKind K) × (o ≡ Some q)
   own_reader None r h = absurd (none_is_none r h)
   own_reader (Some q) r h = (q, refl)
 
-  own_leaf : (o : Option (Reads LeafKind K)) (l : LeafKind) → option_map (reads_as of) o ≡ Some (Leaf l) → o ≡ Some (Leaf l)
+  own_leaf : (o : Option (ChildReader LeafKind K)) (l : LeafKind) → option_map (reads_as of) o ≡ Some (Leaf l) → o ≡ Some (Leaf l)
   own_leaf None l h = absurd (none_is_none (Leaf l) h)
   own_leaf (Some (Leaf m)) l h = ap (λ x. Some (Leaf x)) (ap (the_leaf m) h)
   own_leaf (Some (Nested k)) l h = absurd (different l (of k) (sym h))
 
-  own_nested : (o : Option (Reads LeafKind K)) (j : K) → option_map (reads_as of) o ≡ Some (Nested (of j)) → o ≡ Some (Nested j)
+  own_nested : (o : Option (ChildReader LeafKind K)) (j : K) → option_map (reads_as of) o ≡ Some (Nested (of j)) → o ≡ Some (Nested j)
   own_nested None j h = absurd (none_is_none (Nested (of j)) h)
   own_nested (Some (Leaf m)) j h = absurd (different m (of j) h)
   own_nested (Some (Nested k)) j h = ap (λ x. Some (Nested x)) (sym (is_back k) ∙ ap back (ap (the_nested (of k)) h) ∙ is_back j)
 
-  own_kind : (o : Option (Reads LeafKind K)) (s : NestKind) → option_map (reads_as of) o ≡ Some (Nested s) → (k : K) × (s ≡ of k)
+  own_kind : (o : Option (ChildReader LeafKind K)) (s : NestKind) → option_map (reads_as of) o ≡ Some (Nested s) → (k : K) × (s ≡ of k)
   own_kind None s h = absurd (none_is_none (Nested s) h)
   own_kind (Some (Leaf m)) s h = absurd (different m s h)
   own_kind (Some (Nested k)) s h = (k, sym (ap (the_nested (of k)) h))
@@ -84,7 +84,7 @@ component_reads component_kinds.Pedigree i = refl
 pub component_has : (k : ComponentKind) (i : ℕ) → HasReader (reader_of (among_components k)) i → HasReader (component_reader k) i
 component_has k i (r, at) = own_reader among_components component_of component_back (component_reader k i) r (sym (component_reads k i) ∙ at)
 
-pub component_child : (k : ComponentKind) (i : ℕ) (q : Reads LeafKind ComponentKind) → component_reader k i ≡ Some q → reader_of (among_components k) i ≡ Some (reads_as among_components q)
+pub component_child : (k : ComponentKind) (i : ℕ) (q : ChildReader LeafKind ComponentKind) → component_reader k i ≡ Some q → reader_of (among_components k) i ≡ Some (reads_as among_components q)
 component_child k i q at = component_reads k i ∙ ap (λ o. option_map (reads_as among_components) o) at
 
 pub component_leaf : (k : ComponentKind) (i : ℕ) (l : LeafKind) → reader_of (among_components k) i ≡ Some (Leaf l) → component_reader k i ≡ Some (Leaf l)
@@ -121,7 +121,7 @@ service_reads service_kinds.Services i = refl
 pub service_has : (k : ServiceKind) (i : ℕ) → HasReader (reader_of (among_services k)) i → HasReader (service_reader k) i
 service_has k i (r, at) = own_reader among_services service_of service_back (service_reader k i) r (sym (service_reads k i) ∙ at)
 
-pub service_child : (k : ServiceKind) (i : ℕ) (q : Reads LeafKind ServiceKind) → service_reader k i ≡ Some q → reader_of (among_services k) i ≡ Some (reads_as among_services q)
+pub service_child : (k : ServiceKind) (i : ℕ) (q : ChildReader LeafKind ServiceKind) → service_reader k i ≡ Some q → reader_of (among_services k) i ≡ Some (reads_as among_services q)
 service_child k i q at = service_reads k i ∙ ap (λ o. option_map (reads_as among_services) o) at
 
 pub service_leaf : (k : ServiceKind) (i : ℕ) (l : LeafKind) → reader_of (among_services k) i ≡ Some (Leaf l) → service_reader k i ≡ Some (Leaf l)

@@ -9,8 +9,8 @@ use Rattle.cdx_schema.specs.XmlReading.{Child}
 use Rattle.cdx_push.specs.declared.kinds.LeafKind.{LeafKind}
 use Rattle.cdx_push.specs.Leaf.{kind_of as leaf_kind}
 use Rattle.cdx_machine.specs.Feeding.{IsNoBill}
-use Rattle.cdx_nest_machine.specs.declared.nested.Reads.{Reads}
-use Rattle.cdx_nest_machine.specs.declared.nested.Reads.TheVariants.{Leaf, Nested}
+use Rattle.cdx_nest_machine.specs.declared.nested.ChildReader.{ChildReader}
+use Rattle.cdx_nest_machine.specs.declared.nested.ChildReader.TheVariants.{Leaf, Nested}
 use Rattle.cdx_nest_machine.specs.Forms.{plan_of, IsNested, record_nested, list_nested, tools_nested}
 use Rattle.cdx_nest_machine.specs.Children.{ReadsEach, child_kind, reads_listed}
 use Rattle.cdx_component.specs.Frames.{kind_of as component_kind, reader_of as component_reader}
@@ -37,11 +37,11 @@ services_alike service_kinds.Services = refl
 
 -- What reads the children of those reads them here.
 module _ {K : Type 0} (of : K → NestKind) (own : K → Kind) (same : (k : K) → nest_kind (of k) ≡ own k) where
-  child_kinds_agree : (r : Reads LeafKind K) → child_kind leaf_kind own r ≡ child_kind leaf_kind nest_kind (reads_as of r)
+  child_kinds_agree : (r : ChildReader LeafKind K) → child_kind leaf_kind own r ≡ child_kind leaf_kind nest_kind (reads_as of r)
   child_kinds_agree (Leaf l) = refl
   child_kinds_agree (Nested k) = sym (same k)
 
-  reads_here : (child : ℕ → Option (Reads LeafKind K)) (cs : List Child) → ReadsEach leaf_kind own child cs → ReadsEach leaf_kind nest_kind (λ i. option_map (reads_as of) (child i)) cs
+  reads_here : (child : ℕ → Option (ChildReader LeafKind K)) (cs : List Child) → ReadsEach leaf_kind own child cs → ReadsEach leaf_kind nest_kind (λ i. option_map (reads_as of) (child i)) cs
   reads_here child cs each i row at =
       let (r, is, kind) = each i row at in
       (reads_as of r, ap (λ o. option_map (reads_as of) o) is, kind ∙ child_kinds_agree r)

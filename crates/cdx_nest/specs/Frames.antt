@@ -4,8 +4,8 @@ use Rattle.std.specs.Option.{option_map}
 use Rattle.cdx_models.specs.Trees.{component, pedigree, service, metadata, Tree, Trees}
 use Rattle.cdx_schema.specs.Kinds.{components, services, Kind, a_list, a_record, a_tools}
 use Rattle.cdx_machine.specs.Several.{at_position}
-use Rattle.cdx_nest_machine.specs.declared.nested.Reads.{Reads}
-use Rattle.cdx_nest_machine.specs.declared.nested.Reads.TheVariants.{Leaf, Nested}
+use Rattle.cdx_nest_machine.specs.declared.nested.ChildReader.{ChildReader}
+use Rattle.cdx_nest_machine.specs.declared.nested.ChildReader.TheVariants.{Leaf, Nested}
 use Rattle.cdx_push.specs.declared.kinds.LeafKind.{LeafKind}
 use Rattle.cdx_push.specs.declared.kinds.LeafKind.TheVariants as leaf_kinds
 use Rattle.cdx_component.specs.Trees.{component_tree, components_tree, pedigree_tree}
@@ -80,10 +80,10 @@ frame_fields (frames.Metadata x) = metadata_part x
 -- ---- what reads each child, in the plan's order
 
 abbrev pub Reader : Type 0
-Reader = Reads LeafKind NestKind
+Reader = ChildReader LeafKind NestKind
 
 -- by a kind of components or of services, among these kinds
-abbrev pub reads_as : {K : Type 0} → (K → NestKind) → Reads LeafKind K → Reader
+abbrev pub reads_as : {K : Type 0} → (K → NestKind) → ChildReader LeafKind K → Reader
 reads_as of (Leaf l) = Leaf l
 reads_as of (Nested k) = Nested (of k)
 

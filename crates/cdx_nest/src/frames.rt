@@ -26,7 +26,7 @@ use cdx_events::OwnedName;
 use cdx_leaf::{End, Rule, Start};
 use cdx_machine::Found;
 use cdx_models::{SpecVersion, XmlReadError};
-use cdx_nest_machine::{Nested, Reads};
+use cdx_nest_machine::{Nested, ChildReader};
 use cdx_push::{Leaf, LeafKind, LeafValue};
 use cdx_schema::Depth;
 use cdx_service::{Service, ServiceFrame, ServiceKind, Services};
@@ -174,7 +174,7 @@ impl Nested for NestFrame {
         }
     }
 
-    fn child(&self, position: usize) -> Reads<LeafKind, NestKind> {
+    fn child(&self, position: usize) -> ChildReader<LeafKind, NestKind> {
         match self {
             NestFrame::Component(frame) => child_in_components(frame, position),
             NestFrame::Service(frame) => child_in_services(frame, position),

@@ -21,8 +21,8 @@ use Rattle.cdx_machine.specs.Several.{at_position, kinds_of}
 use Rattle.cdx_machine.proofs.Names.{FindsAt}
 use Rattle.cdx_machine.proofs.Several.{some_same}
 use Rattle.cdx_machine.proofs.Frames.{enters_fault}
-use Rattle.cdx_nest_machine.specs.declared.nested.Reads.{Reads}
-use Rattle.cdx_nest_machine.specs.declared.nested.Reads.TheVariants.{Leaf}
+use Rattle.cdx_nest_machine.specs.declared.nested.ChildReader.{ChildReader}
+use Rattle.cdx_nest_machine.specs.declared.nested.ChildReader.TheVariants.{Leaf}
 use Rattle.cdx_nest_machine.specs.declared.stack.LeafChild.{LeafChild}
 use Rattle.cdx_nest_machine.specs.Children.{child_kind, ReadsEach}
 use Rattle.cdx_nest_machine.specs.Forms.{plan_of}
@@ -35,16 +35,16 @@ row_of [] i k h = absurd (let wrong : None ≡ Some k = h in cc)
 row_of (c ∷ cs) zero k h = (c, refl, some_same h)
 row_of (c ∷ cs) (suc i) k h = row_of cs i k h
 
-module _ {L S : Type 0} (leaf : L → Kind) (own : S → Kind) (child : ℕ → Option (Reads L S)) (cs : List Child) (law : ReadsEach leaf own child cs) (i : ℕ) (r : Reads L S) (is : child i ≡ Some r) where
+module _ {L S : Type 0} (leaf : L → Kind) (own : S → Kind) (child : ℕ → Option (ChildReader L S)) (cs : List Child) (law : ReadsEach leaf own child cs) (i : ℕ) (r : ChildReader L S) (is : child i ≡ Some r) where
   -- A child of the plan is read as its kind.
   pub row_kind : (row : Child) → at_position cs i ≡ Some row → row.kind ≡ child_kind leaf own r
-  row_kind row h = let x : (r : Reads L S) × (child i ≡ Some r) × (row.kind ≡ child_kind leaf own r) = law i row h in x.2 ∙ ap (child_kind leaf own) (some_same (sym x.1 ∙ is))
+  row_kind row h = let x : (r : ChildReader L S) × (child i ≡ Some r) × (row.kind ≡ child_kind leaf own r) = law i row h in x.2 ∙ ap (child_kind leaf own) (some_same (sym x.1 ∙ is))
 
   pub kind_known : (k : Kind) → at_position (kinds_of cs) i ≡ Some k → child_kind leaf own r ≡ k
   kind_known k h = let x : (row : Child) × (at_position cs i ≡ Some row) × (row.kind ≡ k) = row_of cs i k h in sym (row_kind x.0 x.1) ∙ x.2
 
 -- Something reads a child that a name stands for.
-pub is_read : {L S : Type 0} (leaf : L → Kind) (own : S → Kind) (child : ℕ → Option (Reads L S)) (cs : List Child) → ReadsEach leaf own child cs → (i : ℕ) (row : Child) → at_position cs i ≡ Some row → (r : Reads L S) × (child i ≡ Some r)
+pub is_read : {L S : Type 0} (leaf : L → Kind) (own : S → Kind) (child : ℕ → Option (ChildReader L S)) (cs : List Child) → ReadsEach leaf own child cs → (i : ℕ) (row : Child) → at_position cs i ≡ Some row → (r : ChildReader L S) × (child i ≡ Some r)
 is_read leaf own child cs law i row h = let x = law i row h in (x.0, x.1)
 
 -- ---- open children of leaf kinds
@@ -57,7 +57,7 @@ kept_on held held' kept kept' read p (whole k) up end (Ok false) h = h
 kept_on held held' kept kept' read p (whole k) up end (Ok true) h = end h
 kept_on held held' kept kept' read p (whole k) up end (Err e) h = h
 
-module _ {M L K : Type 0} (leaf : L → Kind) (own : K → Kind) (child_of : K → ℕ → Option (Reads L K)) (leaf_sort : M → L) (holds : Holding M) (k : K) (law : ReadsEach leaf own (child_of k) (plan_of (own k)).children) where
+module _ {M L K : Type 0} (leaf : L → Kind) (own : K → Kind) (child_of : K → ℕ → Option (ChildReader L K)) (leaf_sort : M → L) (holds : Holding M) (k : K) (law : ReadsEach leaf own (child_of k) (plan_of (own k)).children) where
   pub leaf_can_step : (c : LeafChild M) (place : ℕ) (event : XmlEvent) → CanStepChild (leaf_holds own child_of leaf_sort holds k) c place event → CanStep holds c.machine.value place event
   leaf_can_step c place event h = record { v = h.v; p = h.p; d = h.d; o = h.o; held = h.held.1.1; place_is = h.place_is; takes = h.takes }
 
@@ -94,7 +94,7 @@ module _ {M L K : Type 0} (leaf : L → Kind) (own : K → Kind) (child_of : K �
       }
 
   -- the child's own fault
-  pub start_fault : (ts : Trees) (v : SpecVersion) (name : List ℕ) (q : ℕ) (d : Depth) (n : OwnedName) (a : List OwnedAttribute) (z : Namespace) (e : XmlReadError) (i : ℕ) (r : Reads L K) → FindsAt (plan_of (own k)).children ts v n.local_name i → child_of k i ≡ Some r
+  pub start_fault : (ts : Trees) (v : SpecVersion) (name : List ℕ) (q : ℕ) (d : Depth) (n : OwnedName) (a : List OwnedAttribute) (z : Namespace) (e : XmlReadError) (i : ℕ) (r : ChildReader L K) → FindsAt (plan_of (own k)).children ts v n.local_name i → child_of k i ≡ Some r
       → RefusesBefore e (q + 1) (xread (element n a z no_nodes) v (child_kind leaf own r) q d)
       → EntersAt (leaf_holds own child_of leaf_sort holds k) (plan_of (own k)) ts v name q d (innermost n a z no_nodes) (Err e)
   start_fault ts v name q d n a z e i r f is h =

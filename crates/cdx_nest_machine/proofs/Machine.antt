@@ -32,7 +32,7 @@ use Rattle.cdx_machine.proofs.FrameSteps.{own_enters_by, own_start_fails_by, own
 use Rattle.cdx_machine.proofs.Frames.{Keeps, keeps_name, enters_unknown, enters_second}
 use Rattle.cdx_machine.specs.Several.{Puts}
 use Rattle.cdx_machine.proofs.Names.{FindsAt, FindsSecond}
-use Rattle.cdx_nest_machine.specs.declared.nested.Reads.TheVariants.{Nested}
+use Rattle.cdx_nest_machine.specs.declared.nested.ChildReader.TheVariants.{Nested}
 use Rattle.cdx_nest_machine.specs.Forms.{plan_of, first_of, last_step, inner_of, inner_read, IsNested}
 use Rattle.cdx_nest_machine.specs.declared.stack.Open.{Open}
 use Rattle.cdx_nest_machine.specs.declared.stack.Waiting.{Waiting}

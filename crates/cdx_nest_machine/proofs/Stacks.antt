@@ -26,7 +26,7 @@ use Rattle.cdx_machine.proofs.FrameSteps.{open_ok, open_fails, open_quiet, quiet
 use Rattle.cdx_machine.proofs.Frames.{IsNamed, ended_named, Keeps, keeps_into}
 use Rattle.cdx_machine.specs.Several.{Puts}
 use Rattle.cdx_machine.proofs.Names.{FindsAt}
-use Rattle.cdx_nest_machine.specs.declared.nested.Reads.TheVariants.{Nested}
+use Rattle.cdx_nest_machine.specs.declared.nested.ChildReader.TheVariants.{Nested}
 use Rattle.cdx_nest_machine.specs.Forms.{plan_of, first_of, last_step, inner_of, inner_read, IsNested}
 use Rattle.cdx_nest_machine.specs.Stacks.{Layer, plug, plug_next, Shape, Waits, Stand, Stacked}
 use Rattle.cdx_leaf.specs.Fault.{FailsAt}

@@ -15,8 +15,8 @@ use Rattle.cdx_machine.specs.declared.frame.Inside.{Inside}
 use Rattle.cdx_machine.specs.Begun.{Begun}
 use Rattle.cdx_machine.specs.Machines.{Holding, ChildHolding, RefusesBefore}
 use Rattle.cdx_machine.specs.Several.{reads_child}
-use Rattle.cdx_nest_machine.specs.declared.nested.Reads.{Reads}
-use Rattle.cdx_nest_machine.specs.declared.nested.Reads.TheVariants.{Leaf}
+use Rattle.cdx_nest_machine.specs.declared.nested.ChildReader.{ChildReader}
+use Rattle.cdx_nest_machine.specs.declared.nested.ChildReader.TheVariants.{Leaf}
 use Rattle.cdx_nest_machine.specs.declared.stack.Open.{Open}
 use Rattle.cdx_nest_machine.specs.declared.stack.Waiting.{Waiting}
 use Rattle.cdx_nest_machine.specs.declared.stack.LeafChild.{LeafChild}
@@ -24,15 +24,15 @@ use Rattle.cdx_nest_machine.specs.Forms.{plan_of, first_of, inner_of}
 use Rattle.cdx_nest_machine.specs.Stacks.{Shape, Stacked}
 
 -- An open child of a leaf kind is read by what reads the child of its position.
-abbrev pub leaf_keeps : {M L K : Type 0} → (K → ℕ → Option (Reads L K)) → (M → L) → Holding M → K → Holding (LeafChild M)
+abbrev pub leaf_keeps : {M L K : Type 0} → (K → ℕ → Option (ChildReader L K)) → (M → L) → Holding M → K → Holding (LeafChild M)
 leaf_keeps child_of leaf_sort holds k c v p d o = (child_of k c.position ≡ Some (Leaf (leaf_sort c.machine.value))) × holds c.machine.value v p d o
 
 -- It stands in an element that is read as this.
-abbrev pub leaf_holds : {M L K : Type 0} → (K → Kind) → (K → ℕ → Option (Reads L K)) → (M → L) → Holding M → K → ChildHolding (LeafChild M)
+abbrev pub leaf_holds : {M L K : Type 0} → (K → Kind) → (K → ℕ → Option (ChildReader L K)) → (M → L) → Holding M → K → ChildHolding (LeafChild M)
 leaf_holds as_kind child_of leaf_sort holds k = reads_child (plan_of (as_kind k)) (λ c. c.position) (leaf_keeps child_of leaf_sort holds k)
 
 -- what is seen of a waiting frame
-abbrev pub shape_of : {F L K : Type 0} → (K → Kind) → (F → K) → (F → Trees) → (K → ℕ → Option (Reads L K)) → Shape (Waiting F) L K
+abbrev pub shape_of : {F L K : Type 0} → (K → Kind) → (F → K) → (F → Trees) → (K → ℕ → Option (ChildReader L K)) → Shape (Waiting F) L K
 shape_of as_kind sort_of fields child_of = record { as_kind = as_kind; sort = λ w. sort_of w.open.part; name = λ w. w.open.name; inner = λ w. depth_of w.open.depth; fields = λ w. fields w.open.part; position = λ w. w.position; child = λ w. child_of (sort_of w.open.part) w.position }
 
 -- The frames below the top one wait, the last of them for the top one.

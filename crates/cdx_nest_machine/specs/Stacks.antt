@@ -17,8 +17,8 @@ use Rattle.cdx_machine.specs.Begun.{Begun, innermost, around, start_name, count,
 use Rattle.cdx_machine.specs.Machines.{Holding, ChildHolding, Opens, Proceeds, Yields}
 use Rattle.cdx_machine.specs.Frames.{read_so_far, holds_inside}
 use Rattle.cdx_machine.proofs.Names.{FindsAt}
-use Rattle.cdx_nest_machine.specs.declared.nested.Reads.{Reads}
-use Rattle.cdx_nest_machine.specs.declared.nested.Reads.TheVariants.{Nested}
+use Rattle.cdx_nest_machine.specs.declared.nested.ChildReader.{ChildReader}
+use Rattle.cdx_nest_machine.specs.declared.nested.ChildReader.TheVariants.{Nested}
 use Rattle.cdx_nest_machine.specs.Forms.{plan_of, first_of, inner_of}
 
 -- An element in which a child is open: its start, the nodes that have ended in it, and where and how deep it stands.
@@ -48,7 +48,7 @@ pub record Shape (W L K : Type 0) : Type 0 where
   pub fields : W → Trees
   -- that child's position in the plan, and what reads it
   pub position : W → ℕ
-  pub child : W → Option (Reads L K)
+  pub child : W → Option (ChildReader L K)
 
 -- The nodes of the element that have ended were read into these fields.
 pub record Sits (kind : Kind) (name : List ℕ) (inner : Depth) (ts : Trees) (v : SpecVersion) (n : OwnedName) (a : List OwnedAttribute) (xs : Nodes) (p : ℕ) (d : Depth) : Type 0 where

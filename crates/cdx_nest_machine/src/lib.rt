@@ -8,6 +8,6 @@ mod reading;
 mod stack;
 
 pub use keeps::Keeps;
-pub use nested::{Nested, Reads};
+pub use nested::{Nested, ChildReader};
 pub use reading::read_element;
 pub use stack::StackMachine;

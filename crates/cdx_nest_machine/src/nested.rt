@@ -9,7 +9,7 @@ use std::alloc::{AllocError, Global};
 
 /// What reads a child.
 #[derive(Drop)]
-pub enum Reads<L, S> {
+pub enum ChildReader<L, S> {
     /// A machine of a leaf kind, which doesn't contain itself.
     Leaf(L),
     /// A frame of a nested kind.
@@ -26,8 +26,8 @@ pub trait Nested: Drop {
     ghost use Rattle.cdx_leaf.specs.Rules.{as_rule};
     ghost use Rattle.cdx_machine.specs.Feeding.{IsNoBill};
     ghost use Rattle.cdx_machine.specs.Several.{found_from, Puts};
-    ghost use Rattle.cdx_nest_machine.specs.declared.nested.Reads.{Reads};
-    ghost use Rattle.cdx_nest_machine.specs.declared.nested.Reads.TheVariants.{Leaf, Nested};
+    ghost use Rattle.cdx_nest_machine.specs.declared.nested.ChildReader.{ChildReader};
+    ghost use Rattle.cdx_nest_machine.specs.declared.nested.ChildReader.TheVariants.{Leaf, Nested};
     ghost use Rattle.cdx_nest_machine.specs.Forms.{plan_of, first_of, last_step, IsNested};
     ghost use Rattle.cdx_nest_machine.specs.Children.{Deepens, HasReader, ReadsEach};
 
@@ -56,7 +56,7 @@ pub trait Nested: Drop {
     ghost tree: { Self.Value → Tree };
 
     /// What reads the child of a position in the plan of a kind: none where there is no such position.
-    ghost child_of: { Self.Sort → ℕ → Option (Reads Self.Leaf.Sort Self.Sort) };
+    ghost child_of: { Self.Sort → ℕ → Option (ChildReader Self.Leaf.Sort Self.Sort) };
 
     /// What becomes of what the plan has no child for.
     fn rule(&self) -> Rule
@@ -79,7 +79,7 @@ pub trait Nested: Drop {
             (fields self.now) version name.now.local_name };
 
     /// What reads the child of the position.
-    fn child(&self, position: usize) -> Reads<<Self::Leaf as Leaves>::Sort, Self::Sort>
+    fn child(&self, position: usize) -> ChildReader<<Self::Leaf as Leaves>::Sort, Self::Sort>
         requires { HasReader (child_of (sort_of self.now)) position }
         ensures { child_of (sort_of self.now) position ≡ Some result };
 

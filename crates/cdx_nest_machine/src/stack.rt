@@ -14,7 +14,7 @@ ghost use Rattle.cdx_nest_machine.specs.Stacks.{StartsStack, CanStepStack, Proce
 ghost use Rattle.cdx_nest_machine.specs.Frames.{leaf_holds, BeginsOpen};
 
 use crate::keeps::Keeps;
-use crate::nested::{Nested, Reads};
+use crate::nested::{Nested, ChildReader};
 use cdx_events::{List, OwnedAttribute, OwnedName, Text, XmlEvent};
 use cdx_leaf::{End, Start};
 use cdx_machine::{Found, Inside, Leaves, boxed, refuse_in, skip};
@@ -175,7 +175,7 @@ impl<F: Nested> StackMachine<F> {
     {
         match self.top.part.find(self.version, name) {
             Found::At(position) => match self.top.part.child(position) {
-                Reads::Leaf(sort) => {
+                ChildReader::Leaf(sort) => {
                     let started = F::Leaf::start(
                         sort,
                         &Start {
@@ -190,7 +190,7 @@ impl<F: Nested> StackMachine<F> {
                     self.inside = Inside::Read(LeafChild { machine, position });
                     Ok(false)
                 }
-                Reads::Nested(sort) => {
+                ChildReader::Nested(sort) => {
                     let inner = self.top.depth;
                     let open = open_at::<F>(
                         sort,

@@ -4,8 +4,8 @@ use Rattle.cdx_models.specs.Trees.{service, Tree, Trees}
 use Rattle.cdx_schema.specs.Kinds.{Kind, services, a_list, a_record}
 use Rattle.cdx_machine.specs.Records.{items_slots}
 use Rattle.cdx_machine.specs.Several.{at_position}
-use Rattle.cdx_nest_machine.specs.declared.nested.Reads.{Reads}
-use Rattle.cdx_nest_machine.specs.declared.nested.Reads.TheVariants.{Leaf, Nested}
+use Rattle.cdx_nest_machine.specs.declared.nested.ChildReader.{ChildReader}
+use Rattle.cdx_nest_machine.specs.declared.nested.ChildReader.TheVariants.{Leaf, Nested}
 use Rattle.cdx_push.specs.declared.kinds.LeafKind.{LeafKind}
 use Rattle.cdx_push.specs.declared.kinds.LeafKind.TheVariants as leaf_kinds
 use Rattle.cdx_service.specs.declared.frames.ServiceKind.{ServiceKind}
@@ -41,7 +41,7 @@ value_tree (values.Services xs) = services_tree xs
 -- ---- what reads each child, in the plan's order
 
 abbrev pub Reader : Type 0
-Reader = Reads LeafKind ServiceKind
+Reader = ChildReader LeafKind ServiceKind
 
 -- provider, group, name, version and description
 abbrev pub naming_readers : List Reader

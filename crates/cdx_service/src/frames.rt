@@ -12,7 +12,7 @@ use cdx_events::OwnedName;
 use cdx_leaf::{End, Rule, Start};
 use cdx_machine::Found;
 use cdx_models::{SpecVersion, XmlReadError};
-use cdx_nest_machine::{Nested, Reads};
+use cdx_nest_machine::{Nested, ChildReader};
 use cdx_push::{Leaf, LeafKind, LeafValue};
 use cdx_schema::Depth;
 use children::service_child;
@@ -123,10 +123,10 @@ impl Nested for ServiceFrame {
         }
     }
 
-    fn child(&self, position: usize) -> Reads<LeafKind, ServiceKind> {
+    fn child(&self, position: usize) -> ChildReader<LeafKind, ServiceKind> {
         match self {
             ServiceFrame::Service(_) => service_child(position),
-            ServiceFrame::Services(_) => Reads::Nested(ServiceKind::Service),
+            ServiceFrame::Services(_) => ChildReader::Nested(ServiceKind::Service),
         }
     }
 

@@ -106,7 +106,7 @@ pub(crate) trait RequestPart: Sized {
 }
 
 /// The parts that the values are, if each is one.
-pub(crate) fn read_items<P: RequestPart + Drop>(
+pub(crate) fn read_parts<P: RequestPart + Drop>(
     alloc: Global,
     values: &[Value],
 ) -> Result<Option<Items<P>>, AllocError>

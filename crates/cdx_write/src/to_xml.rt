@@ -23,7 +23,7 @@ pub trait Shown {
     ghost shown_kind: { Kind };
 
     // Whether there is something to write.
-    ghost counts: { Self → Bool };
+    ghost will_show: { Self → Bool };
 }
 
 /// A value is shown as its tree.
@@ -32,7 +32,7 @@ impl<T: HasContent> Shown for T {
 
     ghost shown_kind = { T.kind };
 
-    ghost counts = { λ x. will_write (T.tree x) };
+    ghost will_show = { λ x. will_write (T.tree x) };
 }
 
 /// A value that may be absent is shown where it is there, and there is something to write exactly there.
@@ -41,7 +41,7 @@ impl<T: Shown> Shown for Option<T> {
 
     ghost shown_kind = { T.shown_kind };
 
-    ghost counts = { is_some };
+    ghost will_show = { is_some };
 }
 
 /// A value that writes its element itself.
@@ -62,7 +62,7 @@ pub trait ToXml: Shown {
 
     /// Whether there is something to write. It takes no memory.
     fn will_write(&self) -> bool
-        ensures { result ≡ Self.counts self.now };
+        ensures { result ≡ Self.will_show self.now };
 }
 
 /// A value that is written under a name that the caller gives.
@@ -81,7 +81,7 @@ pub trait ToInnerXml: Shown {
 
     /// Whether there is something to write. It takes no memory.
     fn will_write(&self) -> bool
-        ensures { result ≡ Self.counts self.now };
+        ensures { result ≡ Self.will_show self.now };
 }
 
 /// A value with a name of its own is written under that.

@@ -13,7 +13,7 @@ use cdx_events::OwnedName;
 use cdx_machine::Found;
 use cdx_models::SpecVersion;
 use cdx_nest::NestKind;
-use cdx_nest_machine::Reads;
+use cdx_nest_machine::ChildReader;
 use cdx_push::LeafKind;
 
 /// The child of a bill that has the name, where the version knows it. The last of several counts, so none is a second
@@ -49,29 +49,29 @@ fn find_relation(version: SpecVersion, name: &OwnedName) -> Found
 }
 
 /// What reads the child of the position in a bill.
-pub(crate) fn bill_child(position: usize) -> Reads<LeafKind, BillKind>
+pub(crate) fn bill_child(position: usize) -> ChildReader<LeafKind, BillKind>
     requires { HasReader (at_position bill_readers) position }
     ensures { at_position bill_readers position ≡ Some result }
 {
     match position {
-        0 => Reads::Nested(BillKind::Nest(NestKind::Metadata)),
-        1 => Reads::Nested(BillKind::Nest(NestKind::Components)),
-        2 => Reads::Nested(BillKind::Nest(NestKind::Services)),
-        3 => Reads::Leaf(LeafKind::ExternalReferences),
-        4 => Reads::Leaf(LeafKind::Dependencies),
-        5 => Reads::Leaf(LeafKind::Compositions),
-        6 => Reads::Leaf(LeafKind::Properties),
-        7 => Reads::Leaf(LeafKind::Signature),
+        0 => ChildReader::Nested(BillKind::Nest(NestKind::Metadata)),
+        1 => ChildReader::Nested(BillKind::Nest(NestKind::Components)),
+        2 => ChildReader::Nested(BillKind::Nest(NestKind::Services)),
+        3 => ChildReader::Leaf(LeafKind::ExternalReferences),
+        4 => ChildReader::Leaf(LeafKind::Dependencies),
+        5 => ChildReader::Leaf(LeafKind::Compositions),
+        6 => ChildReader::Leaf(LeafKind::Properties),
+        7 => ChildReader::Leaf(LeafKind::Signature),
         _ => unreachable!(),
     }
 }
 
 /// What reads a child of what stands in a bill.
-pub(crate) fn nest_reads(reads: Reads<LeafKind, NestKind>) -> Reads<LeafKind, BillKind>
+pub(crate) fn nest_reads(reads: ChildReader<LeafKind, NestKind>) -> ChildReader<LeafKind, BillKind>
     ensures { result ≡ nest_reads reads }
 {
     match reads {
-        Reads::Leaf(kind) => Reads::Leaf(kind),
-        Reads::Nested(kind) => Reads::Nested(BillKind::Nest(kind)),
+        ChildReader::Leaf(kind) => ChildReader::Leaf(kind),
+        ChildReader::Nested(kind) => ChildReader::Nested(BillKind::Nest(kind)),
     }
 }

@@ -16,7 +16,7 @@ use cdx_leaf::{End, Rule, Start};
 use cdx_machine::Found;
 use cdx_models::{SpecVersion, XmlReadError};
 use cdx_nest::{NestFrame, NestKind, NestValue};
-use cdx_nest_machine::{Nested, Reads};
+use cdx_nest_machine::{Nested, ChildReader};
 use cdx_push::{Leaf, LeafKind, LeafValue};
 use cdx_schema::Depth;
 use std::alloc::{AllocError, Global};
@@ -126,7 +126,7 @@ impl Nested for BillFrame {
         }
     }
 
-    fn child(&self, position: usize) -> Reads<LeafKind, BillKind> {
+    fn child(&self, position: usize) -> ChildReader<LeafKind, BillKind> {
         match self {
             BillFrame::Nest(frame) => nest_reads(frame.child(position)),
             BillFrame::Bill(_) => bill_child(position),

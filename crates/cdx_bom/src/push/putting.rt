@@ -4,7 +4,7 @@ ghost use Rattle.std.specs.Prelude.{◌≡◌, Some};
 ghost use Rattle.cdx_models.specs.Trees.{bill};
 ghost use Rattle.cdx_schema.specs.XmlReading.{record_plan};
 ghost use Rattle.cdx_machine.specs.Several.{at_position, Puts};
-ghost use Rattle.cdx_nest_machine.specs.declared.nested.Reads.TheVariants.{Leaf, Nested};
+ghost use Rattle.cdx_nest_machine.specs.declared.nested.ChildReader.TheVariants.{Leaf, Nested};
 ghost use Rattle.cdx_push.specs.Leaf.{value_kind as leaf_value_kind, value_tree as leaf_value_tree};
 ghost use Rattle.cdx_nest.specs.Frames.{value_kind as nest_value_kind, value_tree as nest_value_tree};
 ghost use Rattle.cdx_bom.specs.Reading.{bill_slots};

@@ -4,4 +4,4 @@ mod calls;
 mod document;
 mod rows;
 
-pub(crate) use document::events_of;
+pub(crate) use document::document_events;

@@ -6,52 +6,52 @@ ghost use Rattle.cdx_nest_machine.specs.Children.{HasReader};
 ghost use Rattle.cdx_component.specs.Frames.{component_reads, pedigree_reads};
 
 use crate::frames::ComponentKind;
-use cdx_nest_machine::Reads;
+use cdx_nest_machine::ChildReader;
 use cdx_push::LeafKind;
 
 /// What reads the child of the position in a component.
-pub(crate) fn component_child(position: usize) -> Reads<LeafKind, ComponentKind>
+pub(crate) fn component_child(position: usize) -> ChildReader<LeafKind, ComponentKind>
     requires { HasReader (at_position component_reads) position }
     ensures { at_position component_reads position ≡ Some result }
 {
     match position {
-        0 => Reads::Leaf(LeafKind::Entity),
-        1 => Reads::Leaf(LeafKind::Text),
-        2 => Reads::Leaf(LeafKind::Text),
-        3 => Reads::Leaf(LeafKind::Text),
-        4 => Reads::Leaf(LeafKind::Text),
-        5 => Reads::Leaf(LeafKind::Text),
-        6 => Reads::Leaf(LeafKind::Text),
-        7 => Reads::Leaf(LeafKind::Text),
-        8 => Reads::Leaf(LeafKind::Hashes),
-        9 => Reads::Leaf(LeafKind::Licenses),
-        10 => Reads::Leaf(LeafKind::Text),
-        11 => Reads::Leaf(LeafKind::Text),
-        12 => Reads::Leaf(LeafKind::Text),
-        13 => Reads::Leaf(LeafKind::Swid),
-        14 => Reads::Leaf(LeafKind::Flag),
-        15 => Reads::Nested(ComponentKind::Pedigree),
-        16 => Reads::Leaf(LeafKind::ExternalReferences),
-        17 => Reads::Leaf(LeafKind::Properties),
-        18 => Reads::Nested(ComponentKind::Components),
-        19 => Reads::Leaf(LeafKind::Evidence),
-        20 => Reads::Leaf(LeafKind::Signature),
+        0 => ChildReader::Leaf(LeafKind::Entity),
+        1 => ChildReader::Leaf(LeafKind::Text),
+        2 => ChildReader::Leaf(LeafKind::Text),
+        3 => ChildReader::Leaf(LeafKind::Text),
+        4 => ChildReader::Leaf(LeafKind::Text),
+        5 => ChildReader::Leaf(LeafKind::Text),
+        6 => ChildReader::Leaf(LeafKind::Text),
+        7 => ChildReader::Leaf(LeafKind::Text),
+        8 => ChildReader::Leaf(LeafKind::Hashes),
+        9 => ChildReader::Leaf(LeafKind::Licenses),
+        10 => ChildReader::Leaf(LeafKind::Text),
+        11 => ChildReader::Leaf(LeafKind::Text),
+        12 => ChildReader::Leaf(LeafKind::Text),
+        13 => ChildReader::Leaf(LeafKind::Swid),
+        14 => ChildReader::Leaf(LeafKind::Flag),
+        15 => ChildReader::Nested(ComponentKind::Pedigree),
+        16 => ChildReader::Leaf(LeafKind::ExternalReferences),
+        17 => ChildReader::Leaf(LeafKind::Properties),
+        18 => ChildReader::Nested(ComponentKind::Components),
+        19 => ChildReader::Leaf(LeafKind::Evidence),
+        20 => ChildReader::Leaf(LeafKind::Signature),
         _ => unreachable!(),
     }
 }
 
 /// What reads the child of the position in a pedigree.
-pub(crate) fn pedigree_child(position: usize) -> Reads<LeafKind, ComponentKind>
+pub(crate) fn pedigree_child(position: usize) -> ChildReader<LeafKind, ComponentKind>
     requires { HasReader (at_position pedigree_reads) position }
     ensures { at_position pedigree_reads position ≡ Some result }
 {
     match position {
-        0 => Reads::Nested(ComponentKind::Components),
-        1 => Reads::Nested(ComponentKind::Components),
-        2 => Reads::Nested(ComponentKind::Components),
-        3 => Reads::Leaf(LeafKind::Commits),
-        4 => Reads::Leaf(LeafKind::Patches),
-        5 => Reads::Leaf(LeafKind::Text),
+        0 => ChildReader::Nested(ComponentKind::Components),
+        1 => ChildReader::Nested(ComponentKind::Components),
+        2 => ChildReader::Nested(ComponentKind::Components),
+        3 => ChildReader::Leaf(LeafKind::Commits),
+        4 => ChildReader::Leaf(LeafKind::Patches),
+        5 => ChildReader::Leaf(LeafKind::Text),
         _ => unreachable!(),
     }
 }

@@ -6,7 +6,7 @@ ghost use Rattle.cdx_schema.specs.Kinds.{components};
 ghost use Rattle.cdx_schema.specs.XmlReading.{record_plan, list_plan};
 ghost use Rattle.cdx_leaf.specs.Listing.{listing_slots};
 ghost use Rattle.cdx_machine.specs.Several.{at_position, Puts};
-ghost use Rattle.cdx_nest_machine.specs.declared.nested.Reads.TheVariants.{Leaf, Nested};
+ghost use Rattle.cdx_nest_machine.specs.declared.nested.ChildReader.TheVariants.{Leaf, Nested};
 ghost use Rattle.cdx_push.specs.Leaf.{value_kind as leaf_value_kind, value_tree as leaf_value_tree};
 ghost use Rattle.cdx_component.specs.Trees.{component_tree, component_items};
 ghost use Rattle.cdx_component.specs.PartTrees.{origin_trees, marks_trees, contents_trees};

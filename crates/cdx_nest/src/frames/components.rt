@@ -3,7 +3,7 @@
 ghost use Rattle.std.specs.Prelude.{◌≡◌, ◌+◌, Some, IfOk, OnOk};
 ghost use Rattle.cdx_leaf.specs.Attribute.{GivesAt};
 ghost use Rattle.cdx_machine.specs.Several.{Puts};
-ghost use Rattle.cdx_nest_machine.specs.declared.nested.Reads.TheVariants.{Nested};
+ghost use Rattle.cdx_nest_machine.specs.declared.nested.ChildReader.TheVariants.{Nested};
 ghost use Rattle.cdx_nest_machine.specs.Children.{HasReader};
 ghost use Rattle.cdx_nest_machine.specs.Forms.{plan_of, first_of, last_step};
 ghost use Rattle.cdx_component.specs.declared.frames.ComponentKind.{ComponentKind as Kinds};
@@ -14,7 +14,7 @@ use crate::frames::{NestFrame, NestKind, NestValue};
 use cdx_component::{ComponentFrame, ComponentKind, ComponentValue};
 use cdx_leaf::{End, Start};
 use cdx_models::XmlReadError;
-use cdx_nest_machine::{Nested, Reads};
+use cdx_nest_machine::{Nested, ChildReader};
 use cdx_push::LeafKind;
 use std::alloc::{AllocError, Global};
 
@@ -46,13 +46,13 @@ fn kind_among(kind: ComponentKind) -> NestKind
 pub(crate) fn child_in_components(
     frame: &ComponentFrame,
     position: usize,
-) -> Reads<LeafKind, NestKind>
+) -> ChildReader<LeafKind, NestKind>
     requires { HasReader (reader_of (among_components (component_frame_kind frame.now))) position }
     ensures { reader_of (among_components (component_frame_kind frame.now)) position ≡ Some result }
 {
     match frame.child(position) {
-        Reads::Leaf(kind) => Reads::Leaf(kind),
-        Reads::Nested(kind) => Reads::Nested(kind_among(kind)),
+        ChildReader::Leaf(kind) => ChildReader::Leaf(kind),
+        ChildReader::Nested(kind) => ChildReader::Nested(kind_among(kind)),
     }
 }
 

@@ -7,7 +7,7 @@ ghost use Rattle.cdx_models.specs.Trees.{metadata, fields, Trees};
 ghost use Rattle.cdx_schema.specs.XmlReading.{record_plan};
 ghost use Rattle.cdx_machine.specs.Plain.{attributes_first};
 ghost use Rattle.cdx_machine.specs.Several.{at_position, found_from, Puts};
-ghost use Rattle.cdx_nest_machine.specs.declared.nested.Reads.TheVariants.{Leaf, Nested};
+ghost use Rattle.cdx_nest_machine.specs.declared.nested.ChildReader.TheVariants.{Leaf, Nested};
 ghost use Rattle.cdx_nest_machine.specs.Children.{HasReader};
 ghost use Rattle.cdx_push.specs.Leaf.{value_kind as leaf_value_kind, value_tree as leaf_value_tree};
 ghost use Rattle.cdx_nest.specs.Trees.{metadata_tree};
@@ -19,7 +19,7 @@ use crate::metadata::Metadata;
 use crate::metadata::parts::{Makers, Terms, assemble};
 use cdx_events::OwnedName;
 use cdx_machine::Found;
-use cdx_nest_machine::Reads;
+use cdx_nest_machine::ChildReader;
 use cdx_push::{LeafKind, LeafValue};
 
 /// The rows that were read last.
@@ -70,19 +70,19 @@ pub(crate) fn find_in_metadata(name: &OwnedName) -> Found
 }
 
 /// What reads the child of the position in metadata.
-pub(crate) fn child_in_metadata(position: usize) -> Reads<LeafKind, NestKind>
+pub(crate) fn child_in_metadata(position: usize) -> ChildReader<LeafKind, NestKind>
     requires { HasReader (at_position metadata_reads) position }
     ensures { at_position metadata_reads position ≡ Some result }
 {
     match position {
-        0 => Reads::Leaf(LeafKind::Text),
-        1 => Reads::Nested(NestKind::Tools),
-        2 => Reads::Leaf(LeafKind::Authors),
-        3 => Reads::Nested(NestKind::Component),
-        4 => Reads::Leaf(LeafKind::Entity),
-        5 => Reads::Leaf(LeafKind::Entity),
-        6 => Reads::Leaf(LeafKind::Licenses),
-        7 => Reads::Leaf(LeafKind::Properties),
+        0 => ChildReader::Leaf(LeafKind::Text),
+        1 => ChildReader::Nested(NestKind::Tools),
+        2 => ChildReader::Leaf(LeafKind::Authors),
+        3 => ChildReader::Nested(NestKind::Component),
+        4 => ChildReader::Leaf(LeafKind::Entity),
+        5 => ChildReader::Leaf(LeafKind::Entity),
+        6 => ChildReader::Leaf(LeafKind::Licenses),
+        7 => ChildReader::Leaf(LeafKind::Properties),
         _ => unreachable!(),
     }
 }

@@ -3,7 +3,7 @@
 ghost use Rattle.std.specs.Prelude.{◌≡◌, ◌+◌, Some, IfOk, OnOk};
 ghost use Rattle.cdx_leaf.specs.Attribute.{GivesAt};
 ghost use Rattle.cdx_machine.specs.Several.{Puts};
-ghost use Rattle.cdx_nest_machine.specs.declared.nested.Reads.TheVariants.{Nested};
+ghost use Rattle.cdx_nest_machine.specs.declared.nested.ChildReader.TheVariants.{Nested};
 ghost use Rattle.cdx_nest_machine.specs.Children.{HasReader};
 ghost use Rattle.cdx_nest_machine.specs.Forms.{plan_of, first_of, last_step};
 ghost use Rattle.cdx_service.specs.declared.frames.ServiceKind.{ServiceKind as Kinds};
@@ -13,7 +13,7 @@ ghost use Rattle.cdx_nest.specs.Frames.{among_services, nest_kind, frame_kind, f
 use crate::frames::{NestFrame, NestKind, NestValue};
 use cdx_leaf::{End, Start};
 use cdx_models::XmlReadError;
-use cdx_nest_machine::{Nested, Reads};
+use cdx_nest_machine::{Nested, ChildReader};
 use cdx_push::LeafKind;
 use cdx_service::{ServiceFrame, ServiceKind, ServiceValue};
 use std::alloc::{AllocError, Global};
@@ -42,13 +42,13 @@ fn kind_among(kind: ServiceKind) -> NestKind
 }
 
 /// What reads the child of the position.
-pub(crate) fn child_in_services(frame: &ServiceFrame, position: usize) -> Reads<LeafKind, NestKind>
+pub(crate) fn child_in_services(frame: &ServiceFrame, position: usize) -> ChildReader<LeafKind, NestKind>
     requires { HasReader (reader_of (among_services (service_frame_kind frame.now))) position }
     ensures { reader_of (among_services (service_frame_kind frame.now)) position ≡ Some result }
 {
     match frame.child(position) {
-        Reads::Leaf(kind) => Reads::Leaf(kind),
-        Reads::Nested(kind) => Reads::Nested(kind_among(kind)),
+        ChildReader::Leaf(kind) => ChildReader::Leaf(kind),
+        ChildReader::Nested(kind) => ChildReader::Nested(kind_among(kind)),
     }
 }
 

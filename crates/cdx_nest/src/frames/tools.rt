@@ -5,7 +5,7 @@ ghost use Rattle.cdx_models.specs.Trees.{Trees, absent, more, two, present, is_a
 ghost use Rattle.cdx_schema.specs.XmlReading.{tools_object_of, tools_plan};
 ghost use Rattle.cdx_leaf.specs.Attribute.{GivesAt};
 ghost use Rattle.cdx_machine.specs.Several.{at_position, found_from, Puts};
-ghost use Rattle.cdx_nest_machine.specs.declared.nested.Reads.TheVariants.{Leaf, Nested};
+ghost use Rattle.cdx_nest_machine.specs.declared.nested.ChildReader.TheVariants.{Leaf, Nested};
 ghost use Rattle.cdx_nest_machine.specs.Children.{HasReader};
 ghost use Rattle.cdx_nest_machine.specs.Forms.{tools_last};
 ghost use Rattle.cdx_push.specs.Leaf.{value_kind as leaf_value_kind, value_tree as leaf_value_tree};
@@ -22,7 +22,7 @@ use cdx_events::{List, OwnedName};
 use cdx_leaf::End;
 use cdx_machine::Found;
 use cdx_models::{SpecVersion, Tool, XmlReadError};
-use cdx_nest_machine::Reads;
+use cdx_nest_machine::ChildReader;
 use cdx_push::{LeafKind, LeafValue};
 use cdx_service::Services;
 use cdx_write::is_there;
@@ -62,14 +62,14 @@ pub(crate) fn find_in_tools(version: SpecVersion, name: &OwnedName) -> Found
 }
 
 /// What reads the child of the position in tools.
-pub(crate) fn child_in_tools(position: usize) -> Reads<LeafKind, NestKind>
+pub(crate) fn child_in_tools(position: usize) -> ChildReader<LeafKind, NestKind>
     requires { HasReader (at_position tools_reads) position }
     ensures { at_position tools_reads position ≡ Some result }
 {
     match position {
-        0 => Reads::Leaf(LeafKind::Tool),
-        1 => Reads::Nested(NestKind::Services),
-        2 => Reads::Nested(NestKind::Components),
+        0 => ChildReader::Leaf(LeafKind::Tool),
+        1 => ChildReader::Nested(NestKind::Services),
+        2 => ChildReader::Nested(NestKind::Components),
         _ => unreachable!(),
     }
 }

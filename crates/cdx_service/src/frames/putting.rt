@@ -6,7 +6,7 @@ ghost use Rattle.cdx_schema.specs.Kinds.{services};
 ghost use Rattle.cdx_schema.specs.XmlReading.{record_plan, plan_of_list};
 ghost use Rattle.cdx_machine.specs.Records.{items_slots};
 ghost use Rattle.cdx_machine.specs.Several.{at_position, Puts};
-ghost use Rattle.cdx_nest_machine.specs.declared.nested.Reads.TheVariants.{Leaf, Nested};
+ghost use Rattle.cdx_nest_machine.specs.declared.nested.ChildReader.TheVariants.{Leaf, Nested};
 ghost use Rattle.cdx_push.specs.Leaf.{value_kind as leaf_value_kind, value_tree as leaf_value_tree};
 ghost use Rattle.cdx_service.specs.Frames.{value_kind, value_tree, service_readers, services_readers, naming_readers, access_readers, contents_readers};
 ghost use Rattle.cdx_service.specs.Trees.{service_tree, service_items};

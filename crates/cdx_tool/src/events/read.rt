@@ -7,7 +7,7 @@ ghost use Rattle.cdx_tool.specs.LoneMember.{lone_member};
 ghost use Rattle.cdx_request.specs.EventReading.{name_at, members_of_name, attribute_meant, if_attributes, mark_of, members_of_start, start_parts, start_event, end_event, event_of, events_of};
 
 use crate::part::{
-    RequestPart, count_members, count_named, has_member, lone_member, read_items, read_text_if,
+    RequestPart, count_members, count_named, has_member, lone_member, read_parts, read_text_if,
     text_at,
 };
 use cdx_events::{List as Items, Namespace, OwnedAttribute, OwnedName, Text, XmlEvent as Event};
@@ -74,7 +74,7 @@ fn read_event_attributes(
     };
     match value.as_array() {
         None => Ok(None),
-        Some(items) => read_items(alloc, items.as_slice()),
+        Some(items) => read_parts(alloc, items.as_slice()),
     }
 }
 
@@ -202,6 +202,6 @@ pub(crate) fn events_if(alloc: Global, value: &Value) -> Result<Option<Items<Eve
 {
     match value.as_array() {
         None => Ok(None),
-        Some(values) => read_items(alloc, values.as_slice()),
+        Some(values) => read_parts(alloc, values.as_slice()),
     }
 }

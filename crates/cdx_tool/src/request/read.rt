@@ -13,7 +13,7 @@ use super::sent::{Asked, Sent};
 use super::{Request, RequestError};
 use crate::events::events_if;
 use crate::part::{
-    RequestPart, array_at, count_members, has_member, read_items, take_member, text_at, version_at,
+    RequestPart, array_at, count_members, has_member, read_parts, take_member, text_at, version_at,
 };
 use cdx_bom::{Doc, Form, Hop};
 use cdx_events::{Events, EventsError, List, XmlEvent};
@@ -56,7 +56,7 @@ fn read_hops(alloc: Global, value: &Value) -> Result<Option<List<Hop>>, AllocErr
 {
     match array_at(value, "hops") {
         None => Ok(None),
-        Some(values) => read_items(alloc, values.as_slice()),
+        Some(values) => read_parts(alloc, values.as_slice()),
     }
 }
 

@@ -6,7 +6,7 @@ ghost use Rattle.cdx_bom.specs.BillWriting.{WritesBill, PutsBill};
 
 use crate::bom::Bom;
 use crate::refused::lacks_version;
-use crate::xml::writing::events_of;
+use crate::xml::writing::document_events;
 use cdx_events::{EventSink, Events, SendError, send};
 use cdx_models::{SpecVersion, XmlWriteError};
 use cdx_schema::Target;
@@ -22,7 +22,7 @@ impl Bom {
         if !self.fits(version) {
             return Err(XmlWriteError::BomError(lacks_version()));
         }
-        Ok(events_of(self, Target { alloc, version })?)
+        Ok(document_events(self, Target { alloc, version })?)
     }
 
     /// The events of the bill in CycloneDX 1.3, with the refusals of `output_xml`.

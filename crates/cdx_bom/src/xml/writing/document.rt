@@ -101,7 +101,7 @@ impl ToXml for Bom {
 }
 
 /// The events of the document of what the version keeps. Only want of memory refuses.
-pub(crate) fn events_of(held: &Bom, target: Target) -> Result<Events, AllocError>
+pub(crate) fn document_events(held: &Bom, target: Target) -> Result<Events, AllocError>
     ensures { IfOk result
         (λ e. e.list ≡ xml_document
         (keep target.version (bom_tree held.now) a_bill) target.version) }

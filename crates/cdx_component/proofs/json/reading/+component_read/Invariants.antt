@@ -1,7 +1,7 @@
 use Rattle.std.proofs.Common.{◌≡◌, ◌+◌, ◌-◌, ◌*◌, drop}
 use Rattle.serde_json.specs.View.{items_view}
 use Rattle.cdx_schema.specs.Kinds.{a_record}
-use Rattle.cdx_schema.specs.JsonReading.{items_read}
+use Rattle.cdx_schema.specs.JsonReading.{array_read}
 use Rattle.cdx_schema.specs.Depths.{depth_of}
 use Rattle.cdx_json.proofs.Loops.{with_front}
 use Rattle.cdx_models.specs.Trees.{component, each}
@@ -39,4 +39,4 @@ decreases-component_from_members l = 10 * (40 - l.context.depth.components) + 8
 
 abbrev pub invariant-components_from_items-loop-i : goal.invariant-components_from_items-loop-i
 invariant-components_from_items-loop-i l =
-    with_front (each component_tree (component_items l.list)) (items_read (items_view (drop l.i l.item-items)) l.context.version (a_record component) (depth_of l.context.depth) l.i) ≡ items_read (items_view l.items.items) l.context.version (a_record component) (depth_of l.context.depth) 0
+    with_front (each component_tree (component_items l.list)) (array_read (items_view (drop l.i l.item-items)) l.context.version (a_record component) (depth_of l.context.depth) l.i) ≡ array_read (items_view l.items.items) l.context.version (a_record component) (depth_of l.context.depth) 0

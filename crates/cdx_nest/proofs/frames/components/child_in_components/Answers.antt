@@ -1,5 +1,5 @@
 use Rattle.std.proofs.Common.{Some, sym, ap, ◌∙◌}
-use Rattle.cdx_nest_machine.specs.declared.nested.Reads.TheVariants.{Leaf, Nested}
+use Rattle.cdx_nest_machine.specs.declared.nested.ChildReader.TheVariants.{Leaf, Nested}
 use Rattle.cdx_component.specs.Frames.{frame_kind}
 use Rattle.cdx_nest.proofs.NestFrames.{component_has, component_child}
 use Rattle.cdx_nest.proofs.frames.components.child_in_components.Goals as goal

@@ -1,5 +1,5 @@
 use Rattle.std.proofs.Common.{Some, sym, ap, ◌∙◌}
-use Rattle.cdx_nest_machine.specs.declared.nested.Reads.TheVariants.{Leaf, Nested}
+use Rattle.cdx_nest_machine.specs.declared.nested.ChildReader.TheVariants.{Leaf, Nested}
 use Rattle.cdx_service.specs.Frames.{frame_kind}
 use Rattle.cdx_nest.proofs.NestFrames.{service_has, service_child}
 use Rattle.cdx_nest.proofs.frames.services.child_in_services.Goals as goal

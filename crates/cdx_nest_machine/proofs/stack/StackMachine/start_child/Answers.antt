@@ -5,7 +5,7 @@ use Rattle.cdx_machine.specs.declared.frame.Inside.TheVariants.{Nothing, Read, S
 use Rattle.cdx_machine.specs.Begun.{next}
 use Rattle.cdx_machine.proofs.Names.{found_at, found_none, found_second}
 use Rattle.cdx_machine.proofs.Frames.{enters_skipped}
-use Rattle.cdx_nest_machine.specs.declared.nested.Reads.TheVariants.{Leaf, Nested}
+use Rattle.cdx_nest_machine.specs.declared.nested.ChildReader.TheVariants.{Leaf, Nested}
 use Rattle.cdx_nest_machine.specs.Forms.{plan_of}
 use Rattle.cdx_nest_machine.specs.declared.stack.Open.{Open}
 use Rattle.cdx_nest_machine.specs.declared.stack.Waiting.{Waiting}

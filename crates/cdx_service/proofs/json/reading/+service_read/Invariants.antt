@@ -1,7 +1,7 @@
 use Rattle.std.proofs.Common.{◌≡◌, ◌+◌, ◌-◌, ◌*◌, drop}
 use Rattle.serde_json.specs.View.{items_view}
 use Rattle.cdx_schema.specs.Kinds.{a_record}
-use Rattle.cdx_schema.specs.JsonReading.{items_read}
+use Rattle.cdx_schema.specs.JsonReading.{array_read}
 use Rattle.cdx_schema.specs.Depths.{depth_of}
 use Rattle.cdx_json.proofs.Loops.{with_front}
 use Rattle.cdx_models.specs.Trees.{service, each}
@@ -30,4 +30,4 @@ decreases-service_from_members l = 10 * (40 - l.context.depth.services) + 5
 
 abbrev pub invariant-services_from_items-loop-i : goal.invariant-services_from_items-loop-i
 invariant-services_from_items-loop-i l =
-    with_front (each service_tree (service_items l.list)) (items_read (items_view (drop l.i l.item-items)) l.context.version (a_record service) (depth_of l.context.depth) l.i) ≡ items_read (items_view l.items.items) l.context.version (a_record service) (depth_of l.context.depth) 0
+    with_front (each service_tree (service_items l.list)) (array_read (items_view (drop l.i l.item-items)) l.context.version (a_record service) (depth_of l.context.depth) l.i) ≡ array_read (items_view l.items.items) l.context.version (a_record service) (depth_of l.context.depth) 0

@@ -1,5 +1,5 @@
 use Rattle.std.proofs.Common.{◌≡◌, Some, subst}
-use Rattle.cdx_nest_machine.specs.declared.nested.Reads.TheVariants.{Nested}
+use Rattle.cdx_nest_machine.specs.declared.nested.ChildReader.TheVariants.{Nested}
 use Rattle.cdx_nest.specs.Frames as nests
 use Rattle.cdx_bom.specs.Frames.{frame_kind, value_kind, reader_of}
 use Rattle.cdx_bom.specs.declared.push.frame.BillKind.TheVariants.{Nest}

@@ -1,5 +1,5 @@
 use Rattle.std.proofs.Common.{◌≡◌, Some, subst}
-use Rattle.cdx_nest_machine.specs.declared.nested.Reads.TheVariants.{Leaf}
+use Rattle.cdx_nest_machine.specs.declared.nested.ChildReader.TheVariants.{Leaf}
 use Rattle.cdx_push.specs.Leaf.{value_kind}
 use Rattle.cdx_nest.specs.Frames as nests
 use Rattle.cdx_bom.specs.Frames.{frame_kind, reader_of}
