@@ -1,10 +1,11 @@
 -- `equal` decides whether two trees are equal.
-use Rattle.std.proofs.Common.{◌≡◌, ℕ, Bool, true, false, ◌&&◌, ◌==◌, refl, sym, ap, ◌∙◌, subst, Decides, List, [], ◌∷◌, get_or, eq-eqb}
+use Rattle.std.proofs.Common.{◌≡◌, Bool, true, false, ◌&&◌, ◌==◌, refl, sym, ap, ◌∙◌, subst, Decides, eq-eqb}
 use Rattle.std.proofs.lemmas.Bool.{eqb-true, false≢true}
 use Rattle.std.proofs.lemmas.Bool.Decides.{same_from_decides}
 use Rattle.std.proofs.lemmas.Slice.Eq.{bytes_eq-Decides}
 use Rattle.std.specs.Cmp.{IsPartialEquivalence}
-use Rattle.cdx_models.specs.Trees.{Name, hash, property, attached_text, contact, entity, commit, action, patch, diff, issue, source, reference, dependency, composition, license, expression, spdx_id, license_name, tool, component, swid, pedigree, evidence, copyright, service, classification, service_data, tools_object, metadata, signer, signers, chain, bill, Tree, absent, text, number, boolean, items, fields, Trees, none, more}
+use Rattle.cdx_models.specs.Trees.{Tree, absent, text, number, boolean, items, fields, Trees, none, more}
+use Rattle.cdx_models.specs.Names.{code-injective}
 use Rattle.cdx_models.specs.Equal.{name_code, equal_bool, equal, equal_each}
 
 -- a test of two parts
@@ -14,53 +15,6 @@ both false b e = absurd (false≢true e)
 
 both_hold : (a b : Bool) → a ≡ true → b ≡ true → (a && b) ≡ true
 both_hold a b p q = rw (p, q) refl
-
--- the names in the order of their numbers
-abbrev names : List Name
-names = hash ∷ property ∷ attached_text ∷ contact ∷ entity ∷ commit ∷ action ∷ patch ∷ diff ∷ issue ∷ source
-    ∷ reference ∷ dependency ∷ composition ∷ license ∷ expression ∷ spdx_id ∷ license_name ∷ tool ∷ component ∷ swid ∷ pedigree
-    ∷ evidence ∷ copyright ∷ service ∷ classification ∷ service_data ∷ tools_object ∷ metadata ∷ signer ∷ signers ∷ chain ∷ bill ∷ []
-
-abbrev name_of : ℕ → Name
-name_of c = get_or names c hash
-
-code-back : (n : Name) → name_of (name_code n) ≡ n
-code-back hash = refl
-code-back property = refl
-code-back attached_text = refl
-code-back contact = refl
-code-back entity = refl
-code-back commit = refl
-code-back action = refl
-code-back patch = refl
-code-back diff = refl
-code-back issue = refl
-code-back source = refl
-code-back reference = refl
-code-back dependency = refl
-code-back composition = refl
-code-back license = refl
-code-back expression = refl
-code-back spdx_id = refl
-code-back license_name = refl
-code-back tool = refl
-code-back component = refl
-code-back swid = refl
-code-back pedigree = refl
-code-back evidence = refl
-code-back copyright = refl
-code-back service = refl
-code-back classification = refl
-code-back service_data = refl
-code-back tools_object = refl
-code-back metadata = refl
-code-back signer = refl
-code-back signers = refl
-code-back chain = refl
-code-back bill = refl
-
-code-injective : (n m : Name) → name_code n ≡ name_code m → n ≡ m
-code-injective n m e = sym (code-back n) ∙ ap name_of e ∙ code-back m
 
 equal_bool-sound : (a b : Bool) → equal_bool a b ≡ true → a ≡ b
 equal_bool-sound true true e = refl

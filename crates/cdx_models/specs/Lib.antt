@@ -1,6 +1,7 @@
 pub mod Versions
 pub mod Trees
 pub mod Equal
+pub mod Names
 pub mod EqualLaws
 pub mod Addresses
 pub mod Records
