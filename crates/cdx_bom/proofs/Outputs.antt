@@ -1,5 +1,5 @@
 -- What a bill is written as, and why it may not be.
-use Rattle.std.proofs.Common.{◌≡◌, ℕ, List, Bool, true, false, Option, Result, Ok, Err, refl, sym, ap, ◌∙◌}
+use Rattle.std.proofs.Common.{◌≡◌, Bool, true, false, Result, Ok, Err, refl, sym, ap, ◌∙◌}
 use Rattle.serde_json.specs.Data.{Data}
 use Rattle.serde_json.specs.Written.{has_float}
 use Rattle.cdx_models.specs.declared.bom.SpecVersion.{SpecVersion}
@@ -15,7 +15,7 @@ use Rattle.cdx_schema.specs.Kinds.{a_bill}
 use Rattle.cdx_schema.specs.Keeping.{keep, fits}
 use Rattle.cdx_schema.proofs.Clear.{spelling_clear}
 use Rattle.cdx_json.specs.Gives.{Makes}
-use Rattle.cdx_bom.specs.Outputs.{LacksVersion, Outputs, IsRefused, kept_json}
+use Rattle.cdx_bom.specs.Outputs.{LacksVersion, Outputs, kept_json}
 
 misfit : (w : SpecVersion) (b : Tree) → fits w b a_bill ≡ false → w ≡ V1_3
 misfit V1_3 b h = refl
@@ -55,11 +55,6 @@ pub refused_alike : {X Y : Type 0} (P : X → Type 0) (Q : Y → Type 0) (e : Js
 refused_alike P Q (write.Memory m) w b h = tt
 refused_alike P Q (write.JsonElementWriteError n) w b h = h
 refused_alike P Q (write.BomError e) w b h = h
-
-pub refused_before : {K X : Type 0} (P : X → Type 0) (e : JsonWriteError) (w : SpecVersion) (b : Tree) (written : K → Option (List ℕ)) (faults : K → ℕ) (s : K) → Outputs (failed X e) w b P → IsRefused w b written faults s s e
-refused_before P (write.Memory m) w b written faults s h = refl
-refused_before P (write.JsonElementWriteError n) w b written faults s h = absurd h
-refused_before P (write.BomError e) w b written faults s h = (h, refl)
 
 -- no spelling holds a float
 pub spelled_clear : (x : Data) (w : SpecVersion) (b : Tree) → x ≡ kept_json w b → has_float x ≡ false

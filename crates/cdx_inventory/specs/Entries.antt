@@ -3,10 +3,10 @@ use Rattle.std.specs.Prelude.{ℕ, List, [], ◌∷◌, map, filter, Bool, Optio
 use Rattle.std.specs.Str.{bytes_eq}
 use Rattle.std.specs.List.{list_any}
 use Rattle.cdx_models.specs.declared.errors.Step.{Step}
-use Rattle.cdx_models.specs.Trees.{license, expression, Tree, items, fields, Trees, none, more, field}
+use Rattle.cdx_models.specs.Trees.{license, expression, Tree, items, fields, Trees, none, more, field, fields_of}
 use Rattle.cdx_ways.specs.Ways.{At}
 use Rattle.cdx_inventory.specs.declared.entry.Entry.{Entry}
-use Rattle.cdx_inventory.specs.Listing.{listed, parts, text_itself, the_licenses, name_of, component_version}
+use Rattle.cdx_inventory.specs.Listing.{listed, text_itself, the_licenses, name_of, component_version}
 
 pub record Told : Type 0 where
   pub path : List Step
@@ -20,7 +20,7 @@ members_of _ = none
 
 -- of a license its id or name, of an expression its text
 abbrev pub license_text : Tree → List ℕ
-license_text (fields license ts) = text_itself (field 0 (parts (field 1 ts)))
+license_text (fields license ts) = text_itself (field 0 (fields_of (field 1 ts)))
 license_text (fields expression ts) = text_itself (field 1 ts)
 license_text _ = []
 
@@ -30,7 +30,7 @@ license_texts (more t ts) = license_text t ∷ license_texts ts
 
 -- the texts of a component's licenses; those in evidence don't count
 abbrev pub licenses_of : Tree → List (List ℕ)
-licenses_of c = license_texts (members_of (field the_licenses (parts c)))
+licenses_of c = license_texts (members_of (field the_licenses (fields_of c)))
 
 -- the path, the name, the version where there is one, and the texts of the licenses
 abbrev pub entry : At Tree → Told

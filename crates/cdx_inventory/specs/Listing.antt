@@ -3,7 +3,7 @@ use Rattle.std.specs.Prelude.{◌≡◌, ◌≢◌, ℕ, suc, ◌+◌, List, [],
 use Rattle.cdx_models.specs.declared.errors.Step.{Step}
 use Rattle.cdx_models.specs.declared.bom.SpecVersion.{SpecVersion}
 use Rattle.cdx_models.specs.declared.bom.SpecVersion.TheVariants.{V1_3, V1_4, V1_5}
-use Rattle.cdx_models.specs.Trees.{Name, component, Tree, absent, text, number, boolean, items, fields, Trees, none, more, field}
+use Rattle.cdx_models.specs.Trees.{Name, component, Tree, absent, text, number, boolean, items, fields, Trees, none, more, field, fields_of}
 use Rattle.cdx_schema.specs.Kinds.{Kind, a_bill, Row}
 use Rattle.cdx_schema.specs.Held.{held_kind}
 use Rattle.cdx_schema.specs.Table.{rows}
@@ -47,10 +47,6 @@ listed b = listed_in b a_bill
 
 -- ---- what a component is called
 
-abbrev pub parts : Tree → Trees
-parts (fields n ts) = ts
-parts _ = none
-
 abbrev pub text_itself : Tree → List ℕ
 text_itself (text s) = s
 text_itself _ = []
@@ -70,11 +66,11 @@ abbrev pub the_licenses : ℕ
 the_licenses = 12
 
 abbrev pub name_of : Tree → List ℕ
-name_of c = text_itself (field the_name (parts c))
+name_of c = text_itself (field the_name (fields_of c))
 
 -- the version, where there is one
 abbrev pub component_version : Tree → Option (List ℕ)
-component_version c = text_there (field the_version (parts c))
+component_version c = text_there (field the_version (fields_of c))
 
 -- ---- the laws
 

@@ -5,6 +5,7 @@ use Rattle.serde_json.specs.View.{view, items_view}
 use Rattle.serde_json.specs.declared.value.Value.{Value}
 use Rattle.cdx_models.specs.declared.bom.SpecVersion.{SpecVersion}
 use Rattle.cdx_schema.specs.Depth.{Depth}
+use Rattle.cdx_schema.specs.Depths.{depth_of}
 use Rattle.cdx_models.specs.declared.errors.Step.TheVariants.{Item}
 use Rattle.cdx_models.specs.Trees.{Tree, items, Trees, none, more, each, ◌⧺◌}
 use Rattle.cdx_models.proofs.Lists.{trees-push}
@@ -14,6 +15,7 @@ use Rattle.cdx_schema.specs.Faults.{JsonFault, under}
 use Rattle.cdx_schema.specs.JsonReading.{jread, array_read}
 use Rattle.cdx_models.specs.declared.errors.JsonReadError.{JsonReadError}
 use Rattle.cdx_models.specs.declared.errors.JsonReadError.TheVariants.{JsonElementReadError, BomError, Memory}
+use Rattle.cdx_json.specs.declared.context.Context.{Context}
 use Rattle.cdx_json.specs.Gives.{Fails, IsWithin, fault}
 use Rattle.cdx_json.proofs.Rows.{within_fails}
 
@@ -46,29 +48,58 @@ items-step vs i v k w d h is =
     ∙ ap (λ y. under (Item i) (jread (view y) w k d) >>= λ t. array_read (items_view (drop (i + 1) vs)) w k d (suc i) >>= λ ts. Ok (more t ts)) (sym is)
     ∙ ap (λ j. under (Item i) (jread (view v) w k d) >>= λ t. array_read (items_view (drop (i + 1) vs)) w k d j >>= λ ts. Ok (more t ts)) (suc_is i)
 
-pub goes_on : {A : Type 0} (f : A → Tree) (done : List A) (vs : List Value) (i : ℕ) (v : Value) (x : A) (k : Kind) (w : SpecVersion) (d : Depth) (whole : Result Trees JsonFault) → i < length vs → v ≡ get_or vs i v → jread (view v) w k d ≡ Ok (f x)
-    → with_front (each f done) (array_read (items_view (drop i vs)) w k d i) ≡ whole
-    → with_front (each f (done ++ x ∷ [])) (array_read (items_view (drop (i + 1) vs)) w k d (i + 1)) ≡ whole
-goes_on f done vs i v x k w d whole h is read inv =
-    let rest = array_read (items_view (drop (i + 1) vs)) w k d (i + 1) in
-    ap (λ ts. with_front ts rest) (trees-push f done x) ∙ sym (with_front-more (each f done) (f x) rest)
-    ∙ ap (with_front (each f done)) (sym (items-step vs i v k w d h is ∙ ap (λ r. under (Item i) r >>= λ t. rest >>= λ ts. Ok (more t ts)) read))
+-- A loop that reads an array's items as values of one kind: what it has read, and how far it has come.
+pub record ReadingLoop (A : Type 0) : Type 0 where
+  pub tree : A → Tree
+  pub kind : Kind
+  pub version : SpecVersion
+  pub depth : Depth
+  pub values : List Value
+  pub index : ℕ
+  pub done : List A
+  pub whole : Result Trees JsonFault
+
+-- the loop over these items, in a context
+abbrev pub reading_items : {A : Type 0} → (A → Tree) → Kind → Context → List Value → List Value → List A → ℕ → ReadingLoop A
+reading_items f k c all vs done i = record {
+  tree = f;
+  kind = k;
+  version = c.version;
+  depth = depth_of c.depth;
+  values = vs;
+  index = i;
+  done = done;
+  whole = array_read (items_view all) c.version k (depth_of c.depth) 0;
+}
+
+abbrev pub one_further : {A : Type 0} → ReadingLoop A → A → ReadingLoop A
+one_further l x = record { tree = l.tree; kind = l.kind; version = l.version; depth = l.depth; values = l.values; index = l.index + 1; done = l.done ++ x ∷ []; whole = l.whole }
+
+-- What was read, and what is read of the items that are left, come to the whole.
+abbrev pub IsReadSoFar : {A : Type 0} → ReadingLoop A → Type 0
+IsReadSoFar l = with_front (each l.tree l.done) (array_read (items_view (drop l.index l.values)) l.version l.kind l.depth l.index) ≡ l.whole
+
+pub goes_on : {A : Type 0} (l : ReadingLoop A) (v : Value) (x : A) → l.index < length l.values → v ≡ get_or l.values l.index v → jread (view v) l.version l.kind l.depth ≡ Ok (l.tree x)
+    → IsReadSoFar l → IsReadSoFar (one_further l x)
+goes_on l v x h is read inv =
+    let rest = array_read (items_view (drop (l.index + 1) l.values)) l.version l.kind l.depth (l.index + 1) in
+    ap (λ ts. with_front ts rest) (trees-push l.tree l.done x) ∙ sym (with_front-more (each l.tree l.done) (l.tree x) rest)
+    ∙ ap (with_front (each l.tree l.done)) (sym (items-step l.values l.index v l.kind l.version l.depth h is ∙ ap (λ r. under (Item l.index) r >>= λ t. rest >>= λ ts. Ok (more t ts)) read))
     ∙ inv
 
-pub ends : {A : Type 0} (f : A → Tree) (done : List A) (vs : List Value) (i : ℕ) (k : Kind) (w : SpecVersion) (d : Depth) (whole : Result Trees JsonFault) → length vs ≤ i
-    → with_front (each f done) (array_read (items_view (drop i vs)) w k d i) ≡ whole → whole ≡ Ok (each f done)
+pub ends : {A : Type 0} (l : ReadingLoop A) → length l.values ≤ l.index → IsReadSoFar l → l.whole ≡ Ok (each l.tree l.done)
 unfolding jread
-ends f done vs i k w d whole h inv =
-    sym inv ∙ ap (with_front (each f done)) (at_drop_all (λ ws. array_read (items_view ws) w k d i) vs i h) ∙ ap Ok (append_none (each f done))
+ends l h inv =
+    sym inv ∙ ap (with_front (each l.tree l.done)) (at_drop_all (λ ws. array_read (items_view ws) l.version l.kind l.depth l.index) l.values l.index h) ∙ ap Ok (append_none (each l.tree l.done))
 
 -- an item's fault is the list's
-pub stops : {A : Type 0} (f : A → Tree) (done : List A) (vs : List Value) (i : ℕ) (v : Value) (k : Kind) (w : SpecVersion) (d : Depth) (whole : Result Trees JsonFault) (old new : JsonReadError) → i < length vs → v ≡ get_or vs i v → Fails old (jread (view v) w k d) → IsWithin (Item i) old new
-    → with_front (each f done) (array_read (items_view (drop i vs)) w k d i) ≡ whole → Fails new (whole >>= λ ts. Ok (items ts))
-stops f done vs i v k w d whole old (Memory m) h is fails at inv = tt
-stops f done vs i v k w d whole (Memory m) (BomError c) h is fails at inv = absurd at
-stops f done vs i v k w d whole (BomError b) (BomError c) h is fails at inv = absurd fails
-stops f done vs i v k w d whole (JsonElementReadError p q) (BomError c) h is fails at inv = absurd at
-stops f done vs i v k w d whole old (JsonElementReadError path kind) h is fails at inv =
-    let failed : under (Item i) (jread (view v) w k d) ≡ Err (fault path.0 kind) = within_fails (Item i) old (JsonElementReadError path kind) (jread (view v) w k d) fails at in
-    let all = ap (with_front (each f done)) (items-step vs i v k w d h is ∙ ap (λ r. r >>= λ t. array_read (items_view (drop (i + 1) vs)) w k d (i + 1) >>= λ ts. Ok (more t ts)) failed) in
+pub stops : {A : Type 0} (l : ReadingLoop A) (v : Value) (old new : JsonReadError) → l.index < length l.values → v ≡ get_or l.values l.index v → Fails old (jread (view v) l.version l.kind l.depth)
+    → IsWithin (Item l.index) old new → IsReadSoFar l → Fails new (l.whole >>= λ ts. Ok (items ts))
+stops l v old (Memory m) h is fails at inv = tt
+stops l v (Memory m) (BomError c) h is fails at inv = absurd at
+stops l v (BomError b) (BomError c) h is fails at inv = absurd fails
+stops l v (JsonElementReadError p q) (BomError c) h is fails at inv = absurd at
+stops l v old (JsonElementReadError path kind) h is fails at inv =
+    let failed : under (Item l.index) (jread (view v) l.version l.kind l.depth) ≡ Err (fault path.0 kind) = within_fails (Item l.index) old (JsonElementReadError path kind) (jread (view v) l.version l.kind l.depth) fails at in
+    let all = ap (with_front (each l.tree l.done)) (items-step l.values l.index v l.kind l.version l.depth h is ∙ ap (λ r. r >>= λ t. array_read (items_view (drop (l.index + 1) l.values)) l.version l.kind l.depth (l.index + 1) >>= λ ts. Ok (more t ts)) failed) in
     ap (λ r. r >>= λ ts. Ok (items ts)) (sym inv ∙ all)

@@ -34,8 +34,8 @@ reason_in V1_4 k n ts = reason_before_1_5 k n ts
 reason_in V1_5 k n ts = None
 
 abbrev pub changed_by : SpecVersion → Kind → Tree → Option Reason
-changed_by u k (fields n ts) = reason_in u k n ts
-changed_by u k _ = None
+changed_by w k (fields n ts) = reason_in w k n ts
+changed_by w k _ = None
 
 -- Whether trips through XML, counted to two, take a field that is there. The first makes it absent, or the second does:
 -- that takes a component's supplier which the first leaves without name, url and contact.
@@ -54,12 +54,12 @@ if_so b why = if b then Some why else None
 
 -- Why a road with the lowest version u and n trips takes a field, which has to be there.
 abbrev pub field_reason : SpecVersion → ℕ → Row → Tree → Option Reason
-field_reason u n r absent = None
-field_reason u n r t = or_else (if_so (not (knows r.since u)) Version) (or_else (changed_by u r.kind t) (if_so (is_tripped n r t) Xml))
+field_reason w n r absent = None
+field_reason w n r t = or_else (if_so (not (knows r.since w)) Version) (or_else (changed_by w r.kind t) (if_so (is_tripped n r t) Xml))
 
 -- Why it takes an item of a list.
 abbrev pub item_reason : SpecVersion → ℕ → Kind → Tree → Option Reason
-item_reason u n k t = or_else (changed_by u k t) (if_so (is_skipped n t) Xml)
+item_reason w n k t = or_else (changed_by w k t) (if_so (is_skipped n t) Xml)
 
 -- ---- what is taken
 
@@ -71,21 +71,21 @@ entry_or None below = below
 -- What is taken of what stands inside a tree of a kind, in the order of rows and items.
 unfoldable mutual
   pub lost : SpecVersion → ℕ → Tree → Kind → List (At Reason)
-  lost u n absent k = []
-  lost u n (text s) k = []
-  lost u n (number m) k = []
-  lost u n (boolean b) k = []
-  lost u n (items ts) k = items_lost u n ts (held_kind k) 0
-  lost u n (fields m ts) k = behind_choice k m (rows_lost u n ts (rows m))
+  lost w n absent k = []
+  lost w n (text s) k = []
+  lost w n (number m) k = []
+  lost w n (boolean b) k = []
+  lost w n (items ts) k = items_lost w n ts (held_kind k) 0
+  lost w n (fields m ts) k = behind_choice k m (rows_lost w n ts (rows m))
 
   pub items_lost : SpecVersion → ℕ → Trees → Kind → ℕ → List (At Reason)
-  items_lost u n none k i = []
-  items_lost u n (more t ts) k i = behind_step (to_item i) (entry_or (item_reason u n k t) (lost u n t k)) ++ items_lost u n ts k (suc i)
+  items_lost w n none k i = []
+  items_lost w n (more t ts) k i = behind_step (to_item i) (entry_or (item_reason w n k t) (lost w n t k)) ++ items_lost w n ts k (suc i)
 
   pub rows_lost : SpecVersion → ℕ → Trees → List Row → List (At Reason)
-  rows_lost u n none rs = []
-  rows_lost u n (more t ts) [] = []
-  rows_lost u n (more t ts) (r ∷ rs) = behind_row r.json (entry_or (field_reason u n r t) (lost u n t r.kind)) ++ rows_lost u n ts rs
+  rows_lost w n none rs = []
+  rows_lost w n (more t ts) [] = []
+  rows_lost w n (more t ts) (r ∷ rs) = behind_row r.json (entry_or (field_reason w n r t) (lost w n t r.kind)) ++ rows_lost w n ts rs
 
 -- What a road takes of a bill. The version that counts is the lowest of its hops.
 abbrev pub taken : Tree → List Hop → List (At Reason)

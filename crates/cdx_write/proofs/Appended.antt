@@ -75,23 +75,42 @@ flat_at f xs i x h is =
     let split : xs ≡ take i xs ++ x ∷ drop (i + 1) xs = sym (take-append-drop i xs) ∙ ap (λ ys. take i xs ++ ys) (drop_more xs i x h ∙ ap (λ y. y ∷ drop (i + 1) xs) (sym is)) in
     ap (flat_map f) split ∙ flat_map-append f (take i xs) (x ∷ drop (i + 1) xs)
 
+-- A loop that writes the items of a list: what each is written as, the list, and how far it has come.
+pub record WritingLoop (X : Type 0) : Type 0 where
+  pub spelled : X → List XmlEvent
+  pub items : List X
+  pub index : ℕ
+  pub start : List XmlEvent
+  pub reached : List XmlEvent
+
+-- the loop over these items, at an index, from one list of events to another
+abbrev pub writing_items : {X : Type 0} → (X → List XmlEvent) → List X → ℕ → List XmlEvent → List XmlEvent → WritingLoop X
+writing_items f xs i old mid = record { spelled = f; items = xs; index = i; start = old; reached = mid }
+
+-- What was written is what the items before the index are written as.
+abbrev pub IsWrittenSoFar : {X : Type 0} → WritingLoop X → Type 0
+IsWrittenSoFar l = l.reached ≡ l.start ++ flat_map l.spelled (take l.index l.items)
+
 -- An item was refused, after the items before it.
-pub item_fails : {X : Type 0} (f : X → List XmlEvent) (old mid new rest : List XmlEvent) (xs ys : List X) (i : ℕ) (x : X) (e : XmlWriteError) → xs ≡ ys → i < length xs → x ≡ get_or xs i x
-    → mid ≡ old ++ flat_map f (take i xs) → Appends mid new (f x) (Err e) → Appends old new (flat_map f ys ++ rest) (Err e)
-item_fails f old mid new rest xs ys i x e same h is inv fails =
-    let before = flat_map f (take i xs) in
-    let behind = flat_map f (drop (i + 1) xs) in
-    let part = then_all old mid new before (f x ++ (behind ++ rest)) (Err e) inv (first_fails mid new (f x) (behind ++ rest) e fails) in
-    let shape = ap (λ s. s ++ rest) (sym (ap (flat_map f) same) ∙ flat_at f xs i x h is) ∙ append_assoc before (f x ++ behind) rest ∙ ap (λ s. before ++ s) (append_assoc (f x) behind rest) in
-    subst (λ s. Appends old new s (Err e)) (sym shape) part
+pub item_fails : {X : Type 0} (l : WritingLoop X) (new rest : List XmlEvent) (ys : List X) (x : X) (e : XmlWriteError) → l.items ≡ ys → l.index < length l.items → x ≡ get_or l.items l.index x
+    → IsWrittenSoFar l → Appends l.reached new (l.spelled x) (Err e) → Appends l.start new (flat_map l.spelled ys ++ rest) (Err e)
+item_fails l new rest ys x e same h is inv fails =
+    let f = l.spelled in
+    let before = flat_map f (take l.index l.items) in
+    let behind = flat_map f (drop (l.index + 1) l.items) in
+    let part = then_all l.start l.reached new before (f x ++ (behind ++ rest)) (Err e) inv (first_fails l.reached new (f x) (behind ++ rest) e fails) in
+    let shape = ap (λ s. s ++ rest) (sym (ap (flat_map f) same) ∙ flat_at f l.items l.index x h is) ∙ append_assoc before (f x ++ behind) rest ∙ ap (λ s. before ++ s) (append_assoc (f x) behind rest) in
+    subst (λ s. Appends l.start new s (Err e)) (sym shape) part
 
 -- One item more was written.
-pub item_written : {X : Type 0} (f : X → List XmlEvent) (old mid new : List XmlEvent) (xs : List X) (i : ℕ) (x : X) → i < length xs → x ≡ get_or xs i x
-    → mid ≡ old ++ flat_map f (take i xs) → new ≡ mid ++ f x → new ≡ old ++ flat_map f (take (i + 1) xs)
-item_written f old mid new xs i x h is inv e =
-    after_both old mid new (flat_map f (take i xs)) (f x) inv e
-    ∙ ap (λ s. old ++ s) (sym (ap (flat_map f) (take_more xs i x h ∙ ap (λ y. take i xs ++ y ∷ []) (sym is)) ∙ flat_map-append f (take i xs) (x ∷ []) ∙ ap (λ s. flat_map f (take i xs) ++ s) (append-nil (f x))))
+pub item_written : {X : Type 0} (l : WritingLoop X) (new : List XmlEvent) (x : X) → l.index < length l.items → x ≡ get_or l.items l.index x
+    → IsWrittenSoFar l → new ≡ l.reached ++ l.spelled x → IsWrittenSoFar (writing_items l.spelled l.items (l.index + 1) l.start new)
+item_written l new x h is inv e =
+    let f = l.spelled in
+    let before = take l.index l.items in
+    after_both l.start l.reached new (flat_map f before) (f x) inv e
+    ∙ ap (λ s. l.start ++ s) (sym (ap (flat_map f) (take_more l.items l.index x h ∙ ap (λ y. before ++ y ∷ []) (sym is)) ∙ flat_map-append f before (x ∷ []) ∙ ap (λ s. flat_map f before ++ s) (append-nil (f x))))
 
 -- All items were written.
-pub items_end : {X : Type 0} (f : X → List XmlEvent) (old mid : List XmlEvent) (xs ys : List X) (i : ℕ) → xs ≡ ys → length xs ≤ i → mid ≡ old ++ flat_map f (take i xs) → mid ≡ old ++ flat_map f ys
-items_end f old mid xs ys i same h inv = inv ∙ ap (λ zs. old ++ flat_map f zs) (take_all i xs h ∙ same)
+pub items_end : {X : Type 0} (l : WritingLoop X) (ys : List X) → l.items ≡ ys → length l.items ≤ l.index → IsWrittenSoFar l → l.reached ≡ l.start ++ flat_map l.spelled ys
+items_end l ys same h inv = inv ∙ ap (λ zs. l.start ++ flat_map l.spelled zs) (take_all l.index l.items h ∙ same)

@@ -84,7 +84,7 @@ impl Kept for Tools {
 }
 
 /// Before 1.5 the services and components become the empty list.
-#[tactic(auto, unfolding(cdx_schema::specs::Keeping::kept, cdx_schema::specs::Table::rows, cdx_schema::specs::Table::list))]
+#[tactic(auto, unfolding(cdx_json::proofs::OnRows::on_rows, cdx_schema::specs::Keeping::kept))]
 fn keep_object(
     services: &Option<Services>,
     components: &Option<Components>,
@@ -121,7 +121,7 @@ impl ToJson for Tools {
 }
 
 /// Before 1.5 the services and components are written as the empty list.
-#[tactic(auto, unfolding(cdx_schema::specs::Keeping::kept, cdx_schema::specs::JsonSpelling::jspell))]
+#[tactic(auto, unfolding(cdx_json::proofs::OnRows::on_spelled))]
 fn object_to_value(
     alloc: Global,
     services: &Option<Services>,

@@ -4,7 +4,7 @@ use Rattle.std.proofs.lemmas.List.{append-nil}
 use Rattle.std.proofs.lemmas.Result.{err_from_is_err_and}
 use Rattle.cdx_write.specs.Spelling.{spelling}
 use Rattle.cdx_write.specs.Writing.{start_tag, end_tag}
-use Rattle.cdx_write.proofs.Appended.{first_fails, then_all, item_fails, items_end, from, ◌▸◌}
+use Rattle.cdx_write.proofs.Appended.{first_fails, then_all, item_fails, items_end, from, ◌▸◌, writing_items}
 use Rattle.cdx_write.proofs.tags.write_list_tag.Goals as goal
 
 pub returns-in_err-write_start_tag : goal.returns-in_err-write_start_tag
@@ -23,12 +23,12 @@ returns-in_err-write_xml_element g c =
     let begun = c.args.writer.now ++ start_tag tag ∷ [] in
     let new = c.write_xml_element.new.writer in
     rw (p.1, p.2) (then_all c.args.writer.now begun new (start_tag tag ∷ []) (flat_map (λ x. spelling (g.X.ToXml.tag) (g.X.Shown.shown x) c.args.version (g.X.Shown.shown_kind)) c.args.list.now ++ end_tag tag ∷ []) (Err _) refl
-    (item_fails (λ x. spelling (g.X.ToXml.tag) (g.X.Shown.shown x) c.args.version (g.X.Shown.shown_kind)) begun c.loop-item.writer new (end_tag tag ∷ []) c.as_slice-item-items.result.now c.args.list.now c.loop-item.item-index c.item-item.result _ c.as_slice-item-items.ensures c.loop-item-test.true c.item-item.is c.loop-item.invariant c.in_err-write_xml_element.ensures))
+    (item_fails (writing_items (λ x. spelling (g.X.ToXml.tag) (g.X.Shown.shown x) c.args.version (g.X.Shown.shown_kind)) c.as_slice-item-items.result.now c.loop-item.item-index begun c.loop-item.writer) new (end_tag tag ∷ []) c.args.list.now c.item-item.result _ c.as_slice-item-items.ensures c.loop-item-test.true c.item-item.is c.loop-item.invariant c.in_err-write_xml_element.ensures))
 
 pub returns : goal.returns
 returns g c =
     let tag = c.args.tag.now in
     let begun = c.args.writer.now ++ start_tag tag ∷ [] in
     let new = c.write_close_tag.new.writer in
-    let all = items_end (λ x. spelling (g.X.ToXml.tag) (g.X.Shown.shown x) c.args.version (g.X.Shown.shown_kind)) begun c.loop-item.writer c.as_slice-item-items.result.now c.args.list.now c.loop-item.item-index c.as_slice-item-items.ensures c.loop-item-test.false c.loop-item.invariant in
+    let all = items_end (writing_items (λ x. spelling (g.X.ToXml.tag) (g.X.Shown.shown x) c.args.version (g.X.Shown.shown_kind)) c.as_slice-item-items.result.now c.loop-item.item-index begun c.loop-item.writer) c.args.list.now c.as_slice-item-items.ensures c.loop-item-test.false c.loop-item.invariant in
     (from c.args.writer.now ▸ (start_tag tag ∷ [], refl) ▸ (flat_map (λ x. spelling (g.X.ToXml.tag) (g.X.Shown.shown x) c.args.version (g.X.Shown.shown_kind)) c.args.list.now, all)).then_all new (end_tag tag ∷ []) c.write_close_tag.result c.write_close_tag.ensures

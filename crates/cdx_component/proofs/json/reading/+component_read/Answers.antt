@@ -3,11 +3,10 @@ use Rattle.std.proofs.lemmas.Result.{err_from_is_err_and}
 use Rattle.serde_json.specs.View.{view, items_view, members_view}
 use Rattle.cdx_schema.specs.Table.{rows, list}
 use Rattle.cdx_schema.specs.Results.{◌>>=◌}
-use Rattle.cdx_schema.specs.JsonReading.{array_read}
 use Rattle.cdx_json.specs.ByRows.{rows_made}
 use Rattle.cdx_schema.specs.Depths.{depth_of}
 use Rattle.cdx_json.proofs.Rows.{may_none, live_ok, live_err, fails_then}
-use Rattle.cdx_json.proofs.Loops.{goes_on, stops, ends}
+use Rattle.cdx_json.proofs.Loops.{reading_items, goes_on, stops, ends}
 use Rattle.cdx_models.specs.Trees.{component, pedigree, items}
 use Rattle.cdx_schema.specs.Kinds.{components, a_list, a_record, optional}
 use Rattle.cdx_json.proofs.Values.{list_err, list_gives, record_err, record_gives}
@@ -51,15 +50,15 @@ component_from_members-returns t c = rw (c.in_ok-origin.ensures, c.in-Ok.ensures
 
 pub components_from_items-returns-in-Err : goal.components_from_items-returns-in-Err
 components_from_items-returns-in-Err t c =
-    stops component_tree (component_items c.loop-i.list) c.deref-item-items.result.now c.loop-i.i c.item-item.result (a_record component) c.args.context.version (depth_of c.args.context.depth) (array_read (items_view c.args.items.now.items) c.args.context.version (a_record component) (depth_of c.args.context.depth) 0) c.in-Err.e c.at_item.result c.loop-i-test.true c.item-item.is c.in-Err.ensures c.at_item.ensures c.loop-i.invariant
+    stops (reading_items component_tree (a_record component) c.args.context c.args.items.now.items c.deref-item-items.result.now (component_items c.loop-i.list) c.loop-i.i) c.item-item.result c.in-Err.e c.at_item.result c.loop-i-test.true c.item-item.is c.in-Err.ensures c.at_item.ensures c.loop-i.invariant
 
 pub components_from_items-loop-i-preserved : goal.components_from_items-loop-i-preserved
 components_from_items-loop-i-preserved t c =
-    rw c.in_ok-push-in-Ok.ensures.ok (goes_on component_tree (component_items c.loop-i.list) c.deref-item-items.result.now c.loop-i.i c.item-item.result c.in-Ok.held (a_record component) c.args.context.version (depth_of c.args.context.depth) (array_read (items_view c.args.items.now.items) c.args.context.version (a_record component) (depth_of c.args.context.depth) 0) c.loop-i-test.true c.item-item.is c.in-Ok.ensures c.loop-i.invariant)
+    rw c.in_ok-push-in-Ok.ensures.ok (goes_on (reading_items component_tree (a_record component) c.args.context c.args.items.now.items c.deref-item-items.result.now (component_items c.loop-i.list) c.loop-i.i) c.item-item.result c.in-Ok.held c.loop-i-test.true c.item-item.is c.in-Ok.ensures c.loop-i.invariant)
 
 pub components_from_items-returns : goal.components_from_items-returns
 components_from_items-returns t c =
-    ap (λ r. r >>= λ ts. Ok (items ts)) (ends component_tree (component_items c.loop-i.list) c.deref-item-items.result.now c.loop-i.i (a_record component) c.args.context.version (depth_of c.args.context.depth) (array_read (items_view c.args.items.now.items) c.args.context.version (a_record component) (depth_of c.args.context.depth) 0) (omega arith) c.loop-i.invariant) ∙ ap Ok (sym (components_tree-out c.loop-i.list))
+    ap (λ r. r >>= λ ts. Ok (items ts)) (ends (reading_items component_tree (a_record component) c.args.context c.args.items.now.items c.deref-item-items.result.now (component_items c.loop-i.list) c.loop-i.i) (omega arith) c.loop-i.invariant) ∙ ap Ok (sym (components_tree-out c.loop-i.list))
 
 pub read_components-returns-in-None : goal.read_components-returns-in-None
 read_components-returns-in-None t c = list_err c.here.result (view c.args.value.now) components c.args.context.version (depth_of c.args.context.depth) c.in-None.ensures c.here.ensures

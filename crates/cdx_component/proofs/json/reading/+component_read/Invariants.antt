@@ -1,10 +1,7 @@
-use Rattle.std.proofs.Common.{◌≡◌, ◌+◌, ◌-◌, ◌*◌, drop}
-use Rattle.serde_json.specs.View.{items_view}
+use Rattle.std.proofs.Common.{◌+◌, ◌-◌, ◌*◌}
 use Rattle.cdx_schema.specs.Kinds.{a_record}
-use Rattle.cdx_schema.specs.JsonReading.{array_read}
-use Rattle.cdx_schema.specs.Depths.{depth_of}
-use Rattle.cdx_json.proofs.Loops.{with_front}
-use Rattle.cdx_models.specs.Trees.{component, each}
+use Rattle.cdx_json.proofs.Loops.{reading_items, IsReadSoFar}
+use Rattle.cdx_models.specs.Trees.{component}
 use Rattle.cdx_component.specs.Trees.{component_tree, component_items}
 use Rattle.cdx_component.proofs.json.reading.+component_read.Given as goal
 
@@ -39,4 +36,4 @@ decreases-component_from_members l = 10 * (40 - l.context.depth.components) + 8
 
 abbrev pub invariant-components_from_items-loop-i : goal.invariant-components_from_items-loop-i
 invariant-components_from_items-loop-i l =
-    with_front (each component_tree (component_items l.list)) (array_read (items_view (drop l.i l.item-items)) l.context.version (a_record component) (depth_of l.context.depth) l.i) ≡ array_read (items_view l.items.items) l.context.version (a_record component) (depth_of l.context.depth) 0
+    IsReadSoFar (reading_items component_tree (a_record component) l.context l.items.items l.item-items (component_items l.list) l.i)

@@ -1,10 +1,7 @@
-use Rattle.std.proofs.Common.{◌≡◌, ◌+◌, ◌-◌, ◌*◌, drop}
-use Rattle.serde_json.specs.View.{items_view}
+use Rattle.std.proofs.Common.{◌+◌, ◌-◌, ◌*◌}
 use Rattle.cdx_schema.specs.Kinds.{a_record}
-use Rattle.cdx_schema.specs.JsonReading.{array_read}
-use Rattle.cdx_schema.specs.Depths.{depth_of}
-use Rattle.cdx_json.proofs.Loops.{with_front}
-use Rattle.cdx_models.specs.Trees.{service, each}
+use Rattle.cdx_json.proofs.Loops.{reading_items, IsReadSoFar}
+use Rattle.cdx_models.specs.Trees.{service}
 use Rattle.cdx_service.specs.Trees.{service_tree, service_items}
 use Rattle.cdx_service.proofs.json.reading.+service_read.Given as goal
 
@@ -30,4 +27,4 @@ decreases-service_from_members l = 10 * (40 - l.context.depth.services) + 5
 
 abbrev pub invariant-services_from_items-loop-i : goal.invariant-services_from_items-loop-i
 invariant-services_from_items-loop-i l =
-    with_front (each service_tree (service_items l.list)) (array_read (items_view (drop l.i l.item-items)) l.context.version (a_record service) (depth_of l.context.depth) l.i) ≡ array_read (items_view l.items.items) l.context.version (a_record service) (depth_of l.context.depth) 0
+    IsReadSoFar (reading_items service_tree (a_record service) l.context l.items.items l.item-items (service_items l.list) l.i)

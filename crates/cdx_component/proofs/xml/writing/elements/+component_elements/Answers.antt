@@ -10,7 +10,7 @@ use Rattle.cdx_write.specs.Listed.{item_put}
 use Rattle.cdx_write.specs.Spelling.{spelled_events, inner}
 use Rattle.cdx_write.specs.WrittenRows.{child_written, rows_written}
 use Rattle.cdx_write.specs.Writing.{opening, start_tag, end_tag}
-use Rattle.cdx_write.proofs.Appended.{first_fails, item_fails, item_written, items_end, from, then_fails, then_last, ◌▸◌}
+use Rattle.cdx_write.proofs.Appended.{first_fails, item_fails, item_written, items_end, from, then_fails, then_last, ◌▸◌, writing_items}
 use Rattle.cdx_write.proofs.Lists.{items_put}
 use Rattle.cdx_write.proofs.RowWords.{appends_same, nothing_added, child_none}
 use Rattle.cdx_component.specs.declared.component.Component.TheViews.{out-Component, out-Pedigree}
@@ -121,7 +121,7 @@ write_items-loop-item-init t c =
 pub write_items-loop-item-preserved : goal.write_items-loop-item-preserved
 write_items-loop-item-preserved t c =
     let x = c.item-item.result in
-    item_written (items_put component_tree (codes "component") (a_record component) c.args.target.version) c.args.writer.now c.loop-item.writer c.write_component.new.writer c.deref-item-items.result.now c.loop-item.item-index x c.loop-item-test.true c.item-item.is c.loop-item.invariant
+    item_written (writing_items (items_put component_tree (codes "component") (a_record component) c.args.target.version) c.deref-item-items.result.now c.loop-item.item-index c.args.writer.now c.loop-item.writer) c.write_component.new.writer x c.loop-item-test.true c.item-item.is c.loop-item.invariant
     (c.in_ok-write_component.ensures ∙ ap (λ s. c.loop-item.writer ++ s) (component_item (codes "component") c.args.target.version x))
 
 pub write_items-returns-in_err-write_component : goal.write_items-returns-in_err-write_component
@@ -132,12 +132,12 @@ write_items-returns-in_err-write_component t c =
     let new = c.write_component.new.writer in
     let all = flat_map f (component_items c.args.held.now) in
     rw (p.1, p.2) (appends_same c.args.writer.now new (all ++ []) (inner (components_tree c.args.held.now) c.args.target.version (a_list components)) (Err _) (append-nil all ∙ components_inner c.args.target.version c.args.held.now)
-    (item_fails f c.args.writer.now c.loop-item.writer new [] c.deref-item-items.result.now (component_items c.args.held.now) c.loop-item.item-index x _ c.deref-item-items.ensures.value c.loop-item-test.true c.item-item.is c.loop-item.invariant
+    (item_fails (writing_items f c.deref-item-items.result.now c.loop-item.item-index c.args.writer.now c.loop-item.writer) new [] (component_items c.args.held.now) x _ c.deref-item-items.ensures.value c.loop-item-test.true c.item-item.is c.loop-item.invariant
     (appends_same c.loop-item.writer new (spelled_events (component_tree x) c.args.target.version (codes "component") (a_record component)) (item_put (codes "component") (a_record component) (component_tree x) c.args.target.version) (Err _) (component_item (codes "component") c.args.target.version x) c.in_err-write_component.ensures)))
 
 pub write_items-returns : goal.write_items-returns
 write_items-returns t c =
-    items_end (items_put component_tree (codes "component") (a_record component) c.args.target.version) c.args.writer.now c.loop-item.writer c.deref-item-items.result.now (component_items c.args.held.now) c.loop-item.item-index c.deref-item-items.ensures.value c.loop-item-test.false c.loop-item.invariant
+    items_end (writing_items (items_put component_tree (codes "component") (a_record component) c.args.target.version) c.deref-item-items.result.now c.loop-item.item-index c.args.writer.now c.loop-item.writer) (component_items c.args.held.now) c.deref-item-items.ensures.value c.loop-item-test.false c.loop-item.invariant
     ∙ ap (λ s. c.args.writer.now ++ s) (components_inner c.args.target.version c.args.held.now)
 
 pub write_rows-returns-in_err-write_origin_rows : goal.write_rows-returns-in_err-write_origin_rows

@@ -6,7 +6,7 @@ use Rattle.cdx_models.specs.Trees.{text, list_tree}
 use Rattle.cdx_schema.specs.Kinds.{a_list, a_reference}
 use Rattle.cdx_write.specs.Spelling.{spelled_events, inner}
 use Rattle.cdx_write.specs.Listed.{item_put}
-use Rattle.cdx_write.proofs.Appended.{item_fails, item_written, items_end}
+use Rattle.cdx_write.proofs.Appended.{item_fails, item_written, items_end, writing_items}
 use Rattle.cdx_write.proofs.RowWords.{appends_same}
 use Rattle.cdx_write.proofs.Lists.{items_put, list_inner}
 use Rattle.cdx_relations.proofs.Written.{reference_item}
@@ -20,7 +20,7 @@ loop-item-preserved c = λ w.
     let tag = c.args.tag.now in
     let x = c.item-item.result in
     let f = items_put text tag a_reference w in
-    item_written f c.args.writer.now c.loop-item.writer c.write_reference.new.writer c.as_slice-item-items.result.now c.loop-item.item-index x c.loop-item-test.true c.item-item.is (c.loop-item.invariant w)
+    item_written (writing_items f c.as_slice-item-items.result.now c.loop-item.item-index c.args.writer.now c.loop-item.writer) c.write_reference.new.writer x c.loop-item-test.true c.item-item.is (c.loop-item.invariant w)
     (c.in_ok-write_reference.ensures w ∙ ap (λ s. c.loop-item.writer ++ s) (reference_item tag x w))
 
 pub returns-in_err-write_reference : goal.returns-in_err-write_reference
@@ -32,12 +32,12 @@ returns-in_err-write_reference c = λ w l is.
     let new = c.write_reference.new.writer in
     let all = flat_map f c.args.held.now in
     rw (p.1, p.2) (appends_same c.args.writer.now new (all ++ []) (inner (list_tree text c.args.held.now) w (a_list l)) (Err _) (append-nil all ∙ list_inner text tag a_reference l w c.args.held.now is)
-    (item_fails f c.args.writer.now c.loop-item.writer new [] c.as_slice-item-items.result.now c.args.held.now c.loop-item.item-index x _ c.as_slice-item-items.ensures c.loop-item-test.true c.item-item.is (c.loop-item.invariant w)
+    (item_fails (writing_items f c.as_slice-item-items.result.now c.loop-item.item-index c.args.writer.now c.loop-item.writer) new [] c.args.held.now x _ c.as_slice-item-items.ensures c.loop-item-test.true c.item-item.is (c.loop-item.invariant w)
     (appends_same c.loop-item.writer new (spelled_events (text x) w tag a_reference) (item_put tag a_reference (text x) w) (Err _) (reference_item tag x w) (c.in_err-write_reference.ensures w))))
 
 pub returns : goal.returns
 returns c = λ w l is.
     let tag = c.args.tag.now in
     let f = items_put text tag a_reference w in
-    items_end f c.args.writer.now c.loop-item.writer c.as_slice-item-items.result.now c.args.held.now c.loop-item.item-index c.as_slice-item-items.ensures c.loop-item-test.false (c.loop-item.invariant w)
+    items_end (writing_items f c.as_slice-item-items.result.now c.loop-item.item-index c.args.writer.now c.loop-item.writer) c.args.held.now c.as_slice-item-items.ensures c.loop-item-test.false (c.loop-item.invariant w)
     ∙ ap (λ s. c.args.writer.now ++ s) (list_inner text tag a_reference l w c.args.held.now is)
