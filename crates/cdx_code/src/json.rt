@@ -26,7 +26,7 @@ impl JsonRecord for IdentifiableAction {
         })
     }
 
-    fn kept_record(&self, keeping: Keeping) -> Result<IdentifiableAction, AllocError> {
+    fn kept_by_rows(&self, keeping: Keeping) -> Result<IdentifiableAction, AllocError> {
         Ok(IdentifiableAction {
             timestamp: keep_row(&self.timestamp, keeping)?,
             name: keep_row(&self.name, keeping)?,
@@ -58,7 +58,7 @@ impl JsonRecord for Commit {
         })
     }
 
-    fn kept_record(&self, keeping: Keeping) -> Result<Commit, AllocError> {
+    fn kept_by_rows(&self, keeping: Keeping) -> Result<Commit, AllocError> {
         Ok(Commit {
             uid: keep_row(&self.uid, keeping)?,
             url: keep_row(&self.url, keeping)?,

@@ -35,7 +35,7 @@ impl JsonRecord for Swid {
         })
     }
 
-    fn kept_record(&self, keeping: Keeping) -> Result<Swid, AllocError> {
+    fn kept_by_rows(&self, keeping: Keeping) -> Result<Swid, AllocError> {
         Ok(Swid {
             tag_id: self.tag_id.kept_as(keeping)?,
             name: self.name.kept_as(keeping)?,
@@ -114,7 +114,7 @@ impl JsonRecord for ComponentEvidence {
         })
     }
 
-    fn kept_record(&self, keeping: Keeping) -> Result<ComponentEvidence, AllocError> {
+    fn kept_by_rows(&self, keeping: Keeping) -> Result<ComponentEvidence, AllocError> {
         Ok(ComponentEvidence {
             licenses: keep_row(&self.licenses, keeping)?,
             copyright: keep_row(&self.copyright, keeping)?,
@@ -134,7 +134,7 @@ impl JsonRecord for Copyright {
         Ok(Copyright { text })
     }
 
-    fn kept_record(&self, keeping: Keeping) -> Result<Copyright, AllocError> {
+    fn kept_by_rows(&self, keeping: Keeping) -> Result<Copyright, AllocError> {
         Ok(Copyright {
             text: self.text.kept_as(keeping)?,
         })

@@ -12,7 +12,7 @@ use Rattle.cdx_schema.specs.Faults.{to_item, JsonFault, under, here}
 use Rattle.cdx_schema.specs.Results.{◌>>=◌}
 use Rattle.cdx_schema.specs.Table.{list}
 use Rattle.cdx_schema.specs.Depth.{inside, name_too_deep, is_too_deep}
-use Rattle.cdx_schema.specs.JsonReading.{jread, seen, at_depth, record_denoted, array_read, number_read}
+use Rattle.cdx_schema.specs.JsonReading.{jread, seen, at_depth, record_denoted, array_items_read, number_read}
 use Rattle.cdx_json.specs.ByRows.{json_kind, IsJsonListOf, list_read, by_rows, signature_of}
 use Rattle.cdx_json.proofs.ByRowsLaws.{by_rows_are}
 use Rattle.cdx_models.specs.declared.errors.JsonReadError.{JsonReadError}
@@ -100,11 +100,11 @@ plain_read x a_bill v d = refl
 alike_read : (x : Data) (k m : Kind) (v : SpecVersion) (d : Depth) → json_kind k ≡ json_kind m → jread x v k d ≡ jread x v m d
 alike_read x k m v d e = plain_read x k v d ∙ ap (λ q. jread x v q d) e ∙ sym (plain_read x m v d)
 
-alike_items : (xs : Items) (k m : Kind) (v : SpecVersion) (d : Depth) (n : ℕ) → json_kind k ≡ json_kind m → array_read xs v k d n ≡ array_read xs v m d n
+alike_items : (xs : Items) (k m : Kind) (v : SpecVersion) (d : Depth) (n : ℕ) → json_kind k ≡ json_kind m → array_items_read xs v k d n ≡ array_items_read xs v m d n
 unfolding jread
 alike_items no_items k m v d n e = refl
 alike_items (item x xs) k m v d n e =
-    ap (λ r. under (to_item n) r >>= λ t. array_read xs v k d (suc n) >>= λ ts. Ok (more t ts)) (alike_read x k m v d e)
+    ap (λ r. under (to_item n) r >>= λ t. array_items_read xs v k d (suc n) >>= λ ts. Ok (more t ts)) (alike_read x k m v d e)
     ∙ ap (λ r. under (to_item n) (jread x v m d) >>= λ t. r >>= λ ts. Ok (more t ts)) (alike_items xs k m v d (suc n) e)
 
 list_is : (x : Data) (ds : Items) (k : Kind) (l : Lists) (v : SpecVersion) (d : Depth) → IsJsonListOf k l → Some ds ≡ as_array x → jread x v (a_list l) d ≡ list_read ds v k d
@@ -164,24 +164,24 @@ record_gives see r x ms n v d f i is h = subst (Gives see r) (by_rows_are n (see
 
 -- ---- signatures
 
-signers_is : (x : Data) (ds : Items) (v : SpecVersion) (d : Depth) → Some ds ≡ as_array x → jread x v a_signature d ≡ (array_read ds v (a_record signer) d 0 >>= λ ts. Ok (fields signers (one (items ts))))
+signers_is : (x : Data) (ds : Items) (v : SpecVersion) (d : Depth) → Some ds ≡ as_array x → jread x v a_signature d ≡ (array_items_read ds v (a_record signer) d 0 >>= λ ts. Ok (fields signers (one (items ts))))
 unfolding jread list
 signers_is json.null ds v d e = absurd cc
 signers_is (json.boolean b) ds v d e = absurd cc
 signers_is (json.number n) ds v d e = absurd cc
 signers_is (json.string r) ds v d e = absurd cc
-signers_is (json.array es) ds v d e = let same : es ≡ ds = cc in ap (λ q. array_read q v (a_record signer) d 0 >>= λ ts. Ok (fields signers (one (items ts)))) same
+signers_is (json.array es) ds v d e = let same : es ≡ ds = cc in ap (λ q. array_items_read q v (a_record signer) d 0 >>= λ ts. Ok (fields signers (one (items ts)))) same
 signers_is (json.object ms) ds v d e = absurd cc
 
 pub signers_ok : (x : Data) (ds : Items) (t : Tree) (v : SpecVersion) (d : Depth) → Some ds ≡ as_array x → list_read ds v (a_record signer) d ≡ Ok t → jread x v a_signature d ≡ Ok (fields signers (one t))
-signers_ok x ds t v d is h = signers_is x ds v d is ∙ by (array_read ds v (a_record signer) d 0) h
+signers_ok x ds t v d is h = signers_is x ds v d is ∙ by (array_items_read ds v (a_record signer) d 0) h
   where
     by : (rd : Result Trees JsonFault) → (rd >>= λ ts. Ok (items ts)) ≡ Ok t → (rd >>= λ ts. Ok (fields signers (one (items ts)))) ≡ Ok (fields signers (one t))
     by (Ok ts) h = let same : items ts ≡ t = cc in ap (λ u. Ok (fields signers (one u))) same
     by (Err e) h = absurd cc
 
 pub signers_err : (e : JsonReadError) (x : Data) (ds : Items) (v : SpecVersion) (d : Depth) → Some ds ≡ as_array x → Fails e (list_read ds v (a_record signer) d) → Fails e (jread x v a_signature d)
-signers_err e x ds v d is h = subst (Fails e) (sym (signers_is x ds v d is)) (by e (array_read ds v (a_record signer) d 0) h)
+signers_err e x ds v d is h = subst (Fails e) (sym (signers_is x ds v d is)) (by e (array_items_read ds v (a_record signer) d 0) h)
   where
     by : (e : JsonReadError) (rd : Result Trees JsonFault) → Fails e (rd >>= λ ts. Ok (items ts)) → Fails e (rd >>= λ ts. Ok (fields signers (one (items ts))))
     by (Memory m) rd h = tt

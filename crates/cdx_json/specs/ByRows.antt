@@ -10,7 +10,7 @@ use Rattle.cdx_schema.specs.Table.{rows, list}
 use Rattle.cdx_schema.specs.Depth.{Depth}
 use Rattle.cdx_schema.specs.Results.{◌>>=◌}
 use Rattle.cdx_schema.specs.Faults.{to_member, wrong_kind, JsonFault, under, here}
-use Rattle.cdx_schema.specs.JsonReading.{Object, Found, nothing, a_null, found, member_name, when_nothing, when_null, no_own, identifier_read, signature_read, choice_read, is_lone_license, seen, array_read}
+use Rattle.cdx_schema.specs.JsonReading.{Object, Found, nothing, a_null, found, member_name, when_nothing, when_null, no_own, identifier_read, signature_read, choice_read, is_lone_license, seen, array_items_read}
 
 -- JSON does not tell a reference from a text.
 abbrev pub json_kind : Kind → Kind
@@ -80,4 +80,4 @@ choice_of ms v d = choice_read (is_lone_license ms) (seen ms) v d
 
 -- the items of an array as a list
 abbrev pub list_read : Items → SpecVersion → Kind → Depth → Result Tree JsonFault
-list_read xs v k d = array_read xs v k d 0 >>= λ ts. Ok (items ts)
+list_read xs v k d = array_items_read xs v k d 0 >>= λ ts. Ok (items ts)

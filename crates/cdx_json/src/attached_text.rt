@@ -23,7 +23,7 @@ impl JsonRecord for AttachedText {
     }
 
     #[tactic(auto, unfolding(crate::proofs::OnRows::on_rows))]
-    fn kept_record(&self, keeping: Keeping) -> Result<AttachedText, AllocError> {
+    fn kept_by_rows(&self, keeping: Keeping) -> Result<AttachedText, AllocError> {
         Ok(AttachedText {
             content_type: keep_row(&self.content_type, keeping)?,
             encoding: keep_row(&self.encoding, keeping)?,

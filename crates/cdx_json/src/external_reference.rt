@@ -77,7 +77,7 @@ impl JsonRecord for ExternalReference {
     }
 
     #[tactic(auto, unfolding(crate::proofs::OnRows::on_rows))]
-    fn kept_record(&self, keeping: Keeping) -> Result<ExternalReference, AllocError> {
+    fn kept_by_rows(&self, keeping: Keeping) -> Result<ExternalReference, AllocError> {
         Ok(ExternalReference {
             external_reference_type: self.external_reference_type.kept_as(keeping)?,
             url: self.url.kept_as(keeping)?,

@@ -45,7 +45,7 @@ impl JsonRecord for Hash {
     }
 
     #[tactic(auto, unfolding(crate::proofs::OnRows::on_rows))]
-    fn kept_record(&self, keeping: Keeping) -> Result<Hash, AllocError> {
+    fn kept_by_rows(&self, keeping: Keeping) -> Result<Hash, AllocError> {
         Ok(Hash {
             alg: self.alg.kept_as(keeping)?,
             content: self.content.kept_as(keeping)?,

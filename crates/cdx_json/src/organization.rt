@@ -31,7 +31,7 @@ impl JsonRecord for OrganizationalContact {
     }
 
     #[tactic(auto, unfolding(crate::proofs::OnRows::on_rows))]
-    fn kept_record(&self, keeping: Keeping) -> Result<OrganizationalContact, AllocError> {
+    fn kept_by_rows(&self, keeping: Keeping) -> Result<OrganizationalContact, AllocError> {
         Ok(OrganizationalContact {
             bom_ref: keep_row(&self.bom_ref, keeping)?,
             name: keep_row(&self.name, keeping)?,
@@ -69,7 +69,7 @@ impl JsonRecord for OrganizationalEntity {
     }
 
     #[tactic(auto, unfolding(crate::proofs::OnRows::on_rows))]
-    fn kept_record(&self, keeping: Keeping) -> Result<OrganizationalEntity, AllocError> {
+    fn kept_by_rows(&self, keeping: Keeping) -> Result<OrganizationalEntity, AllocError> {
         Ok(OrganizationalEntity {
             bom_ref: keep_row(&self.bom_ref, keeping)?,
             name: keep_row(&self.name, keeping)?,

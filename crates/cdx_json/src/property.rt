@@ -22,7 +22,7 @@ impl JsonRecord for Property {
     }
 
     #[tactic(auto, unfolding(crate::proofs::OnRows::on_rows))]
-    fn kept_record(&self, keeping: Keeping) -> Result<Property, AllocError> {
+    fn kept_by_rows(&self, keeping: Keeping) -> Result<Property, AllocError> {
         Ok(Property {
             name: self.name.kept_as(keeping)?,
             value: self.value.kept_as(keeping)?,

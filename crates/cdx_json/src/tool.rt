@@ -32,7 +32,7 @@ impl JsonRecord for Tool {
     }
 
     #[tactic(auto, unfolding(crate::proofs::OnRows::on_rows))]
-    fn kept_record(&self, keeping: Keeping) -> Result<Tool, AllocError> {
+    fn kept_by_rows(&self, keeping: Keeping) -> Result<Tool, AllocError> {
         Ok(Tool {
             vendor: keep_row(&self.vendor, keeping)?,
             name: keep_row(&self.name, keeping)?,

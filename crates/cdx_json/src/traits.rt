@@ -106,7 +106,7 @@ pub trait JsonRecord: Record {
             (depth_of context.depth)) };
 
     /// What a version keeps of its rows, where a bill's label becomes the one given. Only want of memory refuses.
-    fn kept_record(&self, keeping: Keeping) -> Result<Self, AllocError>
+    fn kept_by_rows(&self, keeping: Keeping) -> Result<Self, AllocError>
         ensures { IfOk result (λ r. Self.tree r
             ≡ fields Self.name
             (rows_held keeping.version keeping.label (fields_of (Self.tree self.now))
@@ -136,7 +136,7 @@ impl<T: JsonRecord> Kept for T {
     ghost stays = { λ w l x. record_tree_stays w l T.name (T.tree x) (T.is_record x) };
 
     fn kept_as(&self, keeping: Keeping) -> Result<T, AllocError> {
-        self.kept_record(keeping)
+        self.kept_by_rows(keeping)
     }
 }
 

@@ -36,7 +36,7 @@ impl JsonRecord for Expression {
         })
     }
 
-    fn kept_record(&self, keeping: Keeping) -> Result<Expression, AllocError> {
+    fn kept_by_rows(&self, keeping: Keeping) -> Result<Expression, AllocError> {
         Ok(Expression {
             bom_ref: keep_row(&self.bom_ref, keeping)?,
             expression: self.expression.kept_as(keeping)?,
@@ -67,7 +67,7 @@ impl JsonRecord for License {
         })
     }
 
-    fn kept_record(&self, keeping: Keeping) -> Result<License, AllocError> {
+    fn kept_by_rows(&self, keeping: Keeping) -> Result<License, AllocError> {
         Ok(License {
             bom_ref: keep_row_since(&self.bom_ref, SpecVersion::V1_5, keeping)?,
             license_identifier: self.license_identifier.kept_as(keeping)?,

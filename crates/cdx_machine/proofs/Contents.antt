@@ -79,7 +79,7 @@ module _ {C : Type 0} (kind : Kind) (first : First) (last : TextLast) (start : C
   pub text_refuses : (e : XmlReadError) (q : ℕ) (n : OwnedName) (a : List OwnedAttribute) (s : Namespace) (v : SpecVersion) (p : ℕ) (d : Depth) → FailsAt e q (first n.local_name a v p) → RefusesBefore e (p + 1) (xread (element n a s no_nodes) v kind p d)
   text_refuses e q n a s v p d h =
       refuses_along e q (p + 1) (first n.local_name a v p) _
-      (λ f is. (law.start_fails n a s no_nodes v p d f is, ap suc (law.first_place n.local_name a v p f is) ∙ one_on p)) h
+      (λ f is. (law.fails_at_start n a s no_nodes v p d f is, ap suc (law.first_place n.local_name a v p f is) ∙ one_on p)) h
 
   -- an event that may not stand there
   text_fails : (e : XmlReadError) (n : OwnedName) (a : List OwnedAttribute) (s : Namespace) (xs : Nodes) (v : SpecVersion) (p q : ℕ) (d : Depth) (c : C) (fault : XmlReadError) → first n.local_name a v p ≡ Ok (start c)

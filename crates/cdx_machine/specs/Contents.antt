@@ -35,7 +35,7 @@ TextLast = List ℕ → ℕ → Trees → Option (List ℕ) → Result Tree XmlR
 pub record IsContent {C : Type 0} (kind : Kind) (first : First) (last : TextLast) (start : C → Trees) : Type 0 where
   pub begun : (c : C) (n : OwnedName) (a : List OwnedAttribute) (s : Namespace) (xs : Nodes) (v : SpecVersion) (p : ℕ) (d : Depth) → first n.local_name a v p ≡ Ok (start c)
       → xread (element n a s xs) v kind p d ≡ (text_or_none xs n.local_name (suc p) >>= λ o. last n.local_name (suc (p + places_of xs)) (start c) o)
-  pub start_fails : (n : OwnedName) (a : List OwnedAttribute) (s : Namespace) (xs : Nodes) (v : SpecVersion) (p : ℕ) (d : Depth) (f : XmlReadError) → first n.local_name a v p ≡ Err f → xread (element n a s xs) v kind p d ≡ Err f
+  pub fails_at_start : (n : OwnedName) (a : List OwnedAttribute) (s : Namespace) (xs : Nodes) (v : SpecVersion) (p : ℕ) (d : Depth) (f : XmlReadError) → first n.local_name a v p ≡ Err f → xread (element n a s xs) v kind p d ≡ Err f
   pub first_place : (el : List ℕ) (a : List OwnedAttribute) (v : SpecVersion) (p : ℕ) (f : XmlReadError) → first el a v p ≡ Err f → fault_place f ≡ p
   pub last_place : (el : List ℕ) (q : ℕ) (c : C) (o : Option (List ℕ)) (f : XmlReadError) → last el q (start c) o ≡ Err f → fault_place f ≡ q
 

@@ -69,7 +69,7 @@ simple_then xs el q f = ap (λ r. r >>= f) (simple_is xs el q) ∙ then_again (t
 
 pub text_content : {C : Type 0} → IsContent a_text nothing_first text_last (λ (c : C). no_fields)
 unfolding xread
-text_content = record { begun = λ c n a s xs v p d h. simple_then xs n.local_name (suc p) (λ t. Ok (text t)); start_fails = λ n a s xs v p d f h. ok_err h; first_place = λ el a v p f h. ok_err h; last_place = λ el q c o f h. ok_err h }
+text_content = record { begun = λ c n a s xs v p d h. simple_then xs n.local_name (suc p) (λ t. Ok (text t)); fails_at_start = λ n a s xs v p d f h. ok_err h; first_place = λ el a v p f h. ok_err h; last_place = λ el q c o f h. ok_err h }
 
 flag_place : (o : Option Tree) (el s : List ℕ) (q : ℕ) (f : XmlReadError) → parsed o q el s a_boolean ≡ Err f → fault_place f ≡ q
 flag_place None el s q f h = ap fault_place (sym (err_same h))
@@ -79,7 +79,7 @@ pub flag_content : {C : Type 0} → IsContent a_boolean nothing_first flag_last 
 unfolding xread
 flag_content = record {
   begun = λ c n a s xs v p d h. simple_then xs n.local_name (suc p) (λ t. value_read a_boolean (suc (p + places_of xs)) n.local_name t);
-  start_fails = λ n a s xs v p d f h. ok_err h;
+  fails_at_start = λ n a s xs v p d f h. ok_err h;
   first_place = λ el a v p f h. ok_err h;
   last_place = λ el q c o f h. flag_place (tree_of_text a_boolean (unwrap_or o [])) el (unwrap_or o []) q f h;
 }
@@ -109,7 +109,7 @@ pub record_content : {C : Type 0} (name : Name) (i : ℕ) (start : C → Trees) 
     → IsContent (a_record name) (attributes_first name) (record_last name i) start
 record_content name i start has plain whole = record {
   begun = λ c n a s xs v p d h. record_begun name i start (λ nodes el q. simple_text nodes el q) has plain whole c n a s xs v p d h ∙ simple_then xs n.local_name (suc p) (λ t. Ok (fields name (with_field i (text t) (start c))));
-  start_fails = record_refused name i start (λ nodes el q. simple_text nodes el q) has plain whole;
+  fails_at_start = record_refused name i start (λ nodes el q. simple_text nodes el q) has plain whole;
   first_place = λ el a v p f h. attributes_place (rows name) (in_force name a) v el p f h;
   last_place = λ el q c o f h. ok_err h;
 }
@@ -135,7 +135,7 @@ pub exact_record_content : {C : Type 0} (name : Name) (i : ℕ) (start : C → T
     → IsContent (a_record name) (attributes_first name) (exact_last name i) start
 exact_record_content name i start has plain whole = record {
   begun = λ c n a s xs v p d h. record_begun name i start (λ nodes el q. exact_text nodes el q) has plain whole c n a s xs v p d h ∙ exact_is xs n.local_name (suc p) (suc (p + places_of xs)) (λ t. fields name (with_field i (text t) (start c))) (exact_last name i n.local_name (suc (p + places_of xs)) (start c)) (at_end p (places_of xs)) refl (λ t. refl);
-  start_fails = record_refused name i start (λ nodes el q. exact_text nodes el q) has plain whole;
+  fails_at_start = record_refused name i start (λ nodes el q. exact_text nodes el q) has plain whole;
   first_place = λ el a v p f h. attributes_place (rows name) (in_force name a) v el p f h;
   last_place = λ el q c o f h. exact_place el q (start c) o f h;
 }

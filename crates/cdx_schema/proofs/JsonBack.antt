@@ -21,7 +21,7 @@ use Rattle.cdx_schema.specs.Results.{◌>>=◌}
 use Rattle.cdx_models.specs.declared.errors.Step.{Step}
 use Rattle.cdx_schema.specs.Faults.{JsonFault, to_member, under}
 use Rattle.cdx_schema.specs.Depth.{Depth, inside, name_too_deep}
-use Rattle.cdx_schema.specs.JsonReading.{Found, nothing, found, Object, jread, array_read, seen, as_found, rows_read, row_read, member_read, named_read, member_name, first_or_old, found_read, when_nothing, own_read, record_denoted, identifier_read, id_read, name_read, no_own, is_lone_license, choice_read, signature_read, chain_read, format_read}
+use Rattle.cdx_schema.specs.JsonReading.{Found, nothing, found, Object, jread, array_items_read, seen, as_found, rows_read, row_read, member_read, named_read, member_name, first_or_old, found_read, when_nothing, own_read, record_denoted, identifier_read, id_read, name_read, no_own, is_lone_license, choice_read, signature_read, chain_read, format_read}
 use Rattle.cdx_schema.specs.JsonSpelling.{jspell, items_spelled, members_spelled, own_members, is_written, is_spelled, set_member, heading}
 use Rattle.cdx_schema.specs.RowLaws.{old_names}
 use Rattle.cdx_schema.specs.Membership.{Never, IsRecordOf, IsBooleanOf, IsListKind}
@@ -466,7 +466,7 @@ unfolding jspell jread
 boolean_back w d b a_boolean h = (refl, refl)
 boolean_back w d b _ h = absurd (true≢false h)
 
-pub list_back : (w : SpecVersion) (d : Depth) (ts : Trees) (k : Kind) → IsListKind k → array_read (items_spelled ts w (held_kind k)) w (held_kind k) d 0 ≡ Ok ts → IsRead w d (items ts) k
+pub list_back : (w : SpecVersion) (d : Depth) (ts : Trees) (k : Kind) → IsListKind k → array_items_read (items_spelled ts w (held_kind k)) w (held_kind k) d 0 ≡ Ok ts → IsRead w d (items ts) k
 unfolding jspell jread
 list_back w d ts (a_list l) h e = (refl, rw e refl)
 list_back w d ts a_tools h e = (refl, rw e refl)
@@ -891,7 +891,7 @@ mutual
   json_back w d (items ts) k h = list_back w d ts k h.0 (items_back w d ts (held_kind k) 0 h.1)
   json_back w d (fields n ts) k h = fields_back w d n ts k h.0 h.1 h.2 (owns w (inside n d) ts (rows n) h.2 (owns_well_all n)) (rows_back w (inside n d) ts (rows n) h.2)
 
-  items_back : (w : SpecVersion) (d : Depth) (ts : Trees) (k : Kind) (n : ℕ) → AllHeld w d ts k → array_read (items_spelled ts w k) w k d n ≡ Ok ts
+  items_back : (w : SpecVersion) (d : Depth) (ts : Trees) (k : Kind) (n : ℕ) → AllHeld w d ts k → array_items_read (items_spelled ts w k) w k d n ≡ Ok ts
   items_back w d none k n h = refl
   items_back w d (more t ts) k n h = rw ((json_back w d t k h.0).1, items_back w d ts k (suc n) h.1) refl
 

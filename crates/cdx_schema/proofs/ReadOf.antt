@@ -18,7 +18,7 @@ use Rattle.cdx_models.specs.declared.errors.Step.{Step}
 use Rattle.cdx_schema.specs.Faults.{JsonFault, to_member, to_item, under, here, wrong_kind, out_of_range, bad_spec_version, too_deep}
 use Rattle.cdx_schema.specs.Depth.{Depth, top, inside, name_too_deep, is_too_deep}
 use Rattle.cdx_models.specs.Entries.{is_flow, entry_of}
-use Rattle.cdx_schema.specs.JsonReading.{ValueReading, Found, nothing, a_null, found, Object, jread, array_read, seen, as_found, rows_read, row_read, member_read, member_name, found_read, when_nothing, when_null, own_read, no_own, record_denoted, under_name, id_read, name_read, is_lone_license, choice_read, license_read, signature_read, chain_read, tools_read, entry_read, bill_read, format_read, object_read, text_read, boolean_read, integer_read, number_read, version_read, item_kind, array_read, json_denotes, first_float}
+use Rattle.cdx_schema.specs.JsonReading.{ValueReading, Found, nothing, a_null, found, Object, jread, array_items_read, seen, as_found, rows_read, row_read, member_read, member_name, found_read, when_nothing, when_null, own_read, no_own, record_denoted, under_name, id_read, name_read, is_lone_license, choice_read, license_read, signature_read, chain_read, tools_read, entry_read, bill_read, format_read, object_read, text_read, boolean_read, integer_read, number_read, version_read, item_kind, array_read, json_denotes, first_float}
 use Rattle.cdx_schema.specs.Keeping.{is_shallow, are_shallow}
 use Rattle.cdx_schema.specs.Membership.{IsOfAll, AreOfAll, AreFieldsAll, IsTextOf, may_lack}
 use Rattle.cdx_schema.specs.Texts.{AreTexts, AreTextsIn, AreTextsOf}
@@ -389,18 +389,18 @@ mutual
   jread_of Q (json.number n) u v k d t e = integer_good Q n k d t (at_depth_was (is_too_deep k d) (integer_read n k) t e).1
   jread_of Q (json.string s) u v k d t e = text_good Q s k d t u (at_depth_was (is_too_deep k d) (text_read s k) t e).1
   jread_of Q (json.array xs) u v k d t e =
-      gathered_good Q k v (λ i. array_read xs v i d 0) d t (λ i ts h. array_read_of Q xs u v i d 0 ts h) (at_depth_was (is_too_deep k d) (array_read (item_kind k v) (λ i. array_read xs v i d 0) k) t e).1
+      gathered_good Q k v (λ i. array_items_read xs v i d 0) d t (λ i ts h. array_items_read_of Q xs u v i d 0 ts h) (at_depth_was (is_too_deep k d) (array_read (item_kind k v) (λ i. array_items_read xs v i d 0) k) t e).1
   jread_of Q (json.object ms) u v k d t e =
       let p : (is_too_deep k d ≡ false) × (object_read ms (seen ms) v k d ≡ Ok t) = at_depth_was (is_too_deep k d) (object_read ms (seen ms) v k d) t e in
       object_good Q ms (seen ms) v k d t (seen_of Q ms u) p.0 p.1
 
-  array_read_of : (Q : List ℕ → Type 0) (xs : Items) → AreTextsIn Q xs → (v : SpecVersion) (k : Kind) (d : Depth) (n : ℕ) (ts : Trees) → array_read xs v k d n ≡ Ok ts → AllRead Q k d ts
-  array_read_of Q no_items u v k d n ts e = subst (λ (y : Trees). AllRead Q k d y) (ok_same e) (tt, refl)
-  array_read_of Q (item x xs) u v k d n ts e =
-      let a : (t : Tree) × (under (to_item n) (jread x v k d) ≡ Ok t) × ((array_read xs v k d (suc n) >>= (λ us. Ok (more t us))) ≡ Ok ts) = bind_ok (under (to_item n) (jread x v k d)) (λ t. array_read xs v k d (suc n) >>= (λ us. Ok (more t us))) ts e in
-      let b : (us : Trees) × (array_read xs v k d (suc n) ≡ Ok us) × (Ok (more a.0 us) ≡ Ok ts) = bind_ok (array_read xs v k d (suc n)) (λ us. Ok (more a.0 us)) ts a.2 in
+  array_items_read_of : (Q : List ℕ → Type 0) (xs : Items) → AreTextsIn Q xs → (v : SpecVersion) (k : Kind) (d : Depth) (n : ℕ) (ts : Trees) → array_items_read xs v k d n ≡ Ok ts → AllRead Q k d ts
+  array_items_read_of Q no_items u v k d n ts e = subst (λ (y : Trees). AllRead Q k d y) (ok_same e) (tt, refl)
+  array_items_read_of Q (item x xs) u v k d n ts e =
+      let a : (t : Tree) × (under (to_item n) (jread x v k d) ≡ Ok t) × ((array_items_read xs v k d (suc n) >>= (λ us. Ok (more t us))) ≡ Ok ts) = bind_ok (under (to_item n) (jread x v k d)) (λ t. array_items_read xs v k d (suc n) >>= (λ us. Ok (more t us))) ts e in
+      let b : (us : Trees) × (array_items_read xs v k d (suc n) ≡ Ok us) × (Ok (more a.0 us) ≡ Ok ts) = bind_ok (array_items_read xs v k d (suc n)) (λ us. Ok (more a.0 us)) ts a.2 in
       let p : IsReadOf Q k d a.0 = jread_of Q x u.0 v k d a.0 (under_was (to_item n) (jread x v k d) a.0 a.1) in
-      let q : AllRead Q k d b.0 = array_read_of Q xs u.1 v k d (suc n) b.0 b.1 in
+      let q : AllRead Q k d b.0 = array_items_read_of Q xs u.1 v k d (suc n) b.0 b.1 in
       subst (λ (y : Trees). AllRead Q k d y) (ok_same b.2) ((p.0, q.0), both (is_shallow a.0 d) (are_shallow b.0 d) p.1 q.1)
 
   seen_of : (Q : List ℕ → Type 0) (ms : Members) → AreTextsOf Q ms → (q : List ℕ) → GoodFound Q (seen ms q)

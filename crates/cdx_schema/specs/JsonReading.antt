@@ -264,15 +264,15 @@ unfoldable mutual
   jread (json.boolean b) v k d = at_depth k d (boolean_read b k)
   jread (json.number n) v k d = at_depth k d (integer_read n k)
   jread (json.string s) v k d = at_depth k d (text_read s k)
-  jread (json.array xs) v k d = at_depth k d (array_read (item_kind k v) (λ i. array_read xs v i d 0) k)
+  jread (json.array xs) v k d = at_depth k d (array_read (item_kind k v) (λ i. array_items_read xs v i d 0) k)
   jread (json.object ms) v k d = at_depth k d (object_read ms (seen ms) v k d)
 
   -- the items from the n-th on
-  pub array_read : Items → SpecVersion → Kind → Depth → ℕ → Result Trees JsonFault
-  array_read no_items v k d n = Ok none
-  array_read (item x xs) v k d n = do
+  pub array_items_read : Items → SpecVersion → Kind → Depth → ℕ → Result Trees JsonFault
+  array_items_read no_items v k d n = Ok none
+  array_items_read (item x xs) v k d n = do
     t ← under (to_item n) (jread x v k d)
-    ts ← array_read xs v k d (suc n)
+    ts ← array_items_read xs v k d (suc n)
     Ok (more t ts)
 
   pub seen : Members → Object

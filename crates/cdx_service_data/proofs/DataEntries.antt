@@ -15,7 +15,7 @@ use Rattle.cdx_schema.specs.Table.{rows, list}
 use Rattle.cdx_schema.specs.Depth.{Depth}
 use Rattle.cdx_schema.specs.Results.{◌>>=◌}
 use Rattle.cdx_schema.specs.Faults.{JsonFault, to_item, under, here}
-use Rattle.cdx_schema.specs.JsonReading.{Object, jread, array_read}
+use Rattle.cdx_schema.specs.JsonReading.{Object, jread, array_items_read}
 use Rattle.cdx_schema.specs.JsonSpelling.{jspell, items_spelled, members_spelled}
 use Rattle.cdx_schema.specs.Keeping.{kept, keep, items_kept, rows_kept}
 use Rattle.cdx_models.specs.declared.errors.JsonReadError.{JsonReadError}
@@ -56,11 +56,11 @@ item_early (json.string s) V1_4 d e = refl
 item_early (json.array xs) V1_4 d e = refl
 item_early (json.object ms) V1_4 d e = refl
 
-items_early : (xs : Items) (v : SpecVersion) (d : Depth) (n : ℕ) → knows V1_5 v ≡ false → array_read xs v an_entry d n ≡ array_read xs v (a_record classification) d n
+items_early : (xs : Items) (v : SpecVersion) (d : Depth) (n : ℕ) → knows V1_5 v ≡ false → array_items_read xs v an_entry d n ≡ array_items_read xs v (a_record classification) d n
 unfolding jread
 items_early no_items v d n e = refl
 items_early (item x xs) v d n e =
-    ap (λ r. under (to_item n) r >>= λ t. array_read xs v an_entry d (suc n) >>= λ ts. Ok (more t ts)) (item_early x v d e)
+    ap (λ r. under (to_item n) r >>= λ t. array_items_read xs v an_entry d (suc n) >>= λ ts. Ok (more t ts)) (item_early x v d e)
     ∙ ap (λ r. under (to_item n) (jread x v (a_record classification) d) >>= λ t. r >>= λ ts. Ok (more t ts)) (items_early xs v d (suc n) e)
 
 pub entries_early : (xs : Items) (b : Bool) (v : SpecVersion) (d : Depth) → b ≡ knows V1_5 v → b ≡ false → list_read xs v an_entry d ≡ list_read xs v (a_record classification) d
@@ -92,13 +92,13 @@ entry_first (Ok t) (Ok ts) n = refl
 entry_first (Ok t) (Err e) n = refl
 entry_first (Err e) xs n = refl
 
-items_late : (xs : Items) (d : Depth) (n : ℕ) → array_read xs V1_5 an_entry d n ≡ (array_read xs V1_5 (a_record service_data) d n >>= as_list)
+items_late : (xs : Items) (d : Depth) (n : ℕ) → array_items_read xs V1_5 an_entry d n ≡ (array_items_read xs V1_5 (a_record service_data) d n >>= as_list)
 unfolding jread
 items_late no_items d n = refl
 items_late (item x xs) d n =
-    ap (λ r. under (to_item n) r >>= λ t. array_read xs V1_5 an_entry d (suc n) >>= λ ts. Ok (more t ts)) (item_late x d)
+    ap (λ r. under (to_item n) r >>= λ t. array_items_read xs V1_5 an_entry d (suc n) >>= λ ts. Ok (more t ts)) (item_late x d)
     ∙ ap (λ r. under (to_item n) (jread x V1_5 (a_record service_data) d >>= as_entry) >>= λ t. r >>= λ ts. Ok (more t ts)) (items_late xs d (suc n))
-    ∙ entry_first (jread x V1_5 (a_record service_data) d) (array_read xs V1_5 (a_record service_data) d (suc n)) n
+    ∙ entry_first (jread x V1_5 (a_record service_data) d) (array_items_read xs V1_5 (a_record service_data) d (suc n)) n
 
 list_late : (r : Result Trees JsonFault) → ((r >>= as_list) >>= λ ts. Ok (items ts)) ≡ ((r >>= λ ts. Ok (items ts)) >>= as_entries)
 list_late (Ok ts) = refl
@@ -107,7 +107,7 @@ list_late (Err e) = refl
 entries_late : (xs : Items) (b : Bool) (v : SpecVersion) (d : Depth) → b ≡ knows V1_5 v → b ≡ true → list_read xs v an_entry d ≡ (list_read xs v (a_record service_data) d >>= as_entries)
 entries_late xs b v d is e =
     let P : SpecVersion → Type 0 = λ v. list_read xs v an_entry d ≡ (list_read xs v (a_record service_data) d >>= as_entries) in
-    subst P (late v (sym is ∙ e)) (ap (λ r. r >>= λ ts. Ok (items ts)) (items_late xs d 0) ∙ list_late (array_read xs V1_5 (a_record service_data) d 0))
+    subst P (late v (sym is ∙ e)) (ap (λ r. r >>= λ ts. Ok (items ts)) (items_late xs d 0) ∙ list_late (array_items_read xs V1_5 (a_record service_data) d 0))
 
 pub flows_ok : (xs : Items) (b : Bool) (v : SpecVersion) (d : Depth) (ys : List ServiceData) → b ≡ knows V1_5 v → b ≡ true → list_read xs v (a_record service_data) d ≡ Ok (list_tree service_data_tree ys) → list_read xs v an_entry d ≡ Ok (list_tree service_entry ys)
 flows_ok xs b v d ys is e h = entries_late xs b v d is e ∙ ap (λ r. r >>= as_entries) h ∙ ap (λ ts. Ok (items ts)) (over-each entry_of service_data_tree ys)

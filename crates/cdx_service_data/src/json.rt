@@ -29,7 +29,7 @@ impl JsonRecord for DataClassification {
         })
     }
 
-    fn kept_record(&self, keeping: Keeping) -> Result<DataClassification, AllocError> {
+    fn kept_by_rows(&self, keeping: Keeping) -> Result<DataClassification, AllocError> {
         Ok(DataClassification {
             flow: self.flow.kept_as(keeping)?,
             classification: self.classification.kept_as(keeping)?,
@@ -55,7 +55,7 @@ impl JsonRecord for ServiceData {
         })
     }
 
-    fn kept_record(&self, keeping: Keeping) -> Result<ServiceData, AllocError> {
+    fn kept_by_rows(&self, keeping: Keeping) -> Result<ServiceData, AllocError> {
         Ok(ServiceData {
             name: keep_row(&self.name, keeping)?,
             description: keep_row(&self.description, keeping)?,

@@ -72,7 +72,7 @@ impl JsonRecord for Signer {
         Ok(Signer { algorithm, value })
     }
 
-    fn kept_record(&self, keeping: Keeping) -> Result<Signer, AllocError> {
+    fn kept_by_rows(&self, keeping: Keeping) -> Result<Signer, AllocError> {
         Ok(Signer {
             algorithm: self.algorithm.kept_as(keeping)?,
             value: self.value.kept_as(keeping)?,

@@ -28,7 +28,7 @@ impl JsonRecord for Metadata {
         metadata_from_members(map, context)
     }
 
-    fn kept_record(&self, keeping: Keeping) -> Result<Metadata, AllocError> {
+    fn kept_by_rows(&self, keeping: Keeping) -> Result<Metadata, AllocError> {
         let terms = keep_terms(self, keeping)?;
         let makers = keep_makers(self, keeping)?;
         Ok(assemble(makers, terms))

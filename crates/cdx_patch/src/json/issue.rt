@@ -17,7 +17,7 @@ impl JsonRecord for Source {
         Ok(Source { name, url })
     }
 
-    fn kept_record(&self, keeping: Keeping) -> Result<Source, AllocError> {
+    fn kept_by_rows(&self, keeping: Keeping) -> Result<Source, AllocError> {
         Ok(Source {
             name: keep_row(&self.name, keeping)?,
             url: keep_row(&self.url, keeping)?,
@@ -49,7 +49,7 @@ impl JsonRecord for Issue {
         })
     }
 
-    fn kept_record(&self, keeping: Keeping) -> Result<Issue, AllocError> {
+    fn kept_by_rows(&self, keeping: Keeping) -> Result<Issue, AllocError> {
         Ok(Issue {
             issue_type: self.issue_type.kept_as(keeping)?,
             id: keep_row(&self.id, keeping)?,

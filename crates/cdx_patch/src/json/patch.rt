@@ -22,7 +22,7 @@ impl JsonRecord for Diff {
         Ok(Diff { text, url })
     }
 
-    fn kept_record(&self, keeping: Keeping) -> Result<Diff, AllocError> {
+    fn kept_by_rows(&self, keeping: Keeping) -> Result<Diff, AllocError> {
         Ok(Diff {
             text: keep_row(&self.text, keeping)?,
             url: keep_row(&self.url, keeping)?,
@@ -48,7 +48,7 @@ impl JsonRecord for Patch {
         })
     }
 
-    fn kept_record(&self, keeping: Keeping) -> Result<Patch, AllocError> {
+    fn kept_by_rows(&self, keeping: Keeping) -> Result<Patch, AllocError> {
         Ok(Patch {
             patch_type: self.patch_type.kept_as(keeping)?,
             diff: keep_row(&self.diff, keeping)?,

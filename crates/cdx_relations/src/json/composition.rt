@@ -66,7 +66,7 @@ impl JsonRecord for Composition {
         })
     }
 
-    fn kept_record(&self, keeping: Keeping) -> Result<Composition, AllocError> {
+    fn kept_by_rows(&self, keeping: Keeping) -> Result<Composition, AllocError> {
         Ok(Composition {
             bom_ref: keep_row_since(&self.bom_ref, SpecVersion::V1_5, keeping)?,
             aggregate: self.aggregate.kept_as(keeping)?,

@@ -25,7 +25,7 @@ impl JsonRecord for Dependency {
         })
     }
 
-    fn kept_record(&self, keeping: Keeping) -> Result<Dependency, AllocError> {
+    fn kept_by_rows(&self, keeping: Keeping) -> Result<Dependency, AllocError> {
         Ok(Dependency {
             dependency_ref: self.dependency_ref.kept_as(keeping)?,
             depends_on: keep_list(&self.depends_on, keeping)?,
