@@ -23,7 +23,7 @@ use cdx_events::OwnedName;
 use cdx_leaf::{End, Rule, Start};
 use cdx_machine::Found;
 use cdx_models::{SpecVersion, XmlReadError};
-use cdx_nest_machine::{Nested, ChildReader};
+use cdx_nest_machine::{ChildReader, Nested};
 use cdx_push::{Leaf, LeafKind, LeafValue};
 use cdx_schema::Depth;
 use std::alloc::{AllocError, Global};

@@ -8,6 +8,6 @@ mod reading;
 mod stack;
 
 pub use keeps::Keeps;
-pub use nested::{Nested, ChildReader};
+pub use nested::{ChildReader, Nested};
 pub use reading::read_element;
 pub use stack::StackMachine;

@@ -14,7 +14,7 @@ ghost use Rattle.cdx_nest_machine.specs.Stacks.{StartsStack, CanStepStack, Proce
 ghost use Rattle.cdx_nest_machine.specs.Frames.{leaf_holds, BeginsOpen};
 
 use crate::keeps::Keeps;
-use crate::nested::{Nested, ChildReader};
+use crate::nested::{ChildReader, Nested};
 use cdx_events::{List, OwnedAttribute, OwnedName, Text, XmlEvent};
 use cdx_leaf::{End, Start};
 use cdx_machine::{Found, Inside, Leaves, boxed, refuse_in, skip};

@@ -14,7 +14,7 @@ use crate::frames::{NestFrame, NestKind, NestValue};
 use cdx_component::{ComponentFrame, ComponentKind, ComponentValue};
 use cdx_leaf::{End, Start};
 use cdx_models::XmlReadError;
-use cdx_nest_machine::{Nested, ChildReader};
+use cdx_nest_machine::{ChildReader, Nested};
 use cdx_push::LeafKind;
 use std::alloc::{AllocError, Global};
 

@@ -13,7 +13,7 @@ ghost use Rattle.cdx_nest.specs.Frames.{among_services, nest_kind, frame_kind, f
 use crate::frames::{NestFrame, NestKind, NestValue};
 use cdx_leaf::{End, Start};
 use cdx_models::XmlReadError;
-use cdx_nest_machine::{Nested, ChildReader};
+use cdx_nest_machine::{ChildReader, Nested};
 use cdx_push::LeafKind;
 use cdx_service::{ServiceFrame, ServiceKind, ServiceValue};
 use std::alloc::{AllocError, Global};
@@ -42,7 +42,10 @@ fn kind_among(kind: ServiceKind) -> NestKind
 }
 
 /// What reads the child of the position.
-pub(crate) fn child_in_services(frame: &ServiceFrame, position: usize) -> ChildReader<LeafKind, NestKind>
+pub(crate) fn child_in_services(
+    frame: &ServiceFrame,
+    position: usize,
+) -> ChildReader<LeafKind, NestKind>
     requires { HasReader (reader_of (among_services (service_frame_kind frame.now))) position }
     ensures { reader_of (among_services (service_frame_kind frame.now)) position ≡ Some result }
 {
