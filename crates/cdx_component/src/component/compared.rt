@@ -34,7 +34,8 @@ fn equal_naming(one: &Component, other: &Component) -> bool
 }
 
 fn equal_marks(one: &Component, other: &Component) -> bool
-    ensures { result ≡ equal_each (marks (out-Component one.now)) (marks (out-Component other.now)) }
+    ensures { result
+        ≡ equal_each (marks (out-Component one.now)) (marks (out-Component other.now)) }
 {
     equal_row(&one.licenses, &other.licenses)
         && equal_row(&one.copyright, &other.copyright)
@@ -46,7 +47,8 @@ fn equal_marks(one: &Component, other: &Component) -> bool
 
 #[cycle(component_equal)]
 fn equal_contents(one: &Component, other: &Component) -> bool
-    ensures { result ≡ equal_each (component_contents components_tree pedigree_tree (out-Component one.now))
+    ensures { result
+        ≡ equal_each (component_contents components_tree pedigree_tree (out-Component one.now))
         (component_contents components_tree pedigree_tree (out-Component other.now)) }
 {
     equal_pedigree_row(&one.pedigree, &other.pedigree)
