@@ -4,7 +4,6 @@ ghost use Rattle.std.specs.Prelude.{◌≡◌, OnOk};
 ghost use Rattle.serde_json.specs.Data.{no_members};
 ghost use Rattle.serde_json.specs.View.{members_view};
 ghost use Rattle.cdx_models.specs.Trees.{bill};
-ghost use Rattle.cdx_schema.specs.Kinds.{a_bill};
 ghost use Rattle.cdx_schema.specs.JsonReading.{seen};
 ghost use Rattle.cdx_schema.specs.JsonSpelling.{heading};
 ghost use Rattle.cdx_schema.specs.Depths.{depth_of};

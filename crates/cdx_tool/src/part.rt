@@ -1,6 +1,6 @@
 //! Parts of a JSON value.
 
-ghost use Rattle.std.specs.Prelude.{◌≡◌, List, Option, option_map, option_and_then, IfOk, string_bytes};
+ghost use Rattle.std.specs.Prelude.{◌≡◌, Option, option_map, option_and_then, IfOk, string_bytes};
 ghost use Rattle.serde_json.specs.Data.{Data};
 ghost use Rattle.serde_json.specs.Find.{get, as_array};
 ghost use Rattle.serde_json.specs.View.{view, items_view};

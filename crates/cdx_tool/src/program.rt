@@ -6,7 +6,7 @@ ghost use Rattle.serde_json.specs.Data.{Data, depth};
 ghost use Rattle.cdx_events.specs.Causes.{Rose};
 ghost use Rattle.cdx_schema.specs.Roads.{Doc};
 ghost use Rattle.cdx_request.specs.Requests.{Request, request_in};
-ghost use Rattle.cdx_request.specs.Replies.{line_of, documents_value, limit, reply_to};
+ghost use Rattle.cdx_request.specs.Replies.{line_of, documents_value, limit};
 ghost use Rattle.cdx_request.specs.Served.{Serves, IsValid, IsMade};
 ghost use Rattle.cdx_request.specs.Made.{count_value};
 ghost use Rattle.cdx_tool.specs.Shows.{reply_of};

@@ -1,7 +1,7 @@
 //! A bill's label in JSON: the version that it names.
 
 ghost use Rattle.cdx_schema.specs.Kinds.{a_version};
-ghost use Rattle.std.specs.Prelude.{◌≡◌, refl};
+ghost use Rattle.std.specs.Prelude.{refl};
 ghost use Rattle.cdx_schema.specs.Kinds.{a_version};
 ghost use Rattle.cdx_bom.specs.Labels.{named_tree};
 ghost use Rattle.cdx_bom.specs.Stays.{label_stays};

@@ -1,6 +1,6 @@
 //! What an inventory tells, out of a component.
 
-ghost use Rattle.std.specs.Prelude.{◌≡◌, List, IfOk};
+ghost use Rattle.std.specs.Prelude.{◌≡◌, IfOk};
 ghost use Rattle.cdx_models.specs.declared.errors.Step.{Step};
 ghost use Rattle.cdx_models.specs.Trees.{present, each};
 ghost use Rattle.cdx_license.specs.Records.{choice_tree, licenses_tree};

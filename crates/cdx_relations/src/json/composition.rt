@@ -1,6 +1,5 @@
 //! Compositions in JSON.
 
-ghost use Rattle.cdx_models.specs.Trees.{composition};
 ghost use Rattle.cdx_schema.specs.Kinds.{compositions};
 ghost use Rattle.cdx_json.specs.Stays.{reference_stays, list_stays};
 

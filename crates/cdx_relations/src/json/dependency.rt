@@ -1,6 +1,5 @@
 //! Dependencies in JSON.
 
-ghost use Rattle.cdx_models.specs.Trees.{dependency};
 ghost use Rattle.cdx_schema.specs.Kinds.{dependencies};
 ghost use Rattle.cdx_json.specs.Stays.{list_stays};
 

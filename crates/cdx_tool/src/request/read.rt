@@ -5,7 +5,7 @@ ghost use Rattle.serde_json.specs.Find.{get};
 ghost use Rattle.serde_json.specs.View.{view};
 ghost use Rattle.std.specs.Prelude.{codes};
 ghost use Rattle.cdx_bom.specs.Docs.{IsDoc, hops_of};
-ghost use Rattle.cdx_request.specs.Requests.{sent_of, sent_under, doc_of, doc_in, hops_at, asked_of, request_if, request_of};
+ghost use Rattle.cdx_request.specs.Requests.{sent_of, doc_of, doc_in, hops_at, asked_of, request_if, request_of};
 ghost use Rattle.cdx_request.specs.EventReading.{events_of};
 ghost use Rattle.cdx_tool.specs.Reads.{ReadsOwed, ReadsIf, IsRequest, sent_in, asked_in, form_in, hop_in};
 

@@ -2,8 +2,7 @@
 
 ghost use Rattle.std.specs.Prelude.{◌≡◌, ◌+◌, IfOk, codes, option_map};
 ghost use Rattle.cdx_models.specs.declared.bom.UrnUuid.{UrnUuid};
-ghost use Rattle.cdx_models.specs.Trees.{bill, present};
-ghost use Rattle.cdx_models.specs.Records.{urn_tree};
+ghost use Rattle.cdx_models.specs.Trees.{bill};
 ghost use Rattle.cdx_schema.specs.Table.{rows};
 ghost use Rattle.cdx_schema.specs.XmlReading.{attributes_read, in_force, find_attribute};
 ghost use Rattle.cdx_leaf.specs.Attribute.{GivesAt};
