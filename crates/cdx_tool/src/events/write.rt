@@ -1,6 +1,6 @@
 //! Events as JSON values.
 
-ghost use Rattle.std.specs.Prelude.{◌≡◌, [], map as each, IfOk, OnOk};
+ghost use Rattle.std.specs.Prelude.{◌≡◌, [], IfOk, OnOk};
 ghost use Rattle.serde_json.specs.View.{view, members_view};
 ghost use Rattle.cdx_request.specs.EventValues.{with_optional_text, with_name, attribute_value, with_attributes, one_text, event_value, events_value};
 
