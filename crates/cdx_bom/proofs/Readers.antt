@@ -10,7 +10,7 @@ use Rattle.cdx_push.specs.declared.kinds.LeafKind.TheVariants.{Properties, Exter
 use Rattle.cdx_nest.specs.declared.frames.NestKind.{NestKind}
 use Rattle.cdx_nest.specs.declared.frames.NestKind.TheVariants.{Metadata, Components, Services}
 use Rattle.cdx_nest.specs.Frames as nests
-use Rattle.cdx_bom.specs.Frames.{nest_reads, bill_readers, reader_of, IsNest}
+use Rattle.cdx_bom.specs.Frames.{nest_reader, bill_readers, reader_of, IsNest}
 use Rattle.cdx_bom.specs.declared.push.frame.BillKind.{BillKind}
 use Rattle.cdx_bom.specs.declared.push.frame.BillKind.TheVariants.{Nest, Bill}
 
@@ -28,22 +28,22 @@ abbrev nest_or : NestKind → BillKind → NestKind
 nest_or n (Nest k) = k
 nest_or n Bill = n
 
-pub has_nest : (o : Option (ChildReader LeafKind NestKind)) (r : ChildReader LeafKind BillKind) → option_map nest_reads o ≡ Some r → (q : ChildReader LeafKind NestKind) × (o ≡ Some q)
+pub has_nest : (o : Option (ChildReader LeafKind NestKind)) (r : ChildReader LeafKind BillKind) → option_map nest_reader o ≡ Some r → (q : ChildReader LeafKind NestKind) × (o ≡ Some q)
 has_nest None r e = absurd (let wrong : None ≡ Some r = e in cc)
 has_nest (Some q) r e = (q, refl)
 
-pub leaf_there : (o : Option (ChildReader LeafKind NestKind)) (l : LeafKind) → option_map nest_reads o ≡ Some (Leaf l) → o ≡ Some (Leaf l)
+pub leaf_there : (o : Option (ChildReader LeafKind NestKind)) (l : LeafKind) → option_map nest_reader o ≡ Some (Leaf l) → o ≡ Some (Leaf l)
 leaf_there None l e = absurd (let wrong : None ≡ Some (Leaf l) = e in cc)
 leaf_there (Some (Leaf m)) l e = ap (λ x. Some (Leaf x)) (ap (leaf_or l) (some_same e))
 leaf_there (Some (Nested n)) l e = absurd (let wrong : Nested (Nest n) ≡ Leaf l = some_same e in cc)
 
-pub nest_there : (o : Option (ChildReader LeafKind NestKind)) (n : NestKind) → option_map nest_reads o ≡ Some (Nested (Nest n)) → o ≡ Some (Nested n)
+pub nest_there : (o : Option (ChildReader LeafKind NestKind)) (n : NestKind) → option_map nest_reader o ≡ Some (Nested (Nest n)) → o ≡ Some (Nested n)
 nest_there None n e = absurd (let wrong : None ≡ Some (Nested (Nest n)) = e in cc)
 nest_there (Some (Leaf l)) n e = absurd (let wrong : Leaf l ≡ Nested (Nest n) = some_same e in cc)
 nest_there (Some (Nested m)) n e = ap (λ x. Some (Nested x)) (ap (nest_or n) (ap (nested_or (Nest n)) (some_same e)))
 
 -- No bill stands in anything.
-nest_in_nest : (o : Option (ChildReader LeafKind NestKind)) (k : BillKind) → option_map nest_reads o ≡ Some (Nested k) → IsNest k
+nest_in_nest : (o : Option (ChildReader LeafKind NestKind)) (k : BillKind) → option_map nest_reader o ≡ Some (Nested k) → IsNest k
 nest_in_nest None k e = absurd (let wrong : None ≡ Some (Nested k) = e in cc)
 nest_in_nest (Some (Leaf l)) k e = absurd (let wrong : Leaf l ≡ Nested k = some_same e in cc)
 nest_in_nest (Some (Nested n)) k e = (n, sym (ap (nested_or k) (some_same e)))

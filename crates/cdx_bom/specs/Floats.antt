@@ -4,8 +4,8 @@ use Rattle.cdx_models.specs.declared.errors.Step.{Step}
 use Rattle.cdx_schema.specs.Faults.{is_float, JsonFault}
 
 -- nothing is read
-abbrev pub nothing : {A : Type 0} → A → Unit {0}
-nothing x = tt
+abbrev pub to_unit : {A : Type 0} → A → Unit {0}
+to_unit x = tt
 
 -- the fault of a float at this path
 abbrev pub unless_float : Option (List Step) → Result (Unit {0}) JsonFault

@@ -45,16 +45,16 @@ frame_fields (frames.Bill p) = bill_slots p
 -- ---- what reads each child
 
 -- what reads a child of what stands in a bill
-abbrev pub nest_reads : ChildReader LeafKind NestKind → ChildReader LeafKind BillKind
-nest_reads (Leaf l) = Leaf l
-nest_reads (Nested k) = Nested (kinds.Nest k)
+abbrev pub nest_reader : ChildReader LeafKind NestKind → ChildReader LeafKind BillKind
+nest_reader (Leaf l) = Leaf l
+nest_reader (Nested k) = Nested (kinds.Nest k)
 
 -- in the order of the rows that are children
 abbrev pub bill_readers : List (ChildReader LeafKind BillKind)
 bill_readers = Nested (kinds.Nest Metadata) ∷ Nested (kinds.Nest Components) ∷ Nested (kinds.Nest Services) ∷ Leaf ExternalReferences ∷ Leaf Dependencies ∷ Leaf Compositions ∷ Leaf Properties ∷ Leaf Signature ∷ []
 
 abbrev pub reader_of : BillKind → ℕ → Option (ChildReader LeafKind BillKind)
-reader_of (kinds.Nest k) i = option_map nest_reads (nests.reader_of k i)
+reader_of (kinds.Nest k) i = option_map nest_reader (nests.reader_of k i)
 reader_of kinds.Bill i = at_position bill_readers i
 
 -- The value is of something that stands in a bill.

@@ -14,7 +14,7 @@ use Rattle.cdx_tool.specs.Owed.{reply_by, IsSettled}
 use Rattle.cdx_tool.specs.Run.{Tells, Ends}
 use Rattle.cdx_tool.specs.Shows.{reply_of}
 use Rattle.cdx_tool.specs.declared.answer.Answer.{Answer}
-use Rattle.cdx_tool.specs.Asks.{Inquiry, inquiry_of, WhyNoBill, misread, bill_refused, bill_of, bill_in, reply_to_lack, reply_to_bill, AsksFor}
+use Rattle.cdx_tool.specs.Asks.{Inquiry, inquiry_of, WhyNoBill, misread, bill_refused, bill_of, bill_in, reply_to_no_bill, reply_to_bill, AsksFor}
 use Rattle.cdx_canon.specs.Canon.{plain, canon}
 use Rattle.cdx_canon.specs.Answers.{canonical_answer, is_equal, equality_answer, refused_on, Pair, pair_of, reply_on, reply_beside, reply_to_bills, is_shaped, reply_to_sides, reply_to_pair, reply_if_value, owed, AsksForBoth, TellsEqual}
 use Rattle.cdx_canon.specs.Plain.{with_part}
@@ -55,7 +55,7 @@ misread_unserved not_json h = no_0 1 h
 misread_unserved shape h = no_0 1 h
 misread_unserved (unbalanced place) h = no_0 0 h
 
-lack_unserved : (l : WhyNoBill) → (reply_to_lack l).status ≡ 0 → ⊥
+lack_unserved : (l : WhyNoBill) → (reply_to_no_bill l).status ≡ 0 → ⊥
 lack_unserved (misread e) h = misread_unserved e h
 lack_unserved (bill_refused r) h = no_0 0 h
 

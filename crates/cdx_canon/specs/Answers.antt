@@ -28,7 +28,7 @@ canonical_answer b = jspell (plain b) V1_5 a_bill
 
 -- ---- `equal`
 
--- Whether two bills have one plain bill, so that they are the equal but for the label.
+-- Whether two bills have one plain bill, so that they are the same but for the label.
 abbrev pub is_equal : Tree → Tree → Bool
 is_equal b c = equal (plain b) (plain c)
 

@@ -12,7 +12,7 @@ ghost use Rattle.cdx_request.specs.Replies.{Reply, reply};
 ghost use Rattle.cdx_bom.specs.Docs.{refusal_of};
 ghost use Rattle.cdx_bom.specs.Trees.{bom_tree};
 ghost use Rattle.cdx_tool.specs.Shows.{reply_of};
-ghost use Rattle.cdx_tool.specs.Asks.{Inquiry, inquiry_of, bill_of as bill_owed, GivesBill, WhyNoBill, Lacks};
+ghost use Rattle.cdx_tool.specs.Asks.{Inquiry, inquiry_of, bill_of as bill_owed, GivesBill, WhyNoBill, IsWhyNoBill};
 ghost use Rattle.cdx_canon.specs.Answers.{is_equal, equality_answer, pair_of, refused_on, reply_on, reply_beside, reply_to_bills, reply_to_sides, reply_to_pair};
 ghost use Rattle.cdx_canon.specs.Sides.{pair_view, IsSide, ReadsSide};
 
@@ -109,9 +109,9 @@ fn answer_refused(alloc: Global, side: &str, error: &RoadError) -> Result<Answer
 }
 
 // The answer where a side has no bill.
-fn answer_lack_on(alloc: Global, side: &str, lack: NoBill) -> Result<Answer, AllocError>
-    requires { (owed : Owed Tree WhyNoBill) × Lacks owed lack }
-    ensures { (owed : Owed Tree WhyNoBill) (next : Tree → Reply) → Lacks owed lack
+fn answer_no_bill_on(alloc: Global, side: &str, lack: NoBill) -> Result<Answer, AllocError>
+    requires { (owed : Owed Tree WhyNoBill) × IsWhyNoBill owed lack }
+    ensures { (owed : Owed Tree WhyNoBill) (next : Tree → Reply) → IsWhyNoBill owed lack
         → IfOk result (λ a. reply_of a ≡ reply_on side.now next owed) }
 {
     match lack {
@@ -152,7 +152,7 @@ fn answer_right(alloc: Global, left: Bom, right: Side) -> Result<Answer, AllocEr
         → IfOk result (λ a. reply_of a ≡ reply_beside (bill_owed r) (bom_tree left)) }
 {
     match bill_of(alloc, right) {
-        Err(lack) => answer_lack_on(alloc, "right", lack),
+        Err(lack) => answer_no_bill_on(alloc, "right", lack),
         Ok(right) => answer_equal(alloc, left, right),
     }
 }
@@ -165,7 +165,7 @@ fn answer_sides(alloc: Global, left: Side, right: Side) -> Result<Answer, AllocE
         → IfOk result (λ a. reply_of a ≡ reply_to_bills (bill_owed l) (bill_owed r)) }
 {
     match bill_of(alloc, left) {
-        Err(lack) => answer_lack_on(alloc, "left", lack),
+        Err(lack) => answer_no_bill_on(alloc, "left", lack),
         Ok(left) => answer_right(alloc, left, right),
     }
 }

@@ -21,7 +21,7 @@ use crate::words::{Command, read_command};
 use cdx_bom::Bom;
 use cdx_events::{Sink, Source};
 use cdx_tool::{
-    Answer, Respond, Status, answer_lack, answer_value, read_json, refuse, respond, take_bill,
+    Answer, Respond, Status, answer_no_bill, answer_value, read_json, refuse, respond, take_bill,
 };
 use serde_json::Value;
 use std::alloc::{AllocError, Global};
@@ -42,7 +42,7 @@ fn answer_text(alloc: Global, value: Value) -> Result<Answer, AllocError>
 {
     match take_bill(alloc, value) {
         Ok(bill) => answer_bill(alloc, bill),
-        Err(lack) => answer_lack(alloc, lack),
+        Err(lack) => answer_no_bill(alloc, lack),
     }
 }
 

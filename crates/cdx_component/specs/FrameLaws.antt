@@ -6,17 +6,17 @@ use Rattle.cdx_schema.specs.Table.{rows, list}
 use Rattle.cdx_push.specs.Leaf.{kind_of as leaf_kind_of}
 use Rattle.cdx_machine.specs.Feeding.{IsNoBill}
 use Rattle.cdx_nest_machine.specs.Forms.{plan_of, IsNested, record_nested, list_nested}
-use Rattle.cdx_nest_machine.specs.Children.{ReadsEach, reads_listed}
-use Rattle.cdx_component.specs.Frames.{kind_of, reads_of, reader_of}
+use Rattle.cdx_nest_machine.specs.Children.{ReadsEach, readers_listed}
+use Rattle.cdx_component.specs.Frames.{kind_of, readers_of, reader_of}
 use Rattle.cdx_component.specs.declared.frames.ComponentKind.{ComponentKind}
 use Rattle.cdx_component.specs.declared.frames.ComponentKind.TheVariants.{Component, Components, Pedigree}
 
 -- The child of each position is read as the kind of its row.
 pub children_by_rows : (s : ComponentKind) → ReadsEach leaf_kind_of kind_of (reader_of s) (plan_of (kind_of s)).children
 unfolding rows list
-children_by_rows Component = reads_listed leaf_kind_of kind_of (reads_of Component) (plan_of (kind_of Component)).children refl
-children_by_rows Components = reads_listed leaf_kind_of kind_of (reads_of Components) (plan_of (kind_of Components)).children refl
-children_by_rows Pedigree = reads_listed leaf_kind_of kind_of (reads_of Pedigree) (plan_of (kind_of Pedigree)).children refl
+children_by_rows Component = readers_listed leaf_kind_of kind_of (readers_of Component) (plan_of (kind_of Component)).children refl
+children_by_rows Components = readers_listed leaf_kind_of kind_of (readers_of Components) (plan_of (kind_of Components)).children refl
+children_by_rows Pedigree = readers_listed leaf_kind_of kind_of (readers_of Pedigree) (plan_of (kind_of Pedigree)).children refl
 
 pub kinds_nested : (s : ComponentKind) → IsNested (kind_of s)
 unfolding rows

@@ -47,28 +47,28 @@ frame_fields (frames.Pedigree x) = pedigree_part x
 
 -- ---- what reads each child, in the order of the rows that are children
 
-abbrev pub origin_reads : List (ChildReader LeafKind ComponentKind) → List (ChildReader LeafKind ComponentKind)
-origin_reads others = Leaf Entity ∷ Leaf Text ∷ Leaf Text ∷ others
+abbrev pub origin_readers : List (ChildReader LeafKind ComponentKind) → List (ChildReader LeafKind ComponentKind)
+origin_readers others = Leaf Entity ∷ Leaf Text ∷ Leaf Text ∷ others
 
-abbrev pub naming_reads : List (ChildReader LeafKind ComponentKind) → List (ChildReader LeafKind ComponentKind)
-naming_reads others = Leaf Text ∷ Leaf Text ∷ Leaf Text ∷ Leaf Text ∷ Leaf Text ∷ Leaf Hashes ∷ others
+abbrev pub naming_readers : List (ChildReader LeafKind ComponentKind) → List (ChildReader LeafKind ComponentKind)
+naming_readers others = Leaf Text ∷ Leaf Text ∷ Leaf Text ∷ Leaf Text ∷ Leaf Text ∷ Leaf Hashes ∷ others
 
-abbrev pub marks_reads : List (ChildReader LeafKind ComponentKind) → List (ChildReader LeafKind ComponentKind)
-marks_reads others = Leaf Licenses ∷ Leaf Text ∷ Leaf Text ∷ Leaf Text ∷ Leaf Swid ∷ Leaf Flag ∷ others
+abbrev pub marks_readers : List (ChildReader LeafKind ComponentKind) → List (ChildReader LeafKind ComponentKind)
+marks_readers others = Leaf Licenses ∷ Leaf Text ∷ Leaf Text ∷ Leaf Text ∷ Leaf Swid ∷ Leaf Flag ∷ others
 
-abbrev pub contents_reads : List (ChildReader LeafKind ComponentKind)
-contents_reads = Nested Pedigree ∷ Leaf ExternalReferences ∷ Leaf Properties ∷ Nested Components ∷ Leaf Evidence ∷ Leaf Signature ∷ []
+abbrev pub contents_readers : List (ChildReader LeafKind ComponentKind)
+contents_readers = Nested Pedigree ∷ Leaf ExternalReferences ∷ Leaf Properties ∷ Nested Components ∷ Leaf Evidence ∷ Leaf Signature ∷ []
 
-abbrev pub component_reads : List (ChildReader LeafKind ComponentKind)
-component_reads = origin_reads (naming_reads (marks_reads contents_reads))
+abbrev pub component_readers : List (ChildReader LeafKind ComponentKind)
+component_readers = origin_readers (naming_readers (marks_readers contents_readers))
 
-abbrev pub pedigree_reads : List (ChildReader LeafKind ComponentKind)
-pedigree_reads = Nested Components ∷ Nested Components ∷ Nested Components ∷ Leaf Commits ∷ Leaf Patches ∷ Leaf Text ∷ []
+abbrev pub pedigree_readers : List (ChildReader LeafKind ComponentKind)
+pedigree_readers = Nested Components ∷ Nested Components ∷ Nested Components ∷ Leaf Commits ∷ Leaf Patches ∷ Leaf Text ∷ []
 
-abbrev pub reads_of : ComponentKind → List (ChildReader LeafKind ComponentKind)
-reads_of Component = component_reads
-reads_of Components = Nested Component ∷ []
-reads_of Pedigree = pedigree_reads
+abbrev pub readers_of : ComponentKind → List (ChildReader LeafKind ComponentKind)
+readers_of Component = component_readers
+readers_of Components = Nested Component ∷ []
+readers_of Pedigree = pedigree_readers
 
 abbrev pub reader_of : ComponentKind → ℕ → Option (ChildReader LeafKind ComponentKind)
-reader_of k i = at_position (reads_of k) i
+reader_of k i = at_position (readers_of k) i

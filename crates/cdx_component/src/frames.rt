@@ -21,7 +21,7 @@ use crate::xml::reading::finish::{finish_component, finish_pedigree};
 use crate::xml::reading::parts::{ComponentPart, PedigreePart};
 use cdx_events::OwnedName;
 use cdx_leaf::{End, Rule, Start};
-use cdx_machine::Found;
+use cdx_machine::FoundChild;
 use cdx_models::{SpecVersion, XmlReadError};
 use cdx_nest_machine::{ChildReader, Nested};
 use cdx_push::{Leaf, LeafKind, LeafValue};
@@ -121,7 +121,7 @@ impl Nested for ComponentFrame {
         }
     }
 
-    fn find(&self, version: SpecVersion, name: &OwnedName) -> Found {
+    fn find(&self, version: SpecVersion, name: &OwnedName) -> FoundChild {
         match self {
             ComponentFrame::Component(_) => find_in_component(version, name),
             ComponentFrame::Components(_) => find_in_list(name),

@@ -14,7 +14,7 @@ use cdx_relations::Dependencies;
 use std::alloc::Global;
 use std::test::Fail;
 
-const V: SpecVersion = SpecVersion::V1_5;
+const VERSION: SpecVersion = SpecVersion::V1_5;
 
 // Reads the root as a kind that doesn't contain itself, event by event.
 fn by_leaf_machine(alloc: Global, events: &Events, kind: LeafKind) -> Result<(), Fail> {
@@ -25,7 +25,7 @@ fn by_leaf_machine(alloc: Global, events: &Events, kind: LeafKind) -> Result<(),
         ..
     } = root_of(events);
     let count = events.len();
-    match cdx_push_tests::feed(alloc, &mut reader, kind, V, name, attributes, count) {
+    match cdx_push_tests::feed(alloc, &mut reader, kind, VERSION, name, attributes, count) {
         cdx_push_tests::Heard::Done(_) => Ok(()),
         _ => Err(Fail::new("the machine came to no value")),
     }
@@ -41,7 +41,7 @@ fn by_nest_machine(alloc: Global, events: &Events) -> Result<(), Fail> {
     } = root_of(events);
     let reading = Reading {
         kind: NestKind::Components,
-        version: V,
+        version: VERSION,
         depth: Depth::top(),
     };
     let count = events.len();
@@ -55,7 +55,7 @@ fn by_nest_machine(alloc: Global, events: &Events) -> Result<(), Fail> {
 fn by_pieces(alloc: Global, events: &Events, size: usize) -> Result<(), Fail>
     requires { 1 ≤ size }
 {
-    let mut reader = PushReader::new(alloc, V);
+    let mut reader = PushReader::new(alloc, VERSION);
     let mut fed = 0usize;
     'pieces: for piece in events.as_slice().chunks(size) {
         if piece.len() > usize::MAX - fed {
@@ -81,7 +81,7 @@ fn by_machine(alloc: Global, name: &str, events: &Events) -> Result<(), Fail> {
 
 // Reads the root by its kind's own reader.
 fn as_value<X: FromXml>(alloc: Global, events: &Events) -> Result<(), Fail> {
-    let _value: X = read_root(alloc, events, V)?;
+    let _value: X = read_root(alloc, events, VERSION)?;
     Ok(())
 }
 

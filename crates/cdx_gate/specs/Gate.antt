@@ -20,9 +20,9 @@ abbrev pub no_words : Reply
 no_words = request.reply 2 (no_request (codes "words"))
 
 -- the status and the text that are owed where nothing fails
-abbrev pub owed : List (String Global) → ℕ → List ℕ → Reply
-owed [] limit bytes = record { status = if nat_lt limit (length bytes) then 6 else 0; text = replies (answered limit bytes) }
-owed (word ∷ words) limit bytes = no_words
+abbrev pub owed_to_lines : List (String Global) → ℕ → List ℕ → Reply
+owed_to_lines [] limit bytes = record { status = if nat_lt limit (length bytes) then 6 else 0; text = replies (answered limit bytes) }
+owed_to_lines (word ∷ words) limit bytes = no_words
 
 -- the lines whose replies are owed
 abbrev pub owed_lines : List (String Global) → ℕ → List ℕ → List (List ℕ)
@@ -58,10 +58,10 @@ AnsweringStops ls status before now = ((status ≡ 4) × PutsFront before now (r
 abbrev pub ServingEnds : List (String Global) → ℕ → List ℕ → ℕ → Option (List ℕ) → Option (List ℕ) → Type 0
 ServingEnds words limit bytes status before now =
     -- all that is owed went out
-    ((status ≡ (owed words limit bytes).status) × Appends before now (owed words limit bytes).text)
+    ((status ≡ (owed_to_lines words limit bytes).status) × Appends before now (owed_to_lines words limit bytes).text)
     -- a source's fault, of which `serve` tells what went out
     ⊎ (status ≡ 3)
     -- a sink's fault: a front of it went out
-    ⊎ ((status ≡ 4) × PutsFront before now (owed words limit bytes).text)
+    ⊎ ((status ≡ 4) × PutsFront before now (owed_to_lines words limit bytes).text)
     -- want of memory: the replies of some of the first lines went out, each whole
     ⊎ ((status ≡ 5) × PutsFirst before now (owed_lines words limit bytes))

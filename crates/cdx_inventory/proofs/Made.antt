@@ -13,16 +13,16 @@ use Rattle.cdx_component.specs.declared.component.Component.TheOpen.{Component-F
 use Rattle.cdx_component.specs.declared.component.Component.TheViews.{out-Component}
 use Rattle.cdx_component.specs.Trees.{component_tree, components_tree, pedigree_tree, component_fields}
 use Rattle.cdx_component.specs.Laws.{component_tree-out}
-use Rattle.cdx_inventory.specs.Listing.{text_there}
+use Rattle.cdx_inventory.specs.Listing.{text_if_there}
 use Rattle.cdx_inventory.specs.Entries.{entry, license_text, license_texts, members_of}
 
-there_is : (o : Option (List ℕ)) → text_there (present text o) ≡ o
+there_is : (o : Option (List ℕ)) → text_if_there (present text o) ≡ o
 there_is None = refl
 there_is (Some s) = refl
 
 -- what is the same as a tree is the same text, or none
 pub same_line : (r o : Option (List ℕ)) → present text r ≡ present text o → r ≡ o
-same_line r o h = sym (there_is r) ∙ (ap text_there h ∙ there_is o)
+same_line r o h = sym (there_is r) ∙ (ap text_if_there h ∙ there_is o)
 
 level_told : {C L P : Type 0} (l : L → Tree) (q : P → Tree) (p : List Step) (x : Component-F C L P)
     → entry (p, fields component (component_fields l q x)) ≡ record { path = p; name = x.name; version = x.version; licenses = license_texts (members_of (present licenses_tree x.licenses)) }

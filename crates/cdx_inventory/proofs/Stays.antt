@@ -23,21 +23,21 @@ use Rattle.cdx_schema.proofs.Sound.{free_name}
 use Rattle.cdx_schema.proofs.Literals.{reading_on_literals}
 use Rattle.cdx_ways.specs.Ways.{At, behind_step, behind_row, is_step, begins, after_step, after_row}
 use Rattle.cdx_ways.proofs.Lists.{own_step, step_is}
-use Rattle.cdx_inventory.specs.Listing.{itself, listed_in, items_listed, rows_listed, listed, text_itself, text_there, Known, known, is_outside, the_tools, outside_tools, ListsKept}
+use Rattle.cdx_inventory.specs.Listing.{itself, listed_in, items_listed, rows_listed, listed, text_itself, text_if_there, Remained, remained, is_outside, the_tools, outside_tools, ListsKept}
 use Rattle.cdx_inventory.proofs.Unlisted.{lists_none, unlisted, items_unlisted}
 
 -- ---- what is known of the same
 
 -- As many are listed, at the same paths, with the same names and versions.
 abbrev Alike : List (At Tree) → List (At Tree) → Type 0
-Alike us vs = map known us ≡ map known vs
+Alike us vs = map remained us ≡ map remained vs
 
-abbrev pushed : Step → Known → Known
+abbrev pushed : Step → Remained → Remained
 pushed s k = record { path = s ∷ k.path; name = k.name; version = k.version }
 
-known_behind : (s : Step) (us : List (At Tree)) → map known (behind_step s us) ≡ map (pushed s) (map known us)
+known_behind : (s : Step) (us : List (At Tree)) → map remained (behind_step s us) ≡ map (pushed s) (map remained us)
 known_behind s [] = refl
-known_behind s (x ∷ us) = ap (λ ks. pushed s (known x) ∷ ks) (known_behind s us)
+known_behind s (x ∷ us) = ap (λ ks. pushed s (remained x) ∷ ks) (known_behind s us)
 
 step_alike : (s : Step) (us vs : List (At Tree)) → Alike us vs → Alike (behind_step s us) (behind_step s vs)
 step_alike s us vs h = known_behind s us ∙ (ap (map (pushed s)) h ∙ sym (known_behind s vs))
@@ -47,7 +47,7 @@ row_alike (kinds.member name) us vs h = step_alike (to_member name) us vs h
 row_alike kinds.merged us vs h = h
 
 both_alike : (us us' vs vs' : List (At Tree)) → Alike us vs → Alike us' vs' → Alike (us ++ us') (vs ++ vs')
-both_alike us us' vs vs' h g = map-append known us us' ∙ (ap (λ ks. ks ++ map known us') h ∙ (ap (λ ks. map known vs ++ ks) g ∙ sym (map-append known vs vs')))
+both_alike us us' vs vs' h g = map-append remained us us' ∙ (ap (λ ks. ks ++ map remained us') h ∙ (ap (λ ks. map remained vs ++ ks) g ∙ sym (map-append remained vs vs')))
 
 -- ---- what is left out
 
@@ -254,22 +254,22 @@ field_kept w l zero (more t ts) (r ∷ rs) h =
     ap (λ b. if b then kept w l t r.kind else absent) (ever_known r.since w p.0) ∙ ap (kept w l t) (text_kind r.kind p.1)
 field_kept w l (suc i) (more t ts) (r ∷ rs) h = field_kept w l i ts rs h
 
-text_kept : (w l : SpecVersion) (t : Tree) → (text_itself (kept w l t a_text) ≡ text_itself t) × (text_there (kept w l t a_text) ≡ text_there t)
+text_kept : (w l : SpecVersion) (t : Tree) → (text_itself (kept w l t a_text) ≡ text_itself t) × (text_if_there (kept w l t a_text) ≡ text_if_there t)
 unfolding kept
 text_kept w l absent = (refl, refl)
 text_kept w l (text s) = (refl, refl)
 text_kept w l (number n) = (refl, refl)
 text_kept w l (boolean b) = (refl, refl)
 text_kept w l (items ts) = (refl, refl)
-text_kept w l (fields n ts) = let e = stays w a_text n (rows_kept w l ts (rows n)) refl in (ap text_itself e, ap text_there e)
+text_kept w l (fields n ts) = let e = stays w a_text n (rows_kept w l ts (rows n)) refl in (ap text_itself e, ap text_if_there e)
 
-abbrev called : List ℕ → Option (List ℕ) → List Known
+abbrev called : List ℕ → Option (List ℕ) → List Remained
 called n v = record { path = []; name = n; version = v } ∷ []
 
 itself_alike : (w l : SpecVersion) (n : Name) (ts : Trees) → Alike (itself n (rows_kept w l ts (rows n))) (itself n ts)
 itself_alike w l component ts =
-    ap (λ n. called n (text_there (field 8 (rows_kept w l ts (rows component))))) (ap text_itself (field_kept w l 7 ts (rows component) (unfold rows in refl)) ∙ (text_kept w l (field 7 ts)).0)
-    ∙ ap (called (text_itself (field 7 ts))) (ap text_there (field_kept w l 8 ts (rows component) (unfold rows in refl)) ∙ (text_kept w l (field 8 ts)).1)
+    ap (λ n. called n (text_if_there (field 8 (rows_kept w l ts (rows component))))) (ap text_itself (field_kept w l 7 ts (rows component) (unfold rows in refl)) ∙ (text_kept w l (field 7 ts)).0)
+    ∙ ap (called (text_itself (field 7 ts))) (ap text_if_there (field_kept w l 8 ts (rows component) (unfold rows in refl)) ∙ (text_kept w l (field 8 ts)).1)
 itself_alike w l _ ts = refl
 
 left_itself : (w : SpecVersion) (n : Name) (ts : Trees) → left (way w (a_record n)) (itself n ts) ≡ itself n ts
@@ -293,7 +293,7 @@ text_unlisted l a_version s = refl
 text_unlisted l _ s = refl
 
 none_alike : (o : Option (List Step)) (us vs : List (At Tree)) → us ≡ [] → vs ≡ [] → Alike us (left o vs)
-none_alike o us vs e h = ap (map known) (e ∙ sym (ap (left o) h ∙ left_none o))
+none_alike o us vs e h = ap (map remained) (e ∙ sym (ap (left o) h ∙ left_none o))
 
 -- a field of a row that the version knows or drops
 one_alike : (w l : SpecVersion) (o : Option (List Step)) (t : Tree) (r : Row) (b : Bool) → knows r.since w ≡ b → (knows r.since V1_3 || lists_none r.kind) ≡ true → after o r.json ≡ way w r.kind
@@ -302,7 +302,7 @@ one_alike : (w l : SpecVersion) (o : Option (List Step)) (t : Tree) (r : Row) (b
     → Alike (listed_in (if b then kept w l t r.kind else absent) r.kind) (left (after o r.json) (listed_in t r.kind))
 unfolding listed_in kept
 one_alike w l o t r true e late fit f (inl h) = none_alike (after o r.json) (listed_in (kept w l t r.kind) r.kind) (listed_in t r.kind) (ap (λ x. listed_in (kept w l x r.kind) r.kind) h) (ap (λ x. listed_in x r.kind) h)
-one_alike w l o t r true e late fit f (inr h) = f h ∙ ap (λ z. map known (left z (listed_in t r.kind))) (sym fit)
+one_alike w l o t r true e late fit f (inr h) = f h ∙ ap (λ z. map remained (left z (listed_in t r.kind))) (sym fit)
 one_alike w l o t r false e late fit f (inl h) = none_alike (after o r.json) [] (listed_in t r.kind) refl (ap (λ x. listed_in x r.kind) h)
 one_alike w l o t r false e late fit f (inr h) = none_alike (after o r.json) [] (listed_in t r.kind) refl (unlisted t r.kind h (unknown_none r.since w r.kind late e))
 
@@ -310,7 +310,7 @@ level_alike : (o : Option (List Step)) (n : Name) (us ts : Trees) → Alike (its
     → Alike (itself n us ++ rows_listed us (rows n)) (left o (itself n ts ++ rows_listed ts (rows n)))
 level_alike o n us ts a e h =
     both_alike (itself n us) (rows_listed us (rows n)) (itself n ts) (left o (rows_listed ts (rows n))) a h
-    ∙ ap (map known) (sym (left_append o (itself n ts) (rows_listed ts (rows n)) ∙ ap (λ z. z ++ left o (rows_listed ts (rows n))) e))
+    ∙ ap (map remained) (sym (left_append o (itself n ts) (rows_listed ts (rows n)) ∙ ap (λ z. z ++ left o (rows_listed ts (rows n))) e))
 
 -- A record, seen as one of its own name.
 record_alike : (w l : SpecVersion) (n : Name) (ts : Trees) → Alike (rows_listed (rows_kept w l ts (rows n)) (rows n)) (left (way w (a_record n)) (rows_listed ts (rows n)))
@@ -320,8 +320,8 @@ record_alike w l n ts h = level_alike (way w (a_record n)) n (rows_kept w l ts (
 tools_alike : (w l : SpecVersion) (ts : Trees) → Alike (rows_listed (rows_kept w l ts (rows tools_object)) (rows tools_object)) (left (way w (a_record tools_object)) (rows_listed ts (rows tools_object)))
     → Alike (listed_in (kept_record w a_tools tools_object (rows_kept w l ts (rows tools_object))) a_tools) (left (way w a_tools) (listed_in (fields tools_object ts) a_tools))
 unfolding listed_in
-tools_alike V1_3 l ts h = ap (map known) (sym (left_all (rows_listed ts (rows tools_object))))
-tools_alike V1_4 l ts h = ap (map known) (sym (left_all (rows_listed ts (rows tools_object))))
+tools_alike V1_3 l ts h = ap (map remained) (sym (left_all (rows_listed ts (rows tools_object))))
+tools_alike V1_4 l ts h = ap (map remained) (sym (left_all (rows_listed ts (rows tools_object))))
 tools_alike V1_5 l ts h = h
 
 bill_way : (w : SpecVersion) → way w (a_record bill) ≡ way w a_bill
@@ -335,7 +335,7 @@ fields_alike : (w l : SpecVersion) (k : Kind) (n : Name) (ts : Trees) → IsReco
     → Alike (listed_in (kept_record w k n (rows_kept w l ts (rows n))) k) (left (way w k) (listed_in (fields n ts) k))
 unfolding listed_in
 fields_alike w l (a_record m) n ts is e h =
-    ap (λ t. map known (listed_in t (a_record m))) (stays w (a_record m) n (rows_kept w l ts (rows n)) refl)
+    ap (λ t. map remained (listed_in t (a_record m))) (stays w (a_record m) n (rows_kept w l ts (rows n)) refl)
     ∙ subst (λ (z : Name). Alike (itself n (rows_kept w l ts (rows n)) ++ rows_listed (rows_kept w l ts (rows n)) (rows n)) (left (way w (a_record z)) (itself n ts ++ rows_listed ts (rows n)))) is
     (record_alike w l n ts (h (ap free_name is ∙ e)))
 fields_alike w l a_tools n ts is e h =
@@ -343,7 +343,7 @@ fields_alike w l a_tools n ts is e h =
     → Alike (listed_in (kept_record w a_tools z (rows_kept w l ts (rows z))) a_tools) (left (way w a_tools) (listed_in (fields z ts) a_tools))) (sym is)
     (λ g. tools_alike w l ts (g refl)) h
 fields_alike w l a_bill n ts is e h =
-    ap (λ t. map known (listed_in t a_bill)) (stays w a_bill n (rows_kept w l ts (rows n)) refl)
+    ap (λ t. map remained (listed_in t a_bill)) (stays w a_bill n (rows_kept w l ts (rows n)) refl)
     ∙ subst (λ (o : Option (List Step)). Alike (itself n (rows_kept w l ts (rows n)) ++ rows_listed (rows_kept w l ts (rows n)) (rows n)) (left o (itself n ts ++ rows_listed ts (rows n))))
     (ap (λ z. way w (a_record z)) is ∙ bill_way w) (record_alike w l n ts (h (ap free_name is)))
 fields_alike w l (a_list x) n ts is e h = absurd (true≢false is)
@@ -365,7 +365,7 @@ mutual
   kept_alike w l (text s) k h = none_alike (way w k) (listed_in (kept_text l k s) k) [] (text_unlisted l k s) refl
   kept_alike w l (number n) k h = none_alike (way w k) [] [] refl refl
   kept_alike w l (boolean b) k h = none_alike (way w k) [] [] refl refl
-  kept_alike w l (items ts) (a_list x) h = items_alike w l ts (list x).kind 0 (held_plain x) h.1 ∙ ap (λ o. map known (left o (items_listed ts (list x).kind 0))) (sym (way_none w (a_list x) refl))
+  kept_alike w l (items ts) (a_list x) h = items_alike w l ts (list x).kind 0 (held_plain x) h.1 ∙ ap (λ o. map remained (left o (items_listed ts (list x).kind 0))) (sym (way_none w (a_list x) refl))
   kept_alike w l (items ts) a_tools h = none_alike (way w a_tools) (items_listed (items_kept w l ts (held_kind a_tools)) (held_kind a_tools) 0) (items_listed ts (held_kind a_tools) 0)
       (items_unlisted (items_kept w l ts (held_kind a_tools)) (held_kind a_tools) 0 (items_kept_of AnyText w l ts (held_kind a_tools) h.1) no_tool_lists) (items_unlisted ts (held_kind a_tools) 0 h.1 no_tool_lists)
   kept_alike w l (items ts) a_data h = none_alike (way w a_data) (items_listed (items_kept w l ts an_entry) an_entry 0) (items_listed ts an_entry 0)
@@ -380,7 +380,7 @@ mutual
   items_alike w l none k i e h = refl
   items_alike w l (more t ts) k i e h =
       both_alike (behind_step (to_item i) (listed_in (kept w l t k) k)) (items_listed (items_kept w l ts k) k (suc i)) (behind_step (to_item i) (listed_in t k)) (items_listed ts k (suc i))
-      (step_alike (to_item i) (listed_in (kept w l t k) k) (listed_in t k) (kept_alike w l t k h.0 ∙ ap (λ o. map known (left o (listed_in t k))) (way_none w k e)))
+      (step_alike (to_item i) (listed_in (kept w l t k) k) (listed_in t k) (kept_alike w l t k h.0 ∙ ap (λ o. map remained (left o (listed_in t k))) (way_none w k e)))
       (items_alike w l ts k (suc i) e h.1)
 
   rows_alike : (w l : SpecVersion) (o : Option (List Step)) (ts : Trees) (rs : List Row) → FieldsHaveShape ts rs → later_none rs ≡ true → RowsFit w o rs → IsLater o
@@ -394,7 +394,7 @@ mutual
       (row_alike r.json (listed_in (if knows r.since w then kept w l t r.kind else absent) r.kind) (left (after o r.json) (listed_in t r.kind))
       (one_alike w l o t r (knows r.since w) refl p.0 fit.0 (kept_alike w l t r.kind) (or_shape h.0)))
       (rows_alike w l o ts rs h.1 p.1 fit.1 from)
-      ∙ ap (map known) (sym (left_append o (behind_row r.json (listed_in t r.kind)) (rows_listed ts rs) ∙ ap (λ z. z ++ left o (rows_listed ts rs)) (left_row o r.json (listed_in t r.kind) from)))
+      ∙ ap (map remained) (sym (left_append o (behind_row r.json (listed_in t r.kind)) (rows_listed ts rs) ∙ ap (λ z. z ++ left o (rows_listed ts rs)) (left_row o r.json (listed_in t r.kind) from)))
 
 outside_is : (w : SpecVersion) (xs : List (At Tree)) → left (way w a_bill) xs ≡ outside_tools w xs
 outside_is V1_3 xs = refl
@@ -402,4 +402,4 @@ outside_is V1_4 xs = refl
 outside_is V1_5 xs = refl
 
 pub lists_kept : ListsKept
-lists_kept b w h = kept_alike w w b a_bill h ∙ ap (map known) (outside_is w (listed b))
+lists_kept b w h = kept_alike w w b a_bill h ∙ ap (map remained) (outside_is w (listed b))

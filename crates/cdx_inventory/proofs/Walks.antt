@@ -41,7 +41,7 @@ use Rattle.cdx_ways.specs.Ways.{At, behind_step, behind_row, behind_choice}
 use Rattle.cdx_inventory.specs.declared.entry.Entry.{Entry}
 use Rattle.cdx_inventory.specs.Listing.{itself, listed_in, items_listed, rows_listed}
 use Rattle.cdx_inventory.specs.Entries.{Told, entry, told, all_told, has_license, inventory}
-use Rattle.cdx_inventory.specs.Walks.{below, AddsEntries}
+use Rattle.cdx_inventory.specs.Walks.{entries_below, AddsEntries}
 use Rattle.cdx_inventory.proofs.Unlisted.{append_none, behind_none, choice_none}
 
 -- ---- trees without components list nothing
@@ -181,12 +181,12 @@ nothing_present f k = refl
 moved : List Step → At Tree → Told
 moved p x = entry (p ++ x.0, x.1)
 
-below_append : (p : List Step) (xs ys : List (At Tree)) → below p (xs ++ ys) ≡ below p xs ++ below p ys
+below_append : (p : List Step) (xs ys : List (At Tree)) → entries_below p (xs ++ ys) ≡ entries_below p xs ++ entries_below p ys
 below_append p xs ys = map-append (λ x. entry (p ++ x.0, x.1)) xs ys
 
-below_step : (p : List Step) (s : Step) (xs : List (At Tree)) → below (p ++ s ∷ []) xs ≡ below p (behind_step s xs)
+below_step : (p : List Step) (s : Step) (xs : List (At Tree)) → entries_below (p ++ s ∷ []) xs ≡ entries_below p (behind_step s xs)
 below_step p s [] = refl
-below_step p s (x ∷ xs) = ap (λ q. entry (q, x.1) ∷ below (p ++ s ∷ []) xs) (append_assoc p (s ∷ []) x.0) ∙ ap (λ es. entry (p ++ s ∷ x.0, x.1) ∷ es) (below_step p s xs)
+below_step p s (x ∷ xs) = ap (λ q. entry (q, x.1) ∷ entries_below (p ++ s ∷ []) xs) (append_assoc p (s ∷ []) x.0) ∙ ap (λ es. entry (p ++ s ∷ x.0, x.1) ∷ es) (below_step p s xs)
 
 pub adds_same : (xs ys : List (At Tree)) (p q : List Step) (e f : List Entry) → ys ≡ xs → AddsEntries xs p q e f → AddsEntries ys p q e f
 adds_same xs ys p q e f h a = subst (λ (zs : List (At Tree)). AddsEntries zs p q e f) (sym h) a
@@ -197,12 +197,12 @@ adds_none p e = (refl, sym (append-nil (all_told e)))
 pub adds_both : (xs ys : List (At Tree)) (p q r : List Step) (e f g : List Entry) → AddsEntries xs p q e f → AddsEntries ys q r f g → AddsEntries (xs ++ ys) p r e g
 adds_both xs ys p q r e f g a b = (
   b.0 ∙ a.0,
-  b.1 ∙ (ap (λ z. all_told f ++ below z ys) a.0 ∙ (ap (λ z. z ++ below p ys) a.1 ∙ (append_assoc (all_told e) (below p xs) (below p ys) ∙ ap (λ z. all_told e ++ z) (sym (below_append p xs ys))))),
+  b.1 ∙ (ap (λ z. all_told f ++ entries_below z ys) a.0 ∙ (ap (λ z. z ++ entries_below p ys) a.1 ∙ (append_assoc (all_told e) (entries_below p xs) (entries_below p ys) ∙ ap (λ z. all_told e ++ z) (sym (below_append p xs ys))))),
 )
 
 -- what is listed behind a step, where the path is cut back to where it began
 pub adds_behind : (s : Step) (xs : List (At Tree)) (p q r t : List Step) (e f : List Entry) → q ≡ p ++ s ∷ [] → t ≡ p → AddsEntries xs q r e f → AddsEntries (behind_step s xs) p t e f
-adds_behind s xs p q r t e f is back a = (back, a.1 ∙ ap (λ z. all_told e ++ z) (ap (λ z. below z xs) is ∙ below_step p s xs))
+adds_behind s xs p q r t e f is back a = (back, a.1 ∙ ap (λ z. all_told e ++ z) (ap (λ z. entries_below z xs) is ∙ below_step p s xs))
 
 pub adds_one : (c : Tree) (p : List Step) (e f : List Entry) (x : Entry) → f ≡ e ++ x ∷ [] → told x ≡ entry (p, c) → AddsEntries (([], c) ∷ []) p p e f
 adds_one c p e f x is h = (refl, ap all_told is ∙ (map-append told e (x ∷ []) ∙ ap (λ z. all_told e ++ z ∷ []) (h ∙ ap (λ q. entry (q, c)) (sym (append-nil p)))))
@@ -231,13 +231,13 @@ pub bill_told : (b : Bom) (p q : List Step) (e f : List Entry) → p ≡ [] → 
     → all_told f ≡ inventory (bom_tree b) None
 bill_told b p q e f start empty a =
     let xs = behind_step (to_member (codes "metadata")) (listed_in (present metadata_tree b.metadata) (a_record metadata)) ++ (behind_step (to_member (codes "components")) (listed_in (present components_tree b.components) (a_list components)) ++ []) in
-    a.1 ∙ (ap (λ z. all_told z ++ below p xs) empty ∙ (ap (λ z. below z xs) start ∙ ap (map entry) (sym (bill_listed b))))
+    a.1 ∙ (ap (λ z. all_told z ++ entries_below p xs) empty ∙ (ap (λ z. entries_below z xs) start ∙ ap (map entry) (sym (bill_listed b))))
 
 -- ---- the items of a list
 
 -- what is still to be listed from an item on, behind what is there, is the whole
 abbrev pub Remains : {X : Type 0} → (X → Tree) → Kind → List Step → List X → ℕ → List Entry → List Told → Type 0
-Remains f k p xs i e whole = all_told e ++ below p (items_listed (each f (drop i xs)) k i) ≡ whole
+Remains f k p xs i e whole = all_told e ++ entries_below p (items_listed (each f (drop i xs)) k i) ≡ whole
 
 next_item : (i : ℕ) → suc i ≡ i + 1
 next_item i = omega arith
@@ -251,15 +251,15 @@ item_step f k xs i x h is =
     ∙ ap (λ z. behind_step (to_item i) (listed_in (f z) k) ++ items_listed (each f (drop (i + 1) xs)) k (i + 1)) (sym is))
 
 pub remains_next : {X : Type 0} (f : X → Tree) (k : Kind) (p : List Step) (xs : List X) (i : ℕ) (x : X) (e g : List Entry) (whole : List Told) → i < length xs → x ≡ get_or xs i x
-    → all_told g ≡ all_told e ++ below (p ++ to_item i ∷ []) (listed_in (f x) k) → Remains f k p xs i e whole → Remains f k p xs (i + 1) g whole
+    → all_told g ≡ all_told e ++ entries_below (p ++ to_item i ∷ []) (listed_in (f x) k) → Remains f k p xs i e whole → Remains f k p xs (i + 1) g whole
 remains_next f k p xs i x e g whole h is a r =
-    ap (λ z. z ++ below p (items_listed (each f (drop (i + 1) xs)) k (i + 1))) (a ∙ ap (λ z. all_told e ++ z) (below_step p (to_item i) (listed_in (f x) k)))
-    ∙ (append_assoc (all_told e) (below p (behind_step (to_item i) (listed_in (f x) k))) (below p (items_listed (each f (drop (i + 1) xs)) k (i + 1)))
-    ∙ (ap (λ z. all_told e ++ z) (sym (below_append p (behind_step (to_item i) (listed_in (f x) k)) (items_listed (each f (drop (i + 1) xs)) k (i + 1))) ∙ ap (below p) (sym (item_step f k xs i x h is))) ∙ r))
+    ap (λ z. z ++ entries_below p (items_listed (each f (drop (i + 1) xs)) k (i + 1))) (a ∙ ap (λ z. all_told e ++ z) (below_step p (to_item i) (listed_in (f x) k)))
+    ∙ (append_assoc (all_told e) (entries_below p (behind_step (to_item i) (listed_in (f x) k))) (entries_below p (items_listed (each f (drop (i + 1) xs)) k (i + 1)))
+    ∙ (ap (λ z. all_told e ++ z) (sym (below_append p (behind_step (to_item i) (listed_in (f x) k)) (items_listed (each f (drop (i + 1) xs)) k (i + 1))) ∙ ap (entries_below p) (sym (item_step f k xs i x h is))) ∙ r))
 
 pub remains_none : {X : Type 0} (f : X → Tree) (k : Kind) (p : List Step) (xs : List X) (i : ℕ) (e : List Entry) (whole : List Told) → length xs ≤ i → Remains f k p xs i e whole → all_told e ≡ whole
 unfolding listed_in
-remains_none f k p xs i e whole h r = sym (append-nil (all_told e)) ∙ (ap (λ z. all_told e ++ below p z) (sym (at_drop_all (λ zs. items_listed (each f zs) k i) xs i h)) ∙ r)
+remains_none f k p xs i e whole h r = sym (append-nil (all_told e)) ∙ (ap (λ z. all_told e ++ entries_below p z) (sym (at_drop_all (λ zs. items_listed (each f zs) k i) xs i h)) ∙ r)
 
 -- ---- under a license
 

@@ -6,7 +6,7 @@ use Rattle.cdx_models.specs.declared.errors.Step.{Step}
 use Rattle.cdx_models.specs.Trees.{license, expression, Tree, items, fields, Trees, none, more, field, fields_of}
 use Rattle.cdx_ways.specs.Ways.{At}
 use Rattle.cdx_inventory.specs.declared.entry.Entry.{Entry}
-use Rattle.cdx_inventory.specs.Listing.{listed, text_itself, the_licenses, name_of, component_version}
+use Rattle.cdx_inventory.specs.Listing.{listed, text_itself, licenses_position, component_name, component_version}
 
 pub record Told : Type 0 where
   pub path : List Step
@@ -30,11 +30,11 @@ license_texts (more t ts) = license_text t ∷ license_texts ts
 
 -- the texts of a component's licenses; those in evidence don't count
 abbrev pub licenses_of : Tree → List (List ℕ)
-licenses_of c = license_texts (members_of (field the_licenses (fields_of c)))
+licenses_of c = license_texts (members_of (field licenses_position (fields_of c)))
 
 -- the path, the name, the version where there is one, and the texts of the licenses
 abbrev pub entry : At Tree → Told
-entry x = record { path = x.0; name = name_of x.1; version = component_version x.1; licenses = licenses_of x.1 }
+entry x = record { path = x.0; name = component_name x.1; version = component_version x.1; licenses = licenses_of x.1 }
 
 abbrev pub has_license : List ℕ → Told → Bool
 has_license s e = list_any (λ t. bytes_eq t s) e.licenses

@@ -51,26 +51,26 @@ abbrev pub text_itself : Tree → List ℕ
 text_itself (text s) = s
 text_itself _ = []
 
-abbrev pub text_there : Tree → Option (List ℕ)
-text_there (text s) = Some s
-text_there _ = None
+abbrev pub text_if_there : Tree → Option (List ℕ)
+text_if_there (text s) = Some s
+text_if_there _ = None
 
 -- the places of a component's rows
-abbrev pub the_name : ℕ
-the_name = 7
+abbrev pub name_position : ℕ
+name_position = 7
 
-abbrev pub the_version : ℕ
-the_version = 8
+abbrev pub version_position : ℕ
+version_position = 8
 
-abbrev pub the_licenses : ℕ
-the_licenses = 12
+abbrev pub licenses_position : ℕ
+licenses_position = 12
 
-abbrev pub name_of : Tree → List ℕ
-name_of c = text_itself (field the_name (fields_of c))
+abbrev pub component_name : Tree → List ℕ
+component_name c = text_itself (field name_position (fields_of c))
 
 -- the version, where there is one
 abbrev pub component_version : Tree → Option (List ℕ)
-component_version c = text_there (field the_version (fields_of c))
+component_version c = text_if_there (field version_position (fields_of c))
 
 -- ---- the laws
 
@@ -118,13 +118,13 @@ ListsAll = (b : Tree) → HasBillShape b
     × (length (listed b) ≡ count_in b)
 
 -- what stays of a component: its path, its name and its version
-pub record Known : Type 0 where
+pub record Remained : Type 0 where
   pub path : List Step
   pub name : List ℕ
   pub version : Option (List ℕ)
 
-abbrev pub known : At Tree → Known
-known x = record { path = x.0; name = name_of x.1; version = component_version x.1 }
+abbrev pub remained : At Tree → Remained
+remained x = record { path = x.0; name = component_name x.1; version = component_version x.1 }
 
 abbrev pub the_tools : List Step
 the_tools = to_member (codes "metadata") ∷ to_member (codes "tools") ∷ []
@@ -142,4 +142,4 @@ outside_tools V1_5 xs = xs
 -- 1.5. Their names and versions stay.
 abbrev pub ListsKept : Type 0
 ListsKept = (b : Tree) (w : SpecVersion) → HasBillShape b
-    → map known (listed (keep w b a_bill)) ≡ map known (outside_tools w (listed b))
+    → map remained (listed (keep w b a_bill)) ≡ map remained (outside_tools w (listed b))

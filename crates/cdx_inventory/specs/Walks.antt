@@ -7,9 +7,9 @@ use Rattle.cdx_inventory.specs.declared.entry.Entry.{Entry}
 use Rattle.cdx_inventory.specs.Entries.{Told, entry, all_told}
 
 -- the entries of what is listed below a path
-abbrev pub below : List Step → List (At Tree) → List Told
-below p xs = map (λ x. entry (p ++ x.0, x.1)) xs
+abbrev pub entries_below : List Step → List (At Tree) → List Told
+entries_below p xs = map (λ x. entry (p ++ x.0, x.1)) xs
 
 -- The walk ends at the path where it began, and adds the entries of what is listed below that.
 abbrev pub AddsEntries : List (At Tree) → List Step → List Step → List Entry → List Entry → Type 0
-AddsEntries xs before after old new = (after ≡ before) × (all_told new ≡ all_told old ++ below before xs)
+AddsEntries xs before after old new = (after ≡ before) × (all_told new ≡ all_told old ++ entries_below before xs)

@@ -14,7 +14,7 @@ use crate::listing::inventory;
 use cdx_bom::Bom;
 use cdx_events::List as Items;
 use cdx_tool::{
-    Answer, JsonItem, Status, answer_lack, answer_value, items_to_json, only, read_json, refuse,
+    Answer, JsonItem, Status, answer_no_bill, answer_value, items_to_json, only, read_json, refuse,
     take_bill,
 };
 use serde_json::{Value, json};
@@ -65,7 +65,7 @@ fn answer_question(alloc: Global, value: Value, license: Option<&str>) -> Result
 {
     match take_bill(alloc, value) {
         Ok(bill) => answer_bill(alloc, &bill, license),
-        Err(error) => answer_lack(alloc, error),
+        Err(error) => answer_no_bill(alloc, error),
     }
 }
 

@@ -33,15 +33,15 @@ member_same (member name) o own own' r v d same =
     let n : List ℕ = member_name o name r.old_name in ap (under (to_member n)) (found_same (o n) r v d)
 member_same merged o own own' r v d same = same r.kind
 
-same_since : (s v : SpecVersion) (x : Result Tree JsonFault) → read_since s v x ≡ (if knows s v then x else Ok absent)
+same_read_since : (s v : SpecVersion) (x : Result Tree JsonFault) → read_since s v x ≡ (if knows s v then x else Ok absent)
 unfolding late_read
-same_since V1_3 v x = refl
-same_since V1_4 v x = refl
-same_since V1_5 v x = refl
+same_read_since V1_3 v x = refl
+same_read_since V1_4 v x = refl
+same_read_since V1_5 v x = refl
 
 row_same : (o : Object) (own own' : Kind → Result Tree JsonFault) (r : Row) (v : SpecVersion) (d : Depth) → ((k : Kind) → own k ≡ own' k) → row_made o own r v d ≡ row_read o own' r v d
 row_same o own own' r v d same =
-    same_since r.since v (member_made r.json o own r v d) ∙ ap (λ x. if knows r.since v then x else Ok absent) (member_same r.json o own own' r v d same)
+    same_read_since r.since v (member_made r.json o own r v d) ∙ ap (λ x. if knows r.since v then x else Ok absent) (member_same r.json o own own' r v d same)
 
 -- ---- all rows
 

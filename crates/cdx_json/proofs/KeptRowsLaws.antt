@@ -13,18 +13,18 @@ use Rattle.cdx_json.specs.KeptRows.{late_kept, kept_since, rows_held, put_kept, 
 
 -- ---- what is kept
 
-kept_since_same : (s w : SpecVersion) (t : Tree) → kept_since s w t ≡ (if knows s w then t else absent)
+same_kept_since : (s w : SpecVersion) (t : Tree) → kept_since s w t ≡ (if knows s w then t else absent)
 unfolding late_kept
-kept_since_same V1_3 w t = refl
-kept_since_same V1_4 w t = refl
-kept_since_same V1_5 w t = refl
+same_kept_since V1_3 w t = refl
+same_kept_since V1_4 w t = refl
+same_kept_since V1_5 w t = refl
 
 pub rows_held_are : (w l : SpecVersion) (ts : Trees) (rs : List Row) → rows_held w l ts rs ≡ rows_kept w l ts rs
 unfolding rows_held kept
 rows_held_are w l none rs = refl
 rows_held_are w l (more t ts) [] = refl
 rows_held_are w l (more t ts) (r ∷ rs) =
-    ap (λ u. more u (rows_held w l ts rs)) (kept_since_same r.since w (kept w l t r.kind)) ∙ ap (more (if knows r.since w then kept w l t r.kind else absent)) (rows_held_are w l ts rs)
+    ap (λ u. more u (rows_held w l ts rs)) (same_kept_since r.since w (kept w l t r.kind)) ∙ ap (more (if knows r.since w then kept w l t r.kind else absent)) (rows_held_are w l ts rs)
 
 record_kept : (w l : SpecVersion) (n : Name) (ts : Trees) → fields n (rows_kept w l ts (rows n)) ≡ kept w l (fields n ts) (a_record n)
 unfolding kept
@@ -80,11 +80,11 @@ member_put merged required k t w ms = own_absent (is_absent (keep w t k)) (keep 
 member_put merged required_first k t w ms = own_absent (is_absent (keep w t k)) (keep w t k) w ms refl
 member_put merged else_empty k t w ms = own_filled (keep w t k) w ms
 
-put_since_same : (s w : SpecVersion) (old new : Members) → put_since s w old new ≡ (if knows s w then new else old)
+same_put_since : (s w : SpecVersion) (old new : Members) → put_since s w old new ≡ (if knows s w then new else old)
 unfolding late_put
-put_since_same V1_3 w old new = refl
-put_since_same V1_4 w old new = refl
-put_since_same V1_5 w old new = refl
+same_put_since V1_3 w old new = refl
+same_put_since V1_4 w old new = refl
+same_put_since V1_5 w old new = refl
 
 known : (b : Bool) (m : Member) (need : Need) (k : Kind) (t : Tree) (w : SpecVersion) (ms : Members)
     → (if b then set_row m need k t w ms else ms) ≡ (if b && is_written need (if b then keep w t k else absent) then set_member m (jspell (if b then keep w t k else absent) w k) (own_members (if b then keep w t k else absent) w) ms else ms)
@@ -96,7 +96,7 @@ unfolding rows_put jspell kept
 rows_put_are none w rs ms = refl
 rows_put_are (more t ts) w [] ms = refl
 rows_put_are (more t ts) w (r ∷ rs) ms =
-    ap (rows_put ts w rs) (put_since_same r.since w ms _ ∙ ap (λ x. if knows r.since w then x else ms) (member_put r.json r.need r.kind t w ms) ∙ known (knows r.since w) r.json r.need r.kind t w ms)
+    ap (rows_put ts w rs) (same_put_since r.since w ms _ ∙ ap (λ x. if knows r.since w then x else ms) (member_put r.json r.need r.kind t w ms) ∙ known (knows r.since w) r.json r.need r.kind t w ms)
     ∙ rows_put_are ts w rs _
 
 record_object : (n : Name) (w : SpecVersion) (ts : Trees) → heading n ≡ no_members → object (rows_put ts w (rows n) no_members) ≡ jspell (fields n (rows_kept w w ts (rows n))) w (a_record n)

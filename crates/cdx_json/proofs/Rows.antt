@@ -21,7 +21,7 @@ use Rattle.cdx_schema.specs.JsonReading.{Object, Found, nothing, a_null, found, 
 use Rattle.cdx_json.specs.ByRows.{read_if_found, member_of, late_read}
 use Rattle.cdx_models.specs.declared.errors.JsonReadError.{JsonReadError}
 use Rattle.cdx_models.specs.declared.errors.JsonReadError.TheVariants.{JsonElementReadError, BomError, Memory}
-use Rattle.cdx_json.specs.Gives.{Fails, Gives, IsFaultAt, IsWithin, fault, non_null, stands, is_found}
+use Rattle.cdx_json.specs.Gives.{Fails, Gives, IsFaultAt, IsWithin, fault, non_null, is_member_there, is_found}
 
 abbrev pub as_seen : Option Data → Found
 as_seen None = nothing
@@ -156,10 +156,10 @@ pub ruleset first_rules = (first_required, first_optional_4, first_optional_5)
 
 -- ---- whether something stands there
 
-pub stands_is : (ms : Members) (k : List ℕ) → is_some (get_member k ms) ≡ stands (seen ms k)
-stands_is ms k = by (get_member k ms) ∙ ap stands (sym (seen_is ms k))
+pub stands_is : (ms : Members) (k : List ℕ) → is_some (get_member k ms) ≡ is_member_there (seen ms k)
+stands_is ms k = by (get_member k ms) ∙ ap is_member_there (sym (seen_is ms k))
   where
-    by : (o : Option Data) → is_some o ≡ stands (as_seen o)
+    by : (o : Option Data) → is_some o ≡ is_member_there (as_seen o)
     by None = refl
     by (Some json.null) = refl
     by (Some (json.boolean b)) = refl

@@ -13,7 +13,7 @@ use Rattle.cdx_schema.specs.Results.{◌>>=◌}
 use Rattle.cdx_schema.specs.Table.{list}
 use Rattle.cdx_schema.specs.Depth.{inside, name_too_deep, is_too_deep}
 use Rattle.cdx_schema.specs.JsonReading.{jread, seen, at_depth, record_denoted, array_items_read, number_read}
-use Rattle.cdx_json.specs.ByRows.{json_kind, IsJsonListOf, list_read, by_rows, signature_of}
+use Rattle.cdx_json.specs.ByRows.{json_kind, IsJsonListOf, list_read, by_rows, signature_in}
 use Rattle.cdx_json.proofs.ByRowsLaws.{by_rows_are}
 use Rattle.cdx_models.specs.declared.errors.JsonReadError.{JsonReadError}
 use Rattle.cdx_models.specs.declared.errors.JsonReadError.TheVariants.{JsonElementReadError, BomError, Memory}
@@ -189,14 +189,14 @@ signers_err e x ds v d is h = subst (Fails e) (sym (signers_is x ds v d is)) (by
     by (JsonElementReadError path kind) (Ok ts) h = absurd cc
     by (JsonElementReadError path kind) (Err f) h = let same : f ≡ fault path.0 kind = cc in ap Err same
 
-signature_is : (x : Data) (ms : Members) (v : SpecVersion) (d : Depth) → Some ms ≡ as_object x → jread x v a_signature d ≡ signature_of (seen ms) v d
-unfolding jread signature_of
+signature_is : (x : Data) (ms : Members) (v : SpecVersion) (d : Depth) → Some ms ≡ as_object x → jread x v a_signature d ≡ signature_in (seen ms) v d
+unfolding jread signature_in
 signature_is json.null ms v d e = absurd cc
 signature_is (json.boolean b) ms v d e = absurd cc
 signature_is (json.number k) ms v d e = absurd cc
 signature_is (json.string s) ms v d e = absurd cc
 signature_is (json.array ds) ms v d e = absurd cc
-signature_is (json.object ls) ms v d e = let same : ls ≡ ms = cc in ap (λ q. signature_of (seen q) v d) same
+signature_is (json.object ls) ms v d e = let same : ls ≡ ms = cc in ap (λ q. signature_in (seen q) v d) same
 
 signature_wrong : (x : Data) (v : SpecVersion) (d : Depth) → None ≡ as_array x → None ≡ as_object x → jread x v a_signature d ≡ here WrongKind
 unfolding jread
@@ -210,7 +210,7 @@ signature_wrong (json.object ls) v d a e = absurd cc
 pub signature_err : (e : JsonReadError) (x : Data) (v : SpecVersion) (d : Depth) → None ≡ as_array x → None ≡ as_object x → IsFaultAt [] WrongKind e → Fails e (jread x v a_signature d)
 signature_err e x v d a is at = fails_here e WrongKind (jread x v a_signature d) at (signature_wrong x v d a is)
 
-pub signature_gives : {X : Type 0} (see : X → Tree) (r : Result X JsonReadError) (x : Data) (ms : Members) (v : SpecVersion) (d : Depth) → Some ms ≡ as_object x → Gives see r (signature_of (seen ms) v d) → Gives see r (jread x v a_signature d)
+pub signature_gives : {X : Type 0} (see : X → Tree) (r : Result X JsonReadError) (x : Data) (ms : Members) (v : SpecVersion) (d : Depth) → Some ms ≡ as_object x → Gives see r (signature_in (seen ms) v d) → Gives see r (jread x v a_signature d)
 signature_gives see r x ms v d is h = subst (Gives see r) (sym (signature_is x ms v d is)) h
 
 -- ---- numbers

@@ -1,4 +1,4 @@
--- The reading of a record, so that each row's reading is one word. It is `record_read`.
+-- The reading of a record, so that each row's reading is one word. It is `record_denoted`.
 use Rattle.std.specs.Prelude.{◌≡◌, ℕ, List, [], ◌∷◌, if◌then◌else◌, Result, Ok, codes}
 use Rattle.serde_json.specs.Data.{Items, Members}
 use Rattle.cdx_models.specs.declared.bom.SpecVersion.{SpecVersion}
@@ -72,8 +72,8 @@ by_rows n o v d = rows_made o (own_made o v d) (rows n) v d (as_record n)
 
 -- ---- the other objects and arrays
 
-unfoldable pub signature_of : Object → SpecVersion → Depth → Result Tree JsonFault
-signature_of o v d = signature_read (o (codes "signers")) o v d
+unfoldable pub signature_in : Object → SpecVersion → Depth → Result Tree JsonFault
+signature_in o v d = signature_read (o (codes "signers")) o v d
 
 unfoldable pub choice_of : Members → SpecVersion → Depth → Result Tree JsonFault
 choice_of ms v d = choice_read (is_lone_license ms) (seen ms) v d

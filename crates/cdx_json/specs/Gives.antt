@@ -49,10 +49,10 @@ IsWithin s (BomError b) (BomError c) = Unit {0}
 IsWithin s (JsonElementReadError old k) (BomError c) = ⊥
 
 -- Something stands there, maybe a null.
-abbrev pub stands : Found → Bool
-stands nothing = false
-stands a_null = true
-stands (found read) = true
+abbrev pub is_member_there : Found → Bool
+is_member_there nothing = false
+is_member_there a_null = true
+is_member_there (found read) = true
 
 -- Something stands there that is no null.
 abbrev pub is_found : Found → Bool

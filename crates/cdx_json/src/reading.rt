@@ -9,7 +9,7 @@ ghost use Rattle.cdx_schema.specs.JsonReading.{jread, seen};
 ghost use Rattle.cdx_schema.specs.JsonReading as reading;
 ghost use Rattle.cdx_schema.specs.Depths.{depth_of};
 ghost use Rattle.cdx_json.specs.ByRows.{IsJsonListOf, member_of, late_read, list_read};
-ghost use Rattle.cdx_json.specs.Gives.{Gives, stands, is_found, non_null};
+ghost use Rattle.cdx_json.specs.Gives.{Gives, is_member_there, is_found, non_null};
 
 use crate::context::Context;
 use crate::fault::{at_item, at_member, here, missing};
@@ -39,7 +39,7 @@ pub fn member_not_null<'v>(map: &'v Members, name: &str) -> Option<&'v Value>
 
 /// Whether there is a member of that name, maybe a null.
 pub fn has_member(map: &Members, name: &str) -> bool
-    ensures { result ≡ stands (seen (members_view map.now.entries) name.now) }
+    ensures { result ≡ is_member_there (seen (members_view map.now.entries) name.now) }
 {
     member(map, name).is_some()
 }

@@ -14,7 +14,7 @@ use Rattle.cdx_schema.specs.JsonReading.{is_required}
 use Rattle.cdx_schema.specs.XmlTexts.{tree_of_text}
 use Rattle.cdx_schema.specs.XmlReading.{attribute_read, parsed, find_attribute, row_attribute, attributes_read}
 use Rattle.cdx_leaf.specs.Fault.{FailsAt}
-use Rattle.cdx_leaf.specs.Attribute.{or_fault, GivesAt, known_since, text_row, row_of_attribute}
+use Rattle.cdx_leaf.specs.Attribute.{or_fault, GivesAt, known_since, text_row, plain_attribute_row}
 use Rattle.cdx_leaf.specs.Numbers.{parsed_attribute}
 use Rattle.cdx_leaf.specs.Parts.{text_alone}
 use Rattle.cdx_models.specs.Trees.{present}
@@ -63,11 +63,11 @@ module _ (as' : List OwnedAttribute) (v : SpecVersion) (el : List ℕ) (p : ℕ)
   value_is r need name None = ap (λ x. if is_required x v then Err (lacking p el name) else Ok absent) need
   value_is r need name (Some s) = refl
 
-  pub value_row : (K : Kind) (name : List ℕ) (j : Member) (t : Tree) → parsed_attribute K p name (find_attribute name as') ≡ Ok t → row_attribute (row_of_attribute K name j) as' v el p ≡ Ok t
-  value_row K name j t e = value_is (row_of_attribute K name j) refl name (find_attribute name as') ∙ e
+  pub value_row : (K : Kind) (name : List ℕ) (j : Member) (t : Tree) → parsed_attribute K p name (find_attribute name as') ≡ Ok t → row_attribute (plain_attribute_row K name j) as' v el p ≡ Ok t
+  value_row K name j t e = value_is (plain_attribute_row K name j) refl name (find_attribute name as') ∙ e
 
-  pub value_row_fails : (K : Kind) (name : List ℕ) (j : Member) (e : XmlReadError) (q : ℕ) → FailsAt e q (parsed_attribute K p name (find_attribute name as')) → FailsAt e q (row_attribute (row_of_attribute K name j) as' v el p)
-  value_row_fails K name j e q h = subst (λ x. FailsAt e q x) (sym (value_is (row_of_attribute K name j) refl name (find_attribute name as'))) h
+  pub value_row_fails : (K : Kind) (name : List ℕ) (j : Member) (e : XmlReadError) (q : ℕ) → FailsAt e q (parsed_attribute K p name (find_attribute name as')) → FailsAt e q (row_attribute (plain_attribute_row K name j) as' v el p)
+  value_row_fails K name j e q h = subst (λ x. FailsAt e q x) (sym (value_is (plain_attribute_row K name j) refl name (find_attribute name as'))) h
 
   pub rows_end : attributes_read [] as' v el p ≡ Ok none
   unfolding attributes_read

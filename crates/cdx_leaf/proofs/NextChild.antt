@@ -27,7 +27,7 @@ use Rattle.cdx_leaf.specs.declared.taken.Taken.TheVariants as answers
 use Rattle.cdx_leaf.specs.Children.{Met, nothing, second, found, met, ReadsChild, TakesChild}
 use Rattle.cdx_leaf.specs.Each.{each_node, plan_step}
 use Rattle.cdx_leaf.specs.Fault.{FailsAt, Refused, within}
-use Rattle.cdx_leaf.specs.NextChild.{no_more, past_texts, IsLeft, MeetsChild, Meets, Leaves}
+use Rattle.cdx_leaf.specs.NextChild.{no_more, past_texts, IsLeft, MeetsChild, Meets, LeavesChild}
 use Rattle.cdx_leaf.specs.Reading.{WithinElement, IsAt, IsIn, behind_end, kind_of_node}
 use Rattle.cdx_leaf.specs.Rules.{skips, passes, as_rule}
 use Rattle.cdx_leaf.proofs.ChildSteps.{then_read, child_step, text_passes, cdata_passes, stray_fails, unknown_passes, unknown_fails, was_unknown}
@@ -258,7 +258,7 @@ module _ (plan : Plan) (v : SpecVersion) (depth : Depth → Depth) (d : Depth) (
     fault = unexpected child.place name.local_name kinds.StartElement
 
     -- it is refused once it was offered
-    pub leaving_fails : (next last : Cursor) (s' : Trees) (taken : Taken) (e : XmlReadError) → TakesChild s s' new next v plan depth child.element.now child.attributes.now (Ok taken) → Leaves r taken next last name child (Err e) → (old.place ≤ last.place) × FailsAt e last.place (each_node reading nodes old.place start)
+    pub leaving_fails : (next last : Cursor) (s' : Trees) (taken : Taken) (e : XmlReadError) → TakesChild s s' new next v plan depth child.element.now child.attributes.now (Ok taken) → LeavesChild r taken next last name child (Err e) → (old.place ≤ last.place) × FailsAt e last.place (each_node reading nodes old.place start)
     leaving_fails next last s' taken e takes leaves = go taken (takes d m.namespace child.place m.kids tail m.stands) leaves
       where
         refused : next ≡ new → last ≡ next → reading item child.place s ≡ Err fault → Refused (no_more e) fault → (old.place ≤ last.place) × FailsAt e last.place (each_node reading nodes old.place start)
@@ -266,15 +266,15 @@ module _ (plan : Plan) (v : SpecVersion) (depth : Depth → Depth) (d : Depth) (
             let place : last.place ≡ child.place + 1 = ap (λ (c : Cursor). c.place) (left ∙ at) ∙ (let p : new.place ≡ child.place + 1 = omega (arith, m.stands.place) in p) in
             (omega (arith, grown), fails_along e last.place (no_more fault) (each_node reading nodes old.place start) (λ f x. fault_is f (is ∙ (let same : fault ≡ f = cc in ap (λ g. Err g) same))) (refused_fails (Unit {0}) e child.place last.place name.local_name kinds.StartElement kinds.StartElement h refl (omega arith)))
 
-        go : (t : Taken) → ReadsChild s s' new next (behind_end new m.kids tail) child_met (Ok t) → Leaves r t next last name child (Err e) → (old.place ≤ last.place) × FailsAt e last.place (each_node reading nodes old.place start)
+        go : (t : Taken) → ReadsChild s s' new next (behind_end new m.kids tail) child_met (Ok t) → LeavesChild r t next last name child (Err e) → (old.place ≤ last.place) × FailsAt e last.place (each_node reading nodes old.place start)
         go answers.Read t h = absurd cc
         go answers.Unknown t h = refused t.2 h.1 (step_is nothing t.0 ∙ ap (λ x. unknown x name.local_name child.place s) ruled ∙ unknown_fails plan v (depth d) name.local_name r child.place s (never_skips (skips r) h.0)) h.2
         go answers.Second t h = refused t.2 h.1 (step_is second t.0) h.2
 
-    left_behind : (next last : Cursor) (s' : Trees) (taken : Taken) → TakesChild s s' new next v plan depth child.element.now child.attributes.now (Ok taken) → Leaves r taken next last name child (Ok tt) → (last ≡ behind_end new m.kids tail) × (reading item child.place s ≡ Ok s')
+    left_behind : (next last : Cursor) (s' : Trees) (taken : Taken) → TakesChild s s' new next v plan depth child.element.now child.attributes.now (Ok taken) → LeavesChild r taken next last name child (Ok tt) → (last ≡ behind_end new m.kids tail) × (reading item child.place s ≡ Ok s')
     left_behind next last s' taken takes leaves = go taken (takes d m.namespace child.place m.kids tail m.stands) leaves
       where
-        go : (t : Taken) → ReadsChild s s' new next (behind_end new m.kids tail) child_met (Ok t) → Leaves r t next last name child (Ok tt) → (last ≡ behind_end new m.kids tail) × (reading item child.place s ≡ Ok s')
+        go : (t : Taken) → ReadsChild s s' new next (behind_end new m.kids tail) child_met (Ok t) → LeavesChild r t next last name child (Ok tt) → (last ≡ behind_end new m.kids tail) × (reading item child.place s ≡ Ok s')
         go answers.Read t h = (h.1 ∙ t.1, step_is (found (Ok s')) t.0)
         go answers.Unknown t h =
             let there : WithinElement next child.element.now m.kids tail = subst (λ c. WithinElement c child.element.now m.kids tail) (sym t.2) m.stands.at in
@@ -282,7 +282,7 @@ module _ (plan : Plan) (v : SpecVersion) (depth : Depth → Depth) (d : Depth) (
         go answers.Second t h = absurd cc
 
     -- nothing of it is left, and the loop goes on after it
-    pub goes_on : (next last : Cursor) (s' : Trees) (taken : Taken) → TakesChild s s' new next v plan depth child.element.now child.attributes.now (Ok taken) → Leaves r taken next last name child (Ok tt) → Inside last s'
+    pub goes_on : (next last : Cursor) (s' : Trees) (taken : Taken) → TakesChild s s' new next v plan depth child.element.now child.attributes.now (Ok taken) → LeavesChild r taken next last name child (Ok tt) → Inside last s'
     goes_on next last s' taken takes leaves =
         let h = left_behind next last s' taken takes leaves in
         let placed : last.place ≡ new.place + places_of m.kids + 1 = ap (λ (c : Cursor). c.place) h.0 in
@@ -297,7 +297,7 @@ module _ (plan : Plan) (v : SpecVersion) (depth : Depth → Depth) (d : Depth) (
         }
 
     -- less is ahead
-    pub nearer : (next last : Cursor) (s' : Trees) (taken : Taken) → TakesChild s s' new next v plan depth child.element.now child.attributes.now (Ok taken) → Leaves r taken next last name child (Ok tt) → length last.ahead < length mid.ahead
+    pub nearer : (next last : Cursor) (s' : Trees) (taken : Taken) → TakesChild s s' new next v plan depth child.element.now child.attributes.now (Ok taken) → LeavesChild r taken next last name child (Ok tt) → length last.ahead < length mid.ahead
     nearer next last s' taken takes leaves =
         let h = left_behind next last s' taken takes leaves in
         let x : length last.ahead ≡ length tail = ap (λ (c : Cursor). length c.ahead) h.0 in

@@ -29,8 +29,8 @@ known_since since v o = if knows since v then o else None
 abbrev pub text_row : List ℕ → Member → Option (List ℕ) → SpecVersion → Need → Row
 text_row name j old since need = record { kind = a_text; xml = attribute name; json = j; old_name = old; since = since; need = need }
 
-abbrev pub row_of_attribute : Kind → List ℕ → Member → Row
-row_of_attribute k name j = record { kind = k; xml = attribute name; json = j; old_name = None; since = V1_3; need = optional }
+abbrev pub plain_attribute_row : Kind → List ℕ → Member → Row
+plain_attribute_row k name j = record { kind = k; xml = attribute name; json = j; old_name = None; since = V1_3; need = optional }
 
 -- what the attributes of a record's element give, for an element of this name whose start stands at this place
 abbrev pub start_read : Name → SpecVersion → List ℕ → List OwnedAttribute → ℕ → Result Trees XmlReadError

@@ -74,6 +74,6 @@ abbrev pub Passed : Taken → Cursor → Cursor → OwnedName → Type 0
 Passed answers.Unknown old new n = (nodes : Nodes) (rest : List XmlEvent) → WithinElement old n nodes rest → new ≡ behind_end old nodes rest
 Passed taken old new n = new ≡ old
 
-abbrev pub Leaves : Rule → Taken → Cursor → Cursor → OwnedName → Start → Result (Unit {0}) XmlReadError → Type 0
-Leaves r taken old new el child (Ok x) = (refuses r taken ≡ false) × Passed taken old new child.element.now
-Leaves r taken old new el child (Err e) = (refuses r taken ≡ true) × (new ≡ old) × Refused (no_more e) (unexpected child.place el.local_name kinds.StartElement)
+abbrev pub LeavesChild : Rule → Taken → Cursor → Cursor → OwnedName → Start → Result (Unit {0}) XmlReadError → Type 0
+LeavesChild r taken old new el child (Ok x) = (refuses r taken ≡ false) × Passed taken old new child.element.now
+LeavesChild r taken old new el child (Err e) = (refuses r taken ≡ true) × (new ≡ old) × Refused (no_more e) (unexpected child.place el.local_name kinds.StartElement)

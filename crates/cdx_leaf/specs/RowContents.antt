@@ -3,9 +3,9 @@ use Rattle.std.specs.Prelude.{◌≡◌, refl}
 use Rattle.cdx_models.specs.Trees.{Name, hash, property, attached_text, expression, spdx_id, license_name, copyright, classification}
 use Rattle.cdx_models.specs.Names.{every_name}
 use Rattle.cdx_schema.specs.Table.{rows}
-use Rattle.cdx_schema.specs.XmlReading.{Content, no_content, any_text, one_text_alone, content_from}
+use Rattle.cdx_schema.specs.XmlReading.{TextContent, no_content, any_text, one_text_alone, content_from}
 
-abbrev pub content_of : Name → Content
+abbrev pub content_of : Name → TextContent
 content_of hash = any_text 1
 content_of property = any_text 1
 content_of attached_text = one_text_alone 2

@@ -8,7 +8,7 @@ ghost use Rattle.cdx_schema.specs.Faults.{unexpected};
 ghost use Rattle.cdx_leaf.specs.declared.taken.Taken.TheVariants as answers;
 ghost use Rattle.cdx_leaf.specs.Fault.{Refused};
 ghost use Rattle.cdx_leaf.specs.Reading.{IsAt, WithinElement};
-ghost use Rattle.cdx_leaf.specs.NextChild.{Meets, Leaves};
+ghost use Rattle.cdx_leaf.specs.NextChild.{Meets, LeavesChild};
 
 use crate::error::{Reading, refuse};
 use crate::rule::Rule;
@@ -83,7 +83,7 @@ pub(crate) fn after_child(
     taken: Taken,
 ) -> Reading<()>
     requires { taken ≡ answers.Unknown → IsAt reader.old child.now.element.now }
-    ensures { Leaves rule taken reader.old reader.new opened.now.element.now child.now result }
+    ensures { LeavesChild rule taken reader.old reader.new opened.now.element.now child.now result }
 {
     match taken {
         Taken::Read => Ok(()),

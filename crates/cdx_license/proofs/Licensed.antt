@@ -28,7 +28,7 @@ use Rattle.cdx_schema.specs.JsonSpelling.{jspell}
 use Rattle.cdx_schema.specs.Keeping.{kept, keep}
 use Rattle.cdx_models.specs.declared.errors.JsonReadError.{JsonReadError}
 use Rattle.cdx_models.specs.declared.errors.JsonReadError.TheVariants.{JsonElementReadError, BomError, Memory}
-use Rattle.cdx_json.specs.Gives.{Fails, Gives, IsFaultAt, stands}
+use Rattle.cdx_json.specs.Gives.{Fails, Gives, IsFaultAt, is_member_there}
 use Rattle.cdx_json.specs.ByRows.{read_if_found, member_of, identifier_of, choice_of, by_rows}
 use Rattle.cdx_json.specs.KeptRows.{put_kept, put_own}
 use Rattle.cdx_json.proofs.ByRowsLaws.{by_rows_are}
@@ -39,35 +39,35 @@ use Rattle.cdx_json.proofs.Rows.{fails_here}
 abbrev pub as_identifier : Name → Tree → Result Tree JsonFault
 as_identifier n t = Ok (fields n (one t))
 
-pub reads_id : (o : Object) (b : Bool) (v : SpecVersion) (d : Depth) → b ≡ stands (o (codes "id")) → b ≡ true → identifier_of o v d ≡ (member_of o (codes "id") required a_text v d >>= as_identifier spdx_id)
+pub reads_id : (o : Object) (b : Bool) (v : SpecVersion) (d : Depth) → b ≡ is_member_there (o (codes "id")) → b ≡ true → identifier_of o v d ≡ (member_of o (codes "id") required a_text v d >>= as_identifier spdx_id)
 unfolding identifier_of member_of
 reads_id o b v d is e = by (o (codes "id")) (sym is ∙ e)
   where
-    by : (f : Found) → stands f ≡ true → id_read f o v d ≡ (under (to_member (codes "id")) (read_if_found f required a_text v d) >>= as_identifier spdx_id)
+    by : (f : Found) → is_member_there f ≡ true → id_read f o v d ≡ (under (to_member (codes "id")) (read_if_found f required a_text v d) >>= as_identifier spdx_id)
     by nothing h = absurd cc
     by a_null h = refl
     by (found read) h = refl
 
-no_id : (f : Found) (o : Object) (v : SpecVersion) (d : Depth) → stands f ≡ false → id_read f o v d ≡ name_read (o (codes "name")) v d
+no_id : (f : Found) (o : Object) (v : SpecVersion) (d : Depth) → is_member_there f ≡ false → id_read f o v d ≡ name_read (o (codes "name")) v d
 no_id nothing o v d h = refl
 no_id a_null o v d h = absurd cc
 no_id (found read) o v d h = absurd cc
 
-pub reads_name : (o : Object) (b c : Bool) (v : SpecVersion) (d : Depth) → b ≡ stands (o (codes "id")) → b ≡ false → c ≡ stands (o (codes "name")) → c ≡ true → identifier_of o v d ≡ (member_of o (codes "name") required a_text v d >>= as_identifier license_name)
+pub reads_name : (o : Object) (b c : Bool) (v : SpecVersion) (d : Depth) → b ≡ is_member_there (o (codes "id")) → b ≡ false → c ≡ is_member_there (o (codes "name")) → c ≡ true → identifier_of o v d ≡ (member_of o (codes "name") required a_text v d >>= as_identifier license_name)
 unfolding identifier_of member_of
 reads_name o b c v d is e at h = no_id (o (codes "id")) o v d (sym is ∙ e) ∙ by (o (codes "name")) (sym at ∙ h)
   where
-    by : (f : Found) → stands f ≡ true → name_read f v d ≡ (under (to_member (codes "name")) (read_if_found f required a_text v d) >>= as_identifier license_name)
+    by : (f : Found) → is_member_there f ≡ true → name_read f v d ≡ (under (to_member (codes "name")) (read_if_found f required a_text v d) >>= as_identifier license_name)
     by nothing h = absurd cc
     by a_null h = refl
     by (found read) h = refl
 
-no_name : (f : Found) (v : SpecVersion) (d : Depth) → stands f ≡ false → name_read f v d ≡ under (to_member (codes "id")) (here missing)
+no_name : (f : Found) (v : SpecVersion) (d : Depth) → is_member_there f ≡ false → name_read f v d ≡ under (to_member (codes "id")) (here missing)
 no_name nothing v d h = refl
 no_name a_null v d h = absurd cc
 no_name (found read) v d h = absurd cc
 
-pub reads_none : (o : Object) (b c : Bool) (v : SpecVersion) (d : Depth) → b ≡ stands (o (codes "id")) → b ≡ false → c ≡ stands (o (codes "name")) → c ≡ false → identifier_of o v d ≡ under (to_member (codes "id")) (here missing)
+pub reads_none : (o : Object) (b c : Bool) (v : SpecVersion) (d : Depth) → b ≡ is_member_there (o (codes "id")) → b ≡ false → c ≡ is_member_there (o (codes "name")) → c ≡ false → identifier_of o v d ≡ under (to_member (codes "id")) (here missing)
 unfolding identifier_of
 reads_none o b c v d is e at h = no_id (o (codes "id")) o v d (sym is ∙ e) ∙ no_name (o (codes "name")) v d (sym at ∙ h)
 
@@ -146,7 +146,7 @@ flipped a b = by (bytes_eq a b) (bytes_eq b a) refl refl
     by true false h k = sym ((bytes_eq-Decides b a).1 (sym ((bytes_eq-Decides a b).0 h))) ∙ k
     by false true h k = sym h ∙ (bytes_eq-Decides a b).1 (sym ((bytes_eq-Decides b a).0 k))
 
-found_stands : (x : Data) (read : ValueReading) → stands (as_found x read) ≡ true
+found_stands : (x : Data) (read : ValueReading) → is_member_there (as_found x read) ≡ true
 found_stands json.null read = refl
 found_stands (json.boolean b) read = refl
 found_stands (json.number n) read = refl
@@ -154,16 +154,16 @@ found_stands (json.string s) read = refl
 found_stands (json.array xs) read = refl
 found_stands (json.object ms) read = refl
 
-seen_alone : (l : List ℕ) (x : Data) (n : List ℕ) → stands (seen (json.member l x no_members) n) ≡ bytes_eq l n
+seen_alone : (l : List ℕ) (x : Data) (n : List ℕ) → is_member_there (seen (json.member l x no_members) n) ≡ bytes_eq l n
 unfolding jread
 seen_alone l x n = by (slice_cmp nat_cmp n l) (jread x) ∙ is_eq-slice_cmp n l ∙ flipped n l
   where
-    by : (o : Ordering) (read : ValueReading) → stands (match_ordering o nothing (as_found x read) nothing) ≡ is_eq o
+    by : (o : Ordering) (read : ValueReading) → is_member_there (match_ordering o nothing (as_found x read) nothing) ≡ is_eq o
     by Less read = refl
     by Equal read = found_stands x read
     by Greater read = refl
 
-pub lone_when : (es : List (String Global × Value)) (n : ℕ) (b : Bool) → n ≡ length es → n ≡ 1 → b ≡ stands (seen (members_view es) (codes "license")) → b ≡ is_lone_license (members_view es)
+pub lone_when : (es : List (String Global × Value)) (n : ℕ) (b : Bool) → n ≡ length es → n ≡ 1 → b ≡ is_member_there (seen (members_view es) (codes "license")) → b ≡ is_lone_license (members_view es)
 lone_when [] n b l e h = absurd (omega arith)
 lone_when (x ∷ []) n b l e h = h ∙ seen_alone _ _ (codes "license")
 lone_when (x ∷ y ∷ es) n b l e h = absurd (omega arith)
@@ -177,7 +177,7 @@ lone_unless [] n b l e h = h ∙ unequal n (nat_eq n 1) e refl
 lone_unless (x ∷ []) n b l e h = absurd (e l)
 lone_unless (x ∷ y ∷ es) n b l e h = h ∙ unequal n (nat_eq n 1) e refl
 
-lone_stands : (ms : Members) → is_lone_license ms ≡ true → stands (seen ms (codes "license")) ≡ true
+lone_stands : (ms : Members) → is_lone_license ms ≡ true → is_member_there (seen ms (codes "license")) ≡ true
 lone_stands no_members h = absurd cc
 lone_stands (json.member l e no_members) h = seen_alone l e (codes "license") ∙ h
 lone_stands (json.member l e (json.member m f ms)) h = absurd cc
@@ -186,7 +186,7 @@ pub reads_license : (ms : Members) (b : Bool) (v : SpecVersion) (d : Depth) → 
 unfolding choice_of member_of
 reads_license ms b v d is e = ap (λ c. choice_read c (seen ms) v d) (sym is ∙ e) ∙ by (seen ms (codes "license")) (lone_stands ms (sym is ∙ e))
   where
-    by : (f : Found) → stands f ≡ true → license_read f v d ≡ under (to_member (codes "license")) (read_if_found f required (a_record license) v d)
+    by : (f : Found) → is_member_there f ≡ true → license_read f v d ≡ under (to_member (codes "license")) (read_if_found f required (a_record license) v d)
     by nothing h = absurd cc
     by a_null h = refl
     by (found read) h = refl
@@ -242,5 +242,5 @@ fails_missing (Memory m) n at = tt
 fails_missing (BomError b) n at = absurd at
 fails_missing (JsonElementReadError path what) n at = rw (at.0, at.1) refl
 
-pub lacks_id : (e : JsonReadError) (o : Object) (b c : Bool) (v : SpecVersion) (d : Depth) → b ≡ stands (o (codes "id")) → b ≡ false → c ≡ stands (o (codes "name")) → c ≡ false → IsFaultAt (to_member (codes "id") ∷ []) missing e → Fails e (identifier_of o v d)
+pub lacks_id : (e : JsonReadError) (o : Object) (b c : Bool) (v : SpecVersion) (d : Depth) → b ≡ is_member_there (o (codes "id")) → b ≡ false → c ≡ is_member_there (o (codes "name")) → c ≡ false → IsFaultAt (to_member (codes "id") ∷ []) missing e → Fails e (identifier_of o v d)
 lacks_id e o b c v d is f at h fault = subst (Fails e) (sym (reads_none o b c v d is f at h)) (fails_missing e (codes "id") fault)

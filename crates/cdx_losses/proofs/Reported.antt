@@ -29,7 +29,7 @@ use Rattle.cdx_tool.specs.declared.request.RequestError.TheVariants as misreadin
 use Rattle.cdx_tool.specs.Shows.{reply_of}
 use Rattle.cdx_tool.specs.Owed.{reply_by, IsSettled}
 use Rattle.cdx_tool.specs.Run.{Tells, Ends}
-use Rattle.cdx_tool.specs.Asks.{WhyNoBill, misread, billed, Lacks, reply_to_bill}
+use Rattle.cdx_tool.specs.Asks.{WhyNoBill, misread, billed, IsWhyNoBill, reply_to_bill}
 use Rattle.cdx_tool.specs.declared.question.NoBill.TheVariants as lack
 use Rattle.cdx_ways.specs.Ways.{At}
 use Rattle.cdx_losses.specs.Answers.{reason_word, loss_value, losses_answer}
@@ -72,7 +72,7 @@ carried_on hops denoted b r is h = subst (λ (d : Result Tree Refusal). DenotesB
 -- ---- the answers
 
 -- a refusal is why there is no bill
-pub lacks : (owed : Result Tree Refusal) (e : RoadError) → Refuses owed e → Lacks (billed owed) (lack.Refused e)
+pub lacks : (owed : Result Tree Refusal) (e : RoadError) → Refuses owed e → IsWhyNoBill (billed owed) (lack.Refused e)
 lacks owed (error.Memory m) h = tt
 lacks owed (error.Json f) h = (h.0, h.1, ap billed h.2)
 lacks owed (error.Xml f) h = (h.0, h.1, ap billed h.2)
@@ -98,7 +98,7 @@ pub reply_in : (o : Result Request Misread) → reply_to_bill (answer_in o) (ask
 reply_in (Ok q) = refl
 reply_in (Err e) = refl
 
-pub misreads : (o : Result Request Misread) (e : RequestError) → ReadsOwed IsRequest o (Err e) → Lacks (asked_for o) (lack.Misread e)
+pub misreads : (o : Result Request Misread) (e : RequestError) → ReadsOwed IsRequest o (Err e) → IsWhyNoBill (asked_for o) (lack.Misread e)
 misreads o misreading.Shape h = ap asked_for h
 misreads o (misreading.Unbalanced place) h = ap asked_for h
 misreads o (misreading.Memory m) h = tt

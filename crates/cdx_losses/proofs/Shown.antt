@@ -52,7 +52,7 @@ abbrev pub holds : Option Tree → (Tree → Bool) → Bool
 holds None f = false
 holds (Some b) f = f b
 
--- Whether a bill, less what a road takes, is the equal as after it.
+-- Whether a bill, less what a road takes, is the same as after it.
 abbrev pub are_struck_well : Hop → List Hop → Option Tree → Bool
 are_struck_well h hs o = holds o (λ b. equal (settled (struck b (taken b (h ∷ hs)) (last_of h.version hs)) a_bill) (settled (after_road b h hs) a_bill))
 

@@ -20,7 +20,7 @@ use cdx_bom::{Bom, Doc, Hop, RoadError, fits_all, into_bill, version_missing};
 use cdx_events::List as Items;
 use cdx_models::SpecVersion;
 use cdx_tool::{
-    Answer, JsonItem, NoBill, Request, Status, answer_lack, answer_value, items_to_json, only,
+    Answer, JsonItem, NoBill, Request, Status, answer_no_bill, answer_value, items_to_json, only,
     read_json, refuse, take_request,
 };
 use serde_json::{Value, json};
@@ -101,7 +101,7 @@ fn answer_request(alloc: Global, request: Request) -> Result<Answer, AllocError>
     let road = hops.as_slice();
     match carried(alloc, doc, from, road) {
         Ok(bill) => answer_bill(alloc, &bill, road),
-        Err(error) => answer_lack(alloc, NoBill::Refused(error)),
+        Err(error) => answer_no_bill(alloc, NoBill::Refused(error)),
     }
 }
 
@@ -110,7 +110,7 @@ fn answer_asked(alloc: Global, value: Value) -> Result<Answer, AllocError>
 {
     match take_request(alloc, value) {
         Ok(request) => answer_request(alloc, request),
-        Err(error) => answer_lack(alloc, NoBill::Misread(error)),
+        Err(error) => answer_no_bill(alloc, NoBill::Misread(error)),
     }
 }
 

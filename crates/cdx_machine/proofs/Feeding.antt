@@ -31,7 +31,7 @@ use Rattle.cdx_machine.specs.Machines.{Holding, RefusesBefore, Steps, StepsAs}
 use Rattle.cdx_machine.specs.Feeding.{IsNoBill}
 use Rattle.cdx_machine.proofs.Places.{one_on, counted, Counted}
 use Rattle.cdx_machine.proofs.Yielding.{ended_with}
-use Rattle.cdx_machine.proofs.Frames.{Keeps, keeps_name}
+use Rattle.cdx_machine.proofs.Frames.{StaysNamed, keeps_name}
 use Rattle.cdx_machine.proofs.Heard.{count_is, EventsAre, events_next, open_names, ended_events, begins_takes}
 
 -- ---- an element's events are no front of another's
@@ -228,7 +228,7 @@ module _ {M X : Type 0} (holds : Holding M) (view : X → Tree) (kind : Kind) (v
       at_end : (k : ℕ) → k ≡ suc (count f.o) → k ≡ suc (suc (places_of nodes)) → c'.place ≡ old.place + places_of nodes + 1
       at_end k e g = omega (arith, moved, f.at, st.place, e, g)
 
-      by : (o : Next) → EventsAre (so_far f.o ++ event ∷ []) o → Keeps (start_name f.o) o → Counted (suc (count f.o)) o → Steps (λ o. holds m' v p d o) view (λ k. xread k v kind p d) p o (Ok (Some x)) → Reads view old c' (behind_end old nodes rest) (xread (element n a s nodes) v kind p d) (Ok x)
+      by : (o : Next) → EventsAre (so_far f.o ++ event ∷ []) o → StaysNamed (start_name f.o) o → Counted (suc (count f.o)) o → Steps (λ o. holds m' v p d o) view (λ k. xread k v kind p d) p o (Ok (Some x)) → Reads view old c' (behind_end old nodes rest) (xread (element n a s nodes) v kind p d) (Ok x)
       by (still o) es kn ct h = absurd h
       by (whole k) es kn ct h =
           let q : (element (start_name f.o) kn.0 kn.1 kn.2 ≡ element n a s nodes) × (c'.ahead ≡ rest) = same_element (start_name f.o) n kn.0 a kn.1 s kn.2 nodes c'.ahead rest (ap (λ es. es ++ c'.ahead) (ap events_of (sym kn.3) ∙ es) ∙ goes) in

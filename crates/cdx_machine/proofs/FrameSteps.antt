@@ -33,7 +33,7 @@ use Rattle.cdx_machine.specs.Machines.{RefusesBefore, IsQuiet, Proceeds, Yields,
 use Rattle.cdx_machine.specs.Frames.{Last, read_so_far, IsForm, IsOpen, Stays, holds_inside, EntersAt, FeedsChild, skipped}
 use Rattle.cdx_machine.proofs.Places.{one_on, places_more, count_below}
 use Rattle.cdx_machine.proofs.Faults.{refuses_along, refuses_on, refuses_known, quiet_at}
-use Rattle.cdx_machine.proofs.Frames.{IsNamed, ended_named, Keeps, keeps_name, Skips, skips_next, row_read, level_less}
+use Rattle.cdx_machine.proofs.Frames.{IsNamed, ended_named, StaysNamed, keeps_name, Skips, skips_next, row_read, level_less}
 
 module _ (denotes : Node → SpecVersion → ℕ → Depth → Result Tree XmlReadError) (plan : Plan) (first : First) (last : Last) (law : IsForm denotes plan first last) where
   module _ (n : OwnedName) (a : List OwnedAttribute) (s : Namespace) (xs : Nodes) (v : SpecVersion) (p : ℕ) (d : Depth) where
@@ -208,7 +208,7 @@ module _ (denotes : Node → SpecVersion → ℕ → Depth → Result Tree XmlRe
           moved : (j k : ℕ) → p + suc (j + k) ≡ suc p + j + k
           moved j k = omega arith
 
-          by : (x : Next) → Keeps (start_name o) x → StepsRow (λ o. holds c' i.row v (suc p + places_of xs) d o) i.row (λ k. xread k v i.row.kind (suc p + places_of xs) d) (suc p + places_of xs) (slots r) (slots r') x (Ok false)
+          by : (x : Next) → StaysNamed (start_name o) x → StepsRow (λ o. holds c' i.row v (suc p + places_of xs) d o) i.row (λ k. xread k v i.row.kind (suc p + places_of xs) d) (suc p + places_of xs) (slots r) (slots r') x (Ok false)
               → Stepped (λ o. holds_inside holds first plan name known (slots r') (Read c') v p d o) (into n a s xs x) (Ok false)
           by (whole k) w e = absurd e
           by (still o') w (held, quiet, same) =
@@ -228,7 +228,7 @@ module _ (denotes : Node → SpecVersion → ℕ → Depth → Result Tree XmlRe
           moved : (j k : ℕ) → p + suc (j + k) ≡ suc p + j + k
           moved j k = omega arith
 
-          by : (x : Next) → Keeps (start_name o) x → StepsRow (λ o. holds c' i.row v (suc p + places_of xs) d o) i.row (λ k. xread k v i.row.kind (suc p + places_of xs) d) (suc p + places_of xs) (slots r) (slots r') x (Ok true)
+          by : (x : Next) → StaysNamed (start_name o) x → StepsRow (λ o. holds c' i.row v (suc p + places_of xs) d o) i.row (λ k. xread k v i.row.kind (suc p + places_of xs) d) (suc p + places_of xs) (slots r) (slots r') x (Ok true)
               → Stepped (λ o. holds_inside holds first plan name known (slots r') Nothing v p d o) (into n a s xs x) (Ok false)
           by (still o') w e = absurd e
           by (whole k) w (u, reads, same) =
@@ -247,7 +247,7 @@ module _ (denotes : Node → SpecVersion → ℕ → Depth → Result Tree XmlRe
         ends : (j k l : ℕ) → l ≡ j + k → suc p + j + k ≡ p + suc l
         ends j k l e = omega (arith, e)
 
-        by : (x : Next) → Keeps (start_name o) x → StepsRow (λ o. holds c' i.row v (suc p + places_of xs) d o) i.row (λ k. xread k v i.row.kind (suc p + places_of xs) d) (suc p + places_of xs) ts us x (Err f) → Stepped held (into n a s xs x) (Err f)
+        by : (x : Next) → StaysNamed (start_name o) x → StepsRow (λ o. holds c' i.row v (suc p + places_of xs) d o) i.row (λ k. xread k v i.row.kind (suc p + places_of xs) d) (suc p + places_of xs) ts us x (Err f) → Stepped held (into n a s xs x) (Err f)
         by (still o') w e =
             refuses_on f (suc p + places_of xs + count o') (p + suc (places_of xs + count o')) _ (denotes (element n a s (xs ⊕ lone (ended_now o'))) v p d)
             (λ g is. open_fails n a s xs v p d ts h.reads (ended_now o') (start_name o') i.row g (ended_named o') (ap (λ (y : OwnedName). find_child v y.local_name plan.children) w ∙ i.found) i.first_one is)
@@ -270,7 +270,7 @@ module _ (denotes : Node → SpecVersion → ℕ → Depth → Result Tree XmlRe
     child_skipped ts depth inside (around n a s xs o) event is (h, i) t =
         by (next o event) (keeps_name o event) (subst (λ (x : Inside C). Skips C (next o event) x) (sym is) (subst (λ k. Skips C (next o event) (skipped k event)) i.depth_is (skips_next C o event t)))
       where
-        by : (x : Next) → Keeps (start_name o) x → Skips C x inside → Stepped (λ o. holds_inside holds first plan name known ts inside v p d o) (into n a s xs x) (Ok false)
+        by : (x : Next) → StaysNamed (start_name o) x → Skips C x inside → Stepped (λ o. holds_inside holds first plan name known ts inside v p d o) (into n a s xs x) (Ok false)
         by (still o') w e =
             let unknown : find_child v (start_name o').local_name plan.children ≡ None = ap (λ (y : OwnedName). find_child v y.local_name plan.children) w ∙ i.not_found in (
               subst (λ (x : Inside C). holds_inside holds first plan name known ts x v p d (around n a s xs o')) (sym e) (h, record { not_found = unknown; passed = i.passed; depth_is = refl }),

@@ -39,11 +39,11 @@ pub ended_named : (o : Begun) → IsNamed (start_name o) (ended_now o)
 ended_named (innermost n a s xs) = (a, s, xs, refl)
 ended_named (around n a s xs o) = (a, s, xs ⊕ lone (ended_now o), refl)
 
-abbrev pub Keeps : OwnedName → Next → Type 0
-Keeps n (still o) = start_name o ≡ n
-Keeps n (whole k) = IsNamed n k
+abbrev pub StaysNamed : OwnedName → Next → Type 0
+StaysNamed n (still o) = start_name o ≡ n
+StaysNamed n (whole k) = IsNamed n k
 
-keeps_inside : (n : OwnedName) (a : List OwnedAttribute) (s : Namespace) (xs : Nodes) (event : XmlEvent) → Keeps n (next_inside n a s xs event)
+keeps_inside : (n : OwnedName) (a : List OwnedAttribute) (s : Namespace) (xs : Nodes) (event : XmlEvent) → StaysNamed n (next_inside n a s xs event)
 keeps_inside n a s xs StartDocument = refl
 keeps_inside n a s xs EndDocument = refl
 keeps_inside n a s xs (StartElement m b r) = refl
@@ -51,11 +51,11 @@ keeps_inside n a s xs (EndElement m) = (a, s, xs, refl)
 keeps_inside n a s xs (Characters u) = refl
 keeps_inside n a s xs (CData u) = refl
 
-pub keeps_into : (n : OwnedName) (a : List OwnedAttribute) (s : Namespace) (xs : Nodes) (o : Next) → Keeps n (into n a s xs o)
+pub keeps_into : (n : OwnedName) (a : List OwnedAttribute) (s : Namespace) (xs : Nodes) (o : Next) → StaysNamed n (into n a s xs o)
 keeps_into n a s xs (still o) = refl
 keeps_into n a s xs (whole k) = refl
 
-pub keeps_name : (o : Begun) (event : XmlEvent) → Keeps (start_name o) (next o event)
+pub keeps_name : (o : Begun) (event : XmlEvent) → StaysNamed (start_name o) (next o event)
 keeps_name (innermost n a s xs) event = keeps_inside n a s xs event
 keeps_name (around n a s xs o) event = keeps_into n a s xs (next o event)
 

@@ -25,7 +25,7 @@ use Rattle.cdx_machine.specs.Begun.{Begun, innermost, around, start_name, so_far
 use Rattle.cdx_machine.specs.Machines.{Holding, RefusesBefore, IsQuiet, Steps, StepsAs, CanStep, StartsAs, Opens}
 use Rattle.cdx_machine.specs.Heard.{Hears, IsRead, RefusesSoon, Answers, OpensAs}
 use Rattle.cdx_machine.proofs.Places.{one_on, counted, Counted}
-use Rattle.cdx_machine.proofs.Frames.{IsNamed, ended_named, Keeps, keeps_name}
+use Rattle.cdx_machine.proofs.Frames.{IsNamed, ended_named, StaysNamed, keeps_name}
 
 -- ---- events
 
@@ -164,7 +164,7 @@ abbrev AtPlace : ℕ → ℕ → Next → Type 0
 AtPlace p q (still o) = p + count o ≡ q
 AtPlace p q (whole x) = p + places x ≡ q
 
-by_next : {X : Type 0} (held : Begun → Type 0) (view : X → Tree) (v : SpecVersion) (k : Kind) (p : ℕ) (d : Depth) (place : ℕ) (n : OwnedName) (events : List XmlEvent) (o : Next) (r : Result (Option X) XmlReadError) → EventsAre events o → Keeps n o → AtPlace p (suc place) o
+by_next : {X : Type 0} (held : Begun → Type 0) (view : X → Tree) (v : SpecVersion) (k : Kind) (p : ℕ) (d : Depth) (place : ℕ) (n : OwnedName) (events : List XmlEvent) (o : Next) (r : Result (Option X) XmlReadError) → EventsAre events o → StaysNamed n o → AtPlace p (suc place) o
     → Steps held view (λ x. xread x v k p d) p o r → Answers (Hears held) view v k p d place events r
 by_next held view v k p d place n events (still o) (Ok None) es kn ct h = record { soon = fault_below (p + count o) (xread (ended_now o) v k p d); is_soon = soon_of v k p d o events es; answers = (quiet_none (p + count o) _ h.1, (λ i. not_whole o events es i), record { o = o; held = h.0; events_are = es }) }
 by_next held view v k p d place n events (still o) (Ok (Some x)) es kn ct h = absurd h

@@ -8,12 +8,12 @@ use Rattle.cdx_models.specs.Versions.{knows}
 use Rattle.cdx_models.specs.Trees.{Tree, Trees, one}
 use Rattle.cdx_schema.specs.Kinds.{Kind, Lists}
 use Rattle.cdx_schema.specs.Table.{list}
-use Rattle.cdx_schema.specs.XmlReading.{Plan, Child, stored, list_plan, plan_of_list}
+use Rattle.cdx_schema.specs.XmlReading.{Plan, Child, stored, items_plan, plan_of_list}
 use Rattle.std.specs.declared.alloc.AllocError.{AllocError}
 use Rattle.cdx_machine.proofs.Names.{push_put}
 use Rattle.cdx_machine.specs.Records.{HasOneName, one_plan, items_slots}
 use Rattle.cdx_machine.specs.Several.{at_position, found_from, Puts}
-use Rattle.cdx_machine.specs.declared.frame.Found.TheVariants.{At, Unknown}
+use Rattle.cdx_machine.specs.declared.frame.FoundChild.TheVariants.{At, Unknown}
 
 known_all : (v : SpecVersion) → knows V1_3 v ≡ true
 known_all V1_3 = refl
@@ -21,7 +21,7 @@ known_all V1_4 = refl
 known_all V1_5 = refl
 
 module _ (l : Lists) (k : Kind) (item_kind : k ≡ (list l).kind) (has_one : HasOneName k) where
-  one_name : plan_of_list l ≡ list_plan l
+  one_name : plan_of_list l ≡ items_plan l
   one_name = one_plan l k item_kind has_one
 
   pub item_found : (ts : Trees) (v : SpecVersion) (s : List ℕ) → bytes_eq s (list l).name ≡ true → At 0 ≡ found_from 0 (plan_of_list l).children ts v s

@@ -11,8 +11,8 @@ use Rattle.cdx_leaf.specs.Trees.{collected}
 use Rattle.cdx_leaf.proofs.ChildSteps.{pushed, collected_more}
 use Rattle.cdx_schema.specs.XmlReading.{Child, appended, find_child, is_second}
 use Rattle.cdx_machine.specs.Several.{at_position, found_from}
-use Rattle.cdx_machine.specs.declared.frame.Found.{Found}
-use Rattle.cdx_machine.specs.declared.frame.Found.TheVariants.{At, Unknown, Second}
+use Rattle.cdx_machine.specs.declared.frame.FoundChild.{FoundChild}
+use Rattle.cdx_machine.specs.declared.frame.FoundChild.TheVariants.{At, Unknown, Second}
 
 -- ---- names
 
@@ -30,13 +30,13 @@ pub record FindsSecond (cs : List Child) (ts : Trees) (v : SpecVersion) (name : 
   pub second_one : is_second row.place (field row.field ts) ≡ true
 
 module _ (ts : Trees) (v : SpecVersion) (s : List ℕ) where
-  abbrev Is : ℕ → List Child → Found → Type 0
+  abbrev Is : ℕ → List Child → FoundChild → Type 0
   Is j cs (At i) = (k : ℕ) × (i ≡ j + k) × FindsAt cs ts v s k
   Is j cs Unknown = find_child v s cs ≡ None
   Is j cs Second = FindsSecond cs ts v s
 
   -- among those that follow a child of another name
-  later : (c : Child) (cs : List Child) (j : ℕ) (r : Found) → (bytes_eq s c.name && knows c.since v) ≡ false → Is (suc j) cs r → Is j (c ∷ cs) r
+  later : (c : Child) (cs : List Child) (j : ℕ) (r : FoundChild) → (bytes_eq s c.name && knows c.since v) ≡ false → Is (suc j) cs r → Is j (c ∷ cs) r
   later c cs j (At i) differ (k, at, h) = (suc k, at ∙ moved j k, record { row = h.row; is_at = h.is_at; found = ap (λ b. if b then Some c else find_child v s cs) differ ∙ h.found; first_one = h.first_one })
     where
       moved : (j k : ℕ) → suc j + k ≡ j + suc k
@@ -56,8 +56,8 @@ module _ (ts : Trees) (v : SpecVersion) (s : List ℕ) where
       by others true false e f = (0, none_more j, record { row = c; is_at = refl; found = ap (λ b. if b then Some c else find_child v s cs) e; first_one = f })
       by others false second e f = later c cs j (found_from (suc j) cs ts v s) e others
 
-  pub found_at : (cs : List Child) (r : Found) (i : ℕ) → r ≡ At i → r ≡ found_from 0 cs ts v s → FindsAt cs ts v s i
-  found_at cs r i is h = by (subst (λ (r : Found). Is 0 cs r) (sym h ∙ is) (is_found cs 0))
+  pub found_at : (cs : List Child) (r : FoundChild) (i : ℕ) → r ≡ At i → r ≡ found_from 0 cs ts v s → FindsAt cs ts v s i
+  found_at cs r i is h = by (subst (λ (r : FoundChild). Is 0 cs r) (sym h ∙ is) (is_found cs 0))
     where
       from_none : (k : ℕ) → 0 + k ≡ k
       from_none k = omega arith
@@ -65,11 +65,11 @@ module _ (ts : Trees) (v : SpecVersion) (s : List ℕ) where
       by : (k : ℕ) × (i ≡ 0 + k) × FindsAt cs ts v s k → FindsAt cs ts v s i
       by (k, at, x) = subst (λ (j : ℕ). FindsAt cs ts v s j) (sym (at ∙ from_none k)) x
 
-  pub found_none : (cs : List Child) (r : Found) → r ≡ Unknown → r ≡ found_from 0 cs ts v s → find_child v s cs ≡ None
-  found_none cs r is h = subst (λ (r : Found). Is 0 cs r) (sym h ∙ is) (is_found cs 0)
+  pub found_none : (cs : List Child) (r : FoundChild) → r ≡ Unknown → r ≡ found_from 0 cs ts v s → find_child v s cs ≡ None
+  found_none cs r is h = subst (λ (r : FoundChild). Is 0 cs r) (sym h ∙ is) (is_found cs 0)
 
-  pub found_second : (cs : List Child) (r : Found) → r ≡ Second → r ≡ found_from 0 cs ts v s → FindsSecond cs ts v s
-  found_second cs r is h = subst (λ (r : Found). Is 0 cs r) (sym h ∙ is) (is_found cs 0)
+  pub found_second : (cs : List Child) (r : FoundChild) → r ≡ Second → r ≡ found_from 0 cs ts v s → FindsSecond cs ts v s
+  found_second cs r is h = subst (λ (r : FoundChild). Is 0 cs r) (sym h ∙ is) (is_found cs 0)
 
 -- the same name
 pub same_name : (s t : List ℕ) → s ≡ t → bytes_eq s t ≡ true

@@ -13,7 +13,7 @@ use Rattle.cdx_schema.specs.Locality.{fault_place}
 use Rattle.cdx_schema.specs.Nodes.{places_of}
 use Rattle.cdx_schema.specs.Results.{◌>>=◌}
 use Rattle.cdx_schema.specs.Table.{rows, list}
-use Rattle.cdx_schema.specs.XmlReading.{no_content, content_from, record_plan, list_plan, plan_of_list, list_of, attributes_read, in_force, ended, xread, nodes_read}
+use Rattle.cdx_schema.specs.XmlReading.{no_content, content_from, record_plan, items_plan, plan_of_list, list_of, attributes_read, in_force, ended, xread, nodes_read}
 use Rattle.cdx_schema.proofs.FaultPlaces.{ok_err, bind_err, attributes_place, ended_place}
 use Rattle.cdx_leaf.specs.Each.{each_node, plan_step}
 use Rattle.cdx_schema.specs.Plain.{is_plain}
@@ -64,7 +64,7 @@ HasOneName a_license_choice = ⊥
 HasOneName _ = ⊤
 
 -- They are its only children.
-pub one_plan : (l : Lists) (k : Kind) → k ≡ (list l).kind → HasOneName k → plan_of_list l ≡ list_plan l
+pub one_plan : (l : Lists) (k : Kind) → k ≡ (list l).kind → HasOneName k → plan_of_list l ≡ items_plan l
 one_plan l a_license_choice is one = absurd one
 one_plan l _ is one = rw (sym is) (rw (sym is) refl)
 

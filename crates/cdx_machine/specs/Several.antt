@@ -7,8 +7,8 @@ use Rattle.cdx_models.specs.Versions.{knows}
 use Rattle.cdx_models.specs.Trees.{Tree, Trees, field}
 use Rattle.cdx_schema.specs.Kinds.{Kind}
 use Rattle.cdx_schema.specs.XmlReading.{Plan, Child, is_second, stored}
-use Rattle.cdx_machine.specs.declared.frame.Found.{Found}
-use Rattle.cdx_machine.specs.declared.frame.Found.TheVariants.{At, Unknown, Second}
+use Rattle.cdx_machine.specs.declared.frame.FoundChild.{FoundChild}
+use Rattle.cdx_machine.specs.declared.frame.FoundChild.TheVariants.{At, Unknown, Second}
 use Rattle.cdx_machine.specs.declared.or.Or.{Or}
 use Rattle.cdx_machine.specs.declared.or.Or.TheVariants.{This, Other}
 use Rattle.cdx_machine.specs.Machines.{Holding, ChildHolding}
@@ -51,7 +51,7 @@ abbrev pub reads_boxed : {M : Type 0} → Plan → (M → ℕ) → Holding M →
 reads_boxed plan position holds b row v p d o = reads_child plan position holds b.value row v p d o
 
 -- What a name stands for among children, the first of which has this position, where these fields were read.
-abbrev pub found_from : ℕ → List Child → Trees → SpecVersion → List ℕ → Found
+abbrev pub found_from : ℕ → List Child → Trees → SpecVersion → List ℕ → FoundChild
 found_from i [] ts v name = Unknown
 found_from i (c ∷ cs) ts v name = if bytes_eq name c.name && knows c.since v then (if is_second c.place (field c.field ts) then Second else At i) else found_from (suc i) cs ts v name
 

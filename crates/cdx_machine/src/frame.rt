@@ -18,7 +18,7 @@ use std::mem::replace;
 
 /// What a child's name stands for.
 #[derive(Drop)]
-pub enum Found {
+pub enum FoundChild {
     /// The child of this position in the plan.
     At(usize),
     /// No child that the version knows.
@@ -27,15 +27,16 @@ pub enum Found {
     Second,
 }
 
-impl Found {
+impl FoundChild {
     /// The child of the position, which is there from `since` on: none where the version doesn't know it.
-    pub fn since(since: SpecVersion, version: SpecVersion, position: usize) -> Found
-        ensures { result ≡ (if knows since version then Found.At position else Found.Unknown) }
+    pub fn since(since: SpecVersion, version: SpecVersion, position: usize) -> FoundChild
+        ensures { result
+            ≡ (if knows since version then FoundChild.At position else FoundChild.Unknown) }
     {
         if since.is_known_to(version) {
-            Found::At(position)
+            FoundChild::At(position)
         } else {
-            Found::Unknown
+            FoundChild::Unknown
         }
     }
 }
@@ -98,7 +99,7 @@ pub trait Frame: Drop {
             opened.now.place) result };
 
     /// The child that the version knows by the name.
-    fn find(&self, version: SpecVersion, name: &OwnedName) -> Found
+    fn find(&self, version: SpecVersion, name: &OwnedName) -> FoundChild
         ensures { result
             ≡ found_from 0 plan.children (slots self.now) version name.now.local_name };
 
@@ -118,7 +119,7 @@ pub trait Frame: Drop {
             (slots self)) result };
 
     // The machines read the kinds of the children.
-    ghost kinds: { Self.Child.kinds ≡ kinds_of plan.children };
+    ghost child_kinds: { Self.Child.kinds ≡ kinds_of plan.children };
 
     // The kind is read like this.
     ghost frame: { IsFrame kind plan first last };
@@ -163,7 +164,7 @@ fn enter<F: Frame>(
         (F.slots part.now) version element.now place event.now name.now attributes.now result }
 {
     match part.find(version, name) {
-        Found::At(position) => {
+        FoundChild::At(position) => {
             let child = F::Child::start(
                 position,
                 &Start {
@@ -176,13 +177,13 @@ fn enter<F: Frame>(
             )?;
             Ok(Inside::Read(boxed(alloc, child)?))
         }
-        Found::Unknown => {
+        FoundChild::Unknown => {
             if !part.rule().skips() {
                 return refuse_in(alloc, place, element, event);
             }
             Ok(Inside::Skipped(0))
         }
-        Found::Second => refuse_in(alloc, place, element, event),
+        FoundChild::Second => refuse_in(alloc, place, element, event),
     }
 }
 

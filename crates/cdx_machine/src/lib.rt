@@ -18,7 +18,7 @@ mod texts;
 
 pub use by_name::{ByName, NamedMachine};
 pub use content::{Content, ContentMachine};
-pub use frame::{Found, Frame, FrameMachine, Inside, boxed, skip};
+pub use frame::{FoundChild, Frame, FrameMachine, Inside, boxed, skip};
 pub use leaves::Leaves;
 pub use listener::Listener;
 pub use lists::{Items, ListMachine, ListOf};

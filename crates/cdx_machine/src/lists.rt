@@ -1,6 +1,6 @@
 //! Lists.
 
-use crate::frame::{Found, Frame, FrameMachine};
+use crate::frame::{FoundChild, Frame, FrameMachine};
 use crate::machine::Machine;
 use crate::or::Only;
 use cdx_events::{List, OwnedName};
@@ -69,7 +69,7 @@ impl<L: ListOf> Frame for Items<L> {
 
     ghost slots = { λ r. items_slots L.Item.tree r.items };
 
-    ghost kinds = { item_kinds L.list_name L.Item.kind L.item_kind L.one_name };
+    ghost child_kinds = { item_kinds L.list_name L.Item.kind L.item_kind L.one_name };
 
     ghost frame = { list_frame L.list_name };
 
@@ -83,11 +83,11 @@ impl<L: ListOf> Frame for Items<L> {
         })
     }
 
-    fn find(&self, _version: SpecVersion, name: &OwnedName) -> Found {
+    fn find(&self, _version: SpecVersion, name: &OwnedName) -> FoundChild {
         if name.local_name.is(L::inner()) {
-            return Found::At(0);
+            return FoundChild::At(0);
         }
-        Found::Unknown
+        FoundChild::Unknown
     }
 
     fn put(

@@ -1,6 +1,6 @@
 //! Records that are read child by child.
 
-use crate::frame::{Found, Frame, FrameMachine};
+use crate::frame::{FoundChild, Frame, FrameMachine};
 use crate::or::Machines;
 use cdx_events::OwnedName;
 use cdx_leaf::{Children, End, Rule, Start, XmlRecord};
@@ -24,7 +24,7 @@ pub trait PushRecord {
         part: &<Self::Record as XmlRecord>::Part,
         version: SpecVersion,
         name: &OwnedName,
-    ) -> Found
+    ) -> FoundChild
         ensures { result ≡ found_from 0 (record_plan Self.Record.name).children
             (Self.Record.Part.slots part.now) version name.now.local_name };
 
@@ -39,7 +39,7 @@ pub trait PushRecord {
             (Self.Record.Part.slots part.new)) };
 
     // The machines read the kinds of its children.
-    ghost kinds: { Self.Child.kinds ≡ kinds_of (record_plan Self.Record.name).children };
+    ghost child_kinds: { Self.Child.kinds ≡ kinds_of (record_plan Self.Record.name).children };
 }
 
 /// A record while its children are read.
@@ -73,7 +73,7 @@ impl<K: PushRecord> Frame for BegunRecord<K> {
 
     ghost slots = { λ r. K.Record.Part.slots r.part };
 
-    ghost kinds = { K.kinds };
+    ghost child_kinds = { K.child_kinds };
 
     ghost frame = { record_frame K.Record.name K.Record.no_content K.Record.plain };
 
@@ -87,7 +87,7 @@ impl<K: PushRecord> Frame for BegunRecord<K> {
         })
     }
 
-    fn find(&self, version: SpecVersion, name: &OwnedName) -> Found {
+    fn find(&self, version: SpecVersion, name: &OwnedName) -> FoundChild {
         K::find(&self.part, version, name)
     }
 

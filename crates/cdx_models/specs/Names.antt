@@ -5,13 +5,13 @@ use Rattle.cdx_models.specs.Trees.{Name, hash, property, attached_text, contact,
 use Rattle.cdx_models.specs.Equal.{name_code}
 
 -- the names in the order of their numbers
-abbrev pub names : List Name
-names = hash ∷ property ∷ attached_text ∷ contact ∷ entity ∷ commit ∷ action ∷ patch ∷ diff ∷ issue ∷ source
+abbrev pub all_names : List Name
+all_names = hash ∷ property ∷ attached_text ∷ contact ∷ entity ∷ commit ∷ action ∷ patch ∷ diff ∷ issue ∷ source
     ∷ reference ∷ dependency ∷ composition ∷ license ∷ expression ∷ spdx_id ∷ license_name ∷ tool ∷ component ∷ swid ∷ pedigree
     ∷ evidence ∷ copyright ∷ service ∷ classification ∷ service_data ∷ tools_object ∷ metadata ∷ signer ∷ signers ∷ chain ∷ bill ∷ []
 
 abbrev name_of : ℕ → Name
-name_of c = get_or names c hash
+name_of c = get_or all_names c hash
 
 code-back : (n : Name) → name_of (name_code n) ≡ n
 code-back hash = refl
@@ -52,8 +52,8 @@ pub code-injective : (n m : Name) → name_code n ≡ name_code m → n ≡ m
 code-injective n m e = sym (code-back n) ∙ ap name_of e ∙ code-back m
 
 -- Two tables that agree on the row of names agree on each name.
-pub every_name : {A : Type 0} (f g : Name → A) → map f names ≡ map g names → (n : Name) → f n ≡ g n
+pub every_name : {A : Type 0} (f g : Name → A) → map f all_names ≡ map g all_names → (n : Name) → f n ≡ g n
 every_name {A = A} f g e n =
-    let in_row = λ (h : Name → A). get_or-map h names (name_code n) hash ∙ ap h (code-back n) in
+    let in_row = λ (h : Name → A). get_or-map h all_names (name_code n) hash ∙ ap h (code-back n) in
     let first = ap (λ xs. get_or xs 0 (f hash)) e in
-    sym (in_row f) ∙ ap (λ xs. get_or xs (name_code n) (f hash)) e ∙ ap (get_or (map g names) (name_code n)) first ∙ in_row g
+    sym (in_row f) ∙ ap (λ xs. get_or xs (name_code n) (f hash)) e ∙ ap (get_or (map g all_names) (name_code n)) first ∙ in_row g

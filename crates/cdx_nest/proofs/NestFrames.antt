@@ -19,7 +19,7 @@ use Rattle.cdx_service.specs.declared.frames.ServiceKind.{ServiceKind}
 use Rattle.cdx_service.specs.declared.frames.ServiceKind.TheVariants as service_kinds
 use Rattle.cdx_nest.specs.declared.frames.NestKind.{NestKind}
 use Rattle.cdx_nest.specs.declared.frames.NestKind.TheVariants as nest_kinds
-use Rattle.cdx_nest.specs.Frames.{nest_kind, among_components, among_services, Reader, reads_as, reader_of}
+use Rattle.cdx_nest.specs.Frames.{nest_kind, among_components, among_services, Reader, reader_as, reader_of}
 use Rattle.cdx_nest.specs.FrameLaws.{components_alike, services_alike}
 
 -- ---- what reads a child, there and here
@@ -39,21 +39,21 @@ different : (l : LeafKind) (k : NestKind) → Some (Leaf l) ≡ Some (Nested k) 
 different l k h = let wrong : Some (Leaf l) ≡ Some (Nested k) = h in cc
 
 module _ {K : Type 0} (of : K → NestKind) (back : NestKind → K) (is_back : (k : K) → back (of k) ≡ k) where
-  own_reader : (o : Option (ChildReader LeafKind K)) (r : Reader) → option_map (reads_as of) o ≡ Some r → (q : ChildReader LeafKind K) × (o ≡ Some q)
+  own_reader : (o : Option (ChildReader LeafKind K)) (r : Reader) → option_map (reader_as of) o ≡ Some r → (q : ChildReader LeafKind K) × (o ≡ Some q)
   own_reader None r h = absurd (none_is_none r h)
   own_reader (Some q) r h = (q, refl)
 
-  own_leaf : (o : Option (ChildReader LeafKind K)) (l : LeafKind) → option_map (reads_as of) o ≡ Some (Leaf l) → o ≡ Some (Leaf l)
+  own_leaf : (o : Option (ChildReader LeafKind K)) (l : LeafKind) → option_map (reader_as of) o ≡ Some (Leaf l) → o ≡ Some (Leaf l)
   own_leaf None l h = absurd (none_is_none (Leaf l) h)
   own_leaf (Some (Leaf m)) l h = ap (λ x. Some (Leaf x)) (ap (the_leaf m) h)
   own_leaf (Some (Nested k)) l h = absurd (different l (of k) (sym h))
 
-  own_nested : (o : Option (ChildReader LeafKind K)) (j : K) → option_map (reads_as of) o ≡ Some (Nested (of j)) → o ≡ Some (Nested j)
+  own_nested : (o : Option (ChildReader LeafKind K)) (j : K) → option_map (reader_as of) o ≡ Some (Nested (of j)) → o ≡ Some (Nested j)
   own_nested None j h = absurd (none_is_none (Nested (of j)) h)
   own_nested (Some (Leaf m)) j h = absurd (different m (of j) h)
   own_nested (Some (Nested k)) j h = ap (λ x. Some (Nested x)) (sym (is_back k) ∙ ap back (ap (the_nested (of k)) h) ∙ is_back j)
 
-  own_kind : (o : Option (ChildReader LeafKind K)) (s : NestKind) → option_map (reads_as of) o ≡ Some (Nested s) → (k : K) × (s ≡ of k)
+  own_kind : (o : Option (ChildReader LeafKind K)) (s : NestKind) → option_map (reader_as of) o ≡ Some (Nested s) → (k : K) × (s ≡ of k)
   own_kind None s h = absurd (none_is_none (Nested s) h)
   own_kind (Some (Leaf m)) s h = absurd (different m s h)
   own_kind (Some (Nested k)) s h = (k, sym (ap (the_nested (of k)) h))
@@ -76,7 +76,7 @@ component_back component_kinds.Component = refl
 component_back component_kinds.Components = refl
 component_back component_kinds.Pedigree = refl
 
-component_reads : (k : ComponentKind) (i : ℕ) → reader_of (among_components k) i ≡ option_map (reads_as among_components) (component_reader k i)
+component_reads : (k : ComponentKind) (i : ℕ) → reader_of (among_components k) i ≡ option_map (reader_as among_components) (component_reader k i)
 component_reads component_kinds.Component i = refl
 component_reads component_kinds.Components i = refl
 component_reads component_kinds.Pedigree i = refl
@@ -84,8 +84,8 @@ component_reads component_kinds.Pedigree i = refl
 pub component_has : (k : ComponentKind) (i : ℕ) → HasReader (reader_of (among_components k)) i → HasReader (component_reader k) i
 component_has k i (r, at) = own_reader among_components component_of component_back (component_reader k i) r (sym (component_reads k i) ∙ at)
 
-pub component_child : (k : ComponentKind) (i : ℕ) (q : ChildReader LeafKind ComponentKind) → component_reader k i ≡ Some q → reader_of (among_components k) i ≡ Some (reads_as among_components q)
-component_child k i q at = component_reads k i ∙ ap (λ o. option_map (reads_as among_components) o) at
+pub component_child : (k : ComponentKind) (i : ℕ) (q : ChildReader LeafKind ComponentKind) → component_reader k i ≡ Some q → reader_of (among_components k) i ≡ Some (reader_as among_components q)
+component_child k i q at = component_reads k i ∙ ap (λ o. option_map (reader_as among_components) o) at
 
 pub component_leaf : (k : ComponentKind) (i : ℕ) (l : LeafKind) → reader_of (among_components k) i ≡ Some (Leaf l) → component_reader k i ≡ Some (Leaf l)
 component_leaf k i l at = own_leaf among_components component_of component_back (component_reader k i) l (sym (component_reads k i) ∙ at)
@@ -114,15 +114,15 @@ unfolding service_of
 service_back service_kinds.Service = refl
 service_back service_kinds.Services = refl
 
-service_reads : (k : ServiceKind) (i : ℕ) → reader_of (among_services k) i ≡ option_map (reads_as among_services) (service_reader k i)
+service_reads : (k : ServiceKind) (i : ℕ) → reader_of (among_services k) i ≡ option_map (reader_as among_services) (service_reader k i)
 service_reads service_kinds.Service i = refl
 service_reads service_kinds.Services i = refl
 
 pub service_has : (k : ServiceKind) (i : ℕ) → HasReader (reader_of (among_services k)) i → HasReader (service_reader k) i
 service_has k i (r, at) = own_reader among_services service_of service_back (service_reader k i) r (sym (service_reads k i) ∙ at)
 
-pub service_child : (k : ServiceKind) (i : ℕ) (q : ChildReader LeafKind ServiceKind) → service_reader k i ≡ Some q → reader_of (among_services k) i ≡ Some (reads_as among_services q)
-service_child k i q at = service_reads k i ∙ ap (λ o. option_map (reads_as among_services) o) at
+pub service_child : (k : ServiceKind) (i : ℕ) (q : ChildReader LeafKind ServiceKind) → service_reader k i ≡ Some q → reader_of (among_services k) i ≡ Some (reader_as among_services q)
+service_child k i q at = service_reads k i ∙ ap (λ o. option_map (reader_as among_services) o) at
 
 pub service_leaf : (k : ServiceKind) (i : ℕ) (l : LeafKind) → reader_of (among_services k) i ≡ Some (Leaf l) → service_reader k i ≡ Some (Leaf l)
 service_leaf k i l at = own_leaf among_services service_of service_back (service_reader k i) l (sym (service_reads k i) ∙ at)

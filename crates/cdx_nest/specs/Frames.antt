@@ -83,21 +83,21 @@ abbrev pub Reader : Type 0
 Reader = ChildReader LeafKind NestKind
 
 -- by a kind of components or of services, among these kinds
-abbrev pub reads_as : {K : Type 0} → (K → NestKind) → ChildReader LeafKind K → Reader
-reads_as of (Leaf l) = Leaf l
-reads_as of (Nested k) = Nested (of k)
+abbrev pub reader_as : {K : Type 0} → (K → NestKind) → ChildReader LeafKind K → Reader
+reader_as of (Leaf l) = Leaf l
+reader_as of (Nested k) = Nested (of k)
 
-abbrev pub tools_reads : List Reader
-tools_reads = Leaf leaf_kinds.Tool ∷ Nested Services ∷ Nested Components ∷ []
+abbrev pub tools_readers : List Reader
+tools_readers = Leaf leaf_kinds.Tool ∷ Nested Services ∷ Nested Components ∷ []
 
-abbrev pub metadata_reads : List Reader
-metadata_reads = Leaf leaf_kinds.Text ∷ Nested Tools ∷ Leaf leaf_kinds.Authors ∷ Nested Component ∷ Leaf leaf_kinds.Entity ∷ Leaf leaf_kinds.Entity ∷ Leaf leaf_kinds.Licenses ∷ Leaf leaf_kinds.Properties ∷ []
+abbrev pub metadata_readers : List Reader
+metadata_readers = Leaf leaf_kinds.Text ∷ Nested Tools ∷ Leaf leaf_kinds.Authors ∷ Nested Component ∷ Leaf leaf_kinds.Entity ∷ Leaf leaf_kinds.Entity ∷ Leaf leaf_kinds.Licenses ∷ Leaf leaf_kinds.Properties ∷ []
 
 abbrev pub reader_of : NestKind → ℕ → Option Reader
-reader_of Tools i = at_position tools_reads i
-reader_of Component i = option_map (reads_as among_components) (component_reader component_kinds.Component i)
-reader_of Components i = option_map (reads_as among_components) (component_reader component_kinds.Components i)
-reader_of Pedigree i = option_map (reads_as among_components) (component_reader component_kinds.Pedigree i)
-reader_of Service i = option_map (reads_as among_services) (service_reader service_kinds.Service i)
-reader_of Services i = option_map (reads_as among_services) (service_reader service_kinds.Services i)
-reader_of Metadata i = at_position metadata_reads i
+reader_of Tools i = at_position tools_readers i
+reader_of Component i = option_map (reader_as among_components) (component_reader component_kinds.Component i)
+reader_of Components i = option_map (reader_as among_components) (component_reader component_kinds.Components i)
+reader_of Pedigree i = option_map (reader_as among_components) (component_reader component_kinds.Pedigree i)
+reader_of Service i = option_map (reader_as among_services) (service_reader service_kinds.Service i)
+reader_of Services i = option_map (reader_as among_services) (service_reader service_kinds.Services i)
+reader_of Metadata i = at_position metadata_readers i

@@ -17,9 +17,9 @@ abbrev pub as_step : NestStep → Option NestValue
 as_step More = None
 as_step (Done x) = Some x
 
-abbrev pub as_steps : Result NestStep XmlReadError → Result (Option NestValue) XmlReadError
-as_steps (Ok s) = Ok (as_step s)
-as_steps (Err e) = Err e
+abbrev pub step_or_fault : Result NestStep XmlReadError → Result (Option NestValue) XmlReadError
+step_or_fault (Ok s) = Ok (as_step s)
+step_or_fault (Err e) = Err e
 
 abbrev pub IsMore : Result NestStep XmlReadError → Type 0
 IsMore (Ok More) = Unit {0}

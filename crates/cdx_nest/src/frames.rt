@@ -24,7 +24,7 @@ use crate::tools::Tools;
 use cdx_component::{Component, ComponentFrame, ComponentKind, Components, Pedigree};
 use cdx_events::OwnedName;
 use cdx_leaf::{End, Rule, Start};
-use cdx_machine::Found;
+use cdx_machine::FoundChild;
 use cdx_models::{SpecVersion, XmlReadError};
 use cdx_nest_machine::{ChildReader, Nested};
 use cdx_push::{Leaf, LeafKind, LeafValue};
@@ -165,7 +165,7 @@ impl Nested for NestFrame {
         }
     }
 
-    fn find(&self, version: SpecVersion, name: &OwnedName) -> Found {
+    fn find(&self, version: SpecVersion, name: &OwnedName) -> FoundChild {
         match self {
             NestFrame::Component(frame) => frame.find(version, name),
             NestFrame::Service(frame) => frame.find(version, name),

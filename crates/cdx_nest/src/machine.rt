@@ -8,14 +8,14 @@ ghost use Rattle.cdx_schema.specs.Soon.{BeginsElement};
 ghost use Rattle.cdx_schema.specs.Depths.{depth_of};
 ghost use Rattle.cdx_machine.specs.Heard.{OpensAs, Answers, IsListening, Listens, heard_by};
 ghost use Rattle.cdx_nest.specs.Frames.{nest_kind, value_tree};
-ghost use Rattle.cdx_nest.specs.NestSteps.{IsOfKind, IsMore, IsMemory, as_steps};
+ghost use Rattle.cdx_nest.specs.NestSteps.{IsOfKind, IsMore, IsMemory, step_or_fault};
 
 use crate::frames::{NestFrame, NestKind, NestStep};
 use cdx_events::{List, OwnedAttribute, OwnedName, XmlEvent};
 use cdx_leaf::Start;
 use cdx_machine::Listener;
 use cdx_models::{SpecVersion, XmlReadError};
-use cdx_nest_machine::{Keeps, StackMachine};
+use cdx_nest_machine::{HoldsBegun, StackMachine};
 use cdx_schema::Depth;
 use std::alloc::Global;
 
@@ -44,7 +44,7 @@ impl Drop for NestMachine {
 }
 
 impl Listener for NestMachine {
-    ghost heard = { λ m. heard_by (⟦<StackMachine<NestFrame> as Keeps>⟧.holds m.kind) (λ _. m.kind)
+    ghost heard = { λ m. heard_by (⟦<StackMachine<NestFrame> as HoldsBegun>⟧.holds m.kind) (λ _. m.kind)
         m.kind m.version m.place (depth_of m.depth) m.machine };
 }
 
@@ -101,7 +101,7 @@ impl NestMachine {
             → place ≡ self.old.place + length events → BeginsElement (events ++ event.now ∷ [])
             → Answers (⟦<NestMachine as Listener>⟧.heard self.new) value_tree self.old.version
             (nest_kind self.old.kind) self.old.place (depth_of self.old.depth) place
-            (events ++ event.now ∷ []) (as_steps result) }
+            (events ++ event.now ∷ []) (step_or_fault result) }
         ensures heard { (events : List XmlEvent)
             → ⟦<NestMachine as Listener>⟧.heard self.old events
             → place ≡ self.old.place + length events → BeginsElement (events ++ event.now ∷ [])

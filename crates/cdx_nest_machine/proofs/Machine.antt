@@ -29,7 +29,7 @@ use Rattle.cdx_machine.specs.Machines.{IsQuiet, Proceeds, Yields, CanStepChild, 
 use Rattle.cdx_machine.specs.Frames.{IsForm, EntersAt, FeedsChild, skipped, holds_inside}
 use Rattle.cdx_machine.proofs.Yielding.{proceeds_whole}
 use Rattle.cdx_machine.proofs.FrameSteps.{own_enters_by, own_start_fails_by, own_end, own_text, own_text_fails, child_fed, child_fails, child_skipped, skip_fits, frame_yields}
-use Rattle.cdx_machine.proofs.Frames.{Keeps, keeps_name, enters_unknown, enters_second}
+use Rattle.cdx_machine.proofs.Frames.{StaysNamed, keeps_name, enters_unknown, enters_second}
 use Rattle.cdx_machine.specs.Several.{Puts}
 use Rattle.cdx_machine.proofs.Names.{FindsAt, FindsSecond}
 use Rattle.cdx_nest_machine.specs.declared.nested.ChildReader.TheVariants.{Nested}
@@ -206,7 +206,7 @@ module _ {W L K C : Type 0} (s : Shape W L K) (law : (k : K) → IsNested (s.as_
           → Told (λ o'. Stacked s holds root us (s.sort w) (s.name w) (s.inner w) ts' known Nothing v p d o') (Ok false)
       end_pops view w us q x ts' some g st =
           subst (λ (y : Next). Told' y) (sym (next_is ts Nothing h ∙ ap (λ (y : Next). plug_next h.layers y) own_whole.1))
-          (pops s law v root p d holds kept w us k h.layers h.place h.depth inner (start_name h.top) own_whole.0 (view x) ts' known (subst (λ (z : List W). Stand s v root p d z h.layers k h.place h.depth (start_name h.top)) some h.stand) h.inner_is h.fits (subst (λ (y : Next). Keeps (start_name h.top) y) own_whole.1 (keeps_name h.top event)) (version_known h.top h.held) (ends view q (Ok x) g) st)
+          (pops s law v root p d holds kept w us k h.layers h.place h.depth inner (start_name h.top) own_whole.0 (view x) ts' known (subst (λ (z : List W). Stand s v root p d z h.layers k h.place h.depth (start_name h.top)) some h.stand) h.inner_is h.fits (subst (λ (y : Next). StaysNamed (start_name h.top) y) own_whole.1 (keeps_name h.top event)) (version_known h.top h.held) (ends view q (Ok x) g) st)
         where
           Told' : Next → Type 0
           Told' y = Proceeds (λ o'. Stacked s holds root us (s.sort w) (s.name w) (s.inner w) ts' known Nothing v p d o') kept (λ y. xread y v (s.as_kind root) p d) p y (Ok false)

@@ -23,7 +23,7 @@ use Rattle.cdx_machine.proofs.Places.{places_more}
 use Rattle.cdx_machine.proofs.Children.{puts_row}
 use Rattle.cdx_machine.proofs.Faults.{refuses_on}
 use Rattle.cdx_machine.proofs.FrameSteps.{open_ok, open_fails, open_quiet, quiet_inside, frame_opens, frame_refuses}
-use Rattle.cdx_machine.proofs.Frames.{IsNamed, ended_named, Keeps, keeps_into}
+use Rattle.cdx_machine.proofs.Frames.{IsNamed, ended_named, StaysNamed, keeps_into}
 use Rattle.cdx_machine.specs.Several.{Puts}
 use Rattle.cdx_machine.proofs.Names.{FindsAt}
 use Rattle.cdx_nest_machine.specs.declared.nested.ChildReader.TheVariants.{Nested}
@@ -85,7 +85,7 @@ module _ {W L K : Type 0} (s : Shape W L K) (law : (k : K) → IsNested (s.as_ki
         at i j e = omega (arith, e)
 
     -- a fault of the child, or of what is open in it
-    pub layer_err : (held held' : Begun → Type 0) (kept kept' : Type 0) (x : Next) (f : XmlReadError) → Keeps m x → Proceeds held kept (λ y. xread y v (s.as_kind k) q e) q x (Err f)
+    pub layer_err : (held held' : Begun → Type 0) (kept kept' : Type 0) (x : Next) (f : XmlReadError) → StaysNamed m x → Proceeds held kept (λ y. xread y v (s.as_kind k) q e) q x (Err f)
         → Proceeds held' kept' (λ y. xread y v (s.as_kind (s.sort w)) l.place l.depth) l.place (into l.name l.attributes l.namespace l.nodes x) (Err f)
     layer_err held held' kept kept' (still o) f i r =
         refuses_on f (q + count o) (l.place + count (around l.name l.attributes l.namespace l.nodes o)) (xread (ended_now o) v (s.as_kind k) q e) _ (λ g is. layer_fails (ended_now o) g (subst (λ (n : OwnedName). IsNamed n (ended_now o)) i (ended_named o)) is) (sym (layer_at o)) r
@@ -120,7 +120,7 @@ module _ {W L K : Type 0} (s : Shape W L K) (law : (k : K) → IsNested (s.as_ki
     lift_quiet (w ∷ ws) [] k q e m o h i quiet = absurd h
     lift_quiet (w ∷ ws) (l ∷ ls) k q e m o (h, hs) i quiet = lift_quiet ws ls (s.sort w) l.place l.depth l.name (around l.name l.attributes l.namespace l.nodes o) hs refl (layer_quiet w l k q e m h o i quiet)
 
-    pub lift_err : (ws : List W) (ls : List Layer) (k : K) (q : ℕ) (e : Depth) (m : OwnedName) (held held' : Begun → Type 0) (kept kept' : Type 0) (x : Next) (f : XmlReadError) → Stand s v root p d ws ls k q e m → Keeps m x
+    pub lift_err : (ws : List W) (ls : List Layer) (k : K) (q : ℕ) (e : Depth) (m : OwnedName) (held held' : Begun → Type 0) (kept kept' : Type 0) (x : Next) (f : XmlReadError) → Stand s v root p d ws ls k q e m → StaysNamed m x
         → Proceeds held kept (λ y. xread y v (s.as_kind k) q e) q x (Err f) → Proceeds held' kept' (λ y. xread y v (s.as_kind root) p d) p (plug_next ls x) (Err f)
     lift_err [] [] k q e m held held' kept kept' x f (a, b, c) i r = here x r
       where
@@ -146,7 +146,7 @@ module _ {W L K : Type 0} (s : Shape W L K) (law : (k : K) → IsNested (s.as_ki
         by_inner y = ap (λ (z : Depth). inner_read (s.as_kind k) y v q z) i ∙ sym ((law k).reads y v q e fit)
 
         -- The top element goes on.
-        pub goes_on : (top_kept kept : Type 0) (name : List ℕ) (ts : Trees) (known : SpecVersion) (inside : Inside C) (x : Next) → Keeps m x
+        pub goes_on : (top_kept kept : Type 0) (name : List ℕ) (ts : Trees) (known : SpecVersion) (inside : Inside C) (x : Next) → StaysNamed m x
             → Proceeds (λ o. holds_inside (holds k) (first_of (s.as_kind k)) (plan_of (s.as_kind k)) name known ts inside v q inner o) top_kept (λ y. inner_read (s.as_kind k) y v q inner) q x (Ok false)
             → Told (Kept name inner ts known inside) kept (plug_next ls x) (Ok false)
         goes_on top_kept kept name ts known inside (whole y) w r = absurd r
@@ -157,7 +157,7 @@ module _ {W L K : Type 0} (s : Shape W L K) (law : (k : K) → IsNested (s.as_ki
             )
 
         -- It is refused.
-        pub is_refused : (top_held held : Begun → Type 0) (top_kept kept : Type 0) (x : Next) (f : XmlReadError) → Keeps m x
+        pub is_refused : (top_held held : Begun → Type 0) (top_kept kept : Type 0) (x : Next) (f : XmlReadError) → StaysNamed m x
             → Proceeds top_held top_kept (λ y. inner_read (s.as_kind k) y v q inner) q x (Err f) → Told held kept (plug_next ls x) (Err f)
         is_refused top_held held top_kept kept x f w r = lift_err ws ls k q e m top_held held top_kept kept x f h w (by x r)
           where

@@ -31,14 +31,14 @@ Deepens kind d None = is_too_deep kind d ≡ true
 Deepens kind d (Some e) = (is_too_deep kind d ≡ false) × (depth_of e ≡ inner_of kind d)
 
 -- The law of a list of what reads each child.
-pub reads_listed : {L S : Type 0} (leaf : L → Kind) (own : S → Kind) (rs : List (ChildReader L S)) (cs : List Child) → map (child_kind leaf own) rs ≡ kinds_of cs → ReadsEach leaf own (at_position rs) cs
-reads_listed leaf own [] [] e i row h = absurd (let wrong : None ≡ Some row = h in cc)
-reads_listed leaf own [] (c ∷ cs) e i row h = absurd (let wrong : [] ≡ c.kind ∷ kinds_of cs = e in cc)
-reads_listed leaf own (r ∷ rs) [] e i row h = absurd (let wrong : None ≡ Some row = h in cc)
-reads_listed leaf own (r ∷ rs) (c ∷ cs) e zero row h =
+pub readers_listed : {L S : Type 0} (leaf : L → Kind) (own : S → Kind) (rs : List (ChildReader L S)) (cs : List Child) → map (child_kind leaf own) rs ≡ kinds_of cs → ReadsEach leaf own (at_position rs) cs
+readers_listed leaf own [] [] e i row h = absurd (let wrong : None ≡ Some row = h in cc)
+readers_listed leaf own [] (c ∷ cs) e i row h = absurd (let wrong : [] ≡ c.kind ∷ kinds_of cs = e in cc)
+readers_listed leaf own (r ∷ rs) [] e i row h = absurd (let wrong : None ≡ Some row = h in cc)
+readers_listed leaf own (r ∷ rs) (c ∷ cs) e zero row h =
     let same : c ≡ row = some_same h in
     let kind : child_kind leaf own r ≡ c.kind = cc in
     (r, refl, ap (λ (x : Child). x.kind) (sym same) ∙ sym kind)
-reads_listed leaf own (r ∷ rs) (c ∷ cs) e (suc i) row h =
+readers_listed leaf own (r ∷ rs) (c ∷ cs) e (suc i) row h =
     let rest : map (child_kind leaf own) rs ≡ kinds_of cs = cc in
-    reads_listed leaf own rs cs rest i row h
+    readers_listed leaf own rs cs rest i row h

@@ -1,7 +1,7 @@
 //! What contracts say of the events that were taken.
 
 /// What takes the events of an element of one of several kinds, as contracts see it.
-pub trait Keeps {
+pub trait HoldsBegun {
     ghost use Rattle.std.specs.Prelude.{ℕ};
     ghost use Rattle.cdx_models.specs.declared.bom.SpecVersion.{SpecVersion};
     ghost use Rattle.cdx_schema.specs.Depth.{Depth};

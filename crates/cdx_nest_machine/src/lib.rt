@@ -7,7 +7,7 @@ mod nested;
 mod reading;
 mod stack;
 
-pub use keeps::Keeps;
+pub use keeps::HoldsBegun;
 pub use nested::{ChildReader, Nested};
 pub use reading::read_element;
 pub use stack::StackMachine;

@@ -2,7 +2,7 @@
 
 use cdx_events::OwnedName;
 use cdx_leaf::{End, Rule, Start};
-use cdx_machine::{Found, Leaves};
+use cdx_machine::{FoundChild, Leaves};
 use cdx_models::{SpecVersion, XmlReadError};
 use cdx_schema::Depth;
 use std::alloc::{AllocError, Global};
@@ -74,7 +74,7 @@ pub trait Nested: Drop {
             opened.now.version opened.now.place) result };
 
     /// The child that the version knows by the name.
-    fn find(&self, version: SpecVersion, name: &OwnedName) -> Found
+    fn find(&self, version: SpecVersion, name: &OwnedName) -> FoundChild
         ensures { result ≡ found_from 0 (plan_of (as_kind (sort_of self.now))).children
             (fields self.now) version name.now.local_name };
 

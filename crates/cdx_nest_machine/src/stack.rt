@@ -13,11 +13,11 @@ ghost use Rattle.cdx_machine.specs.Machines.{CanStepChild};
 ghost use Rattle.cdx_nest_machine.specs.Stacks.{StartsStack, CanStepStack, ProceedsStack, CanYieldStack, YieldsStack};
 ghost use Rattle.cdx_nest_machine.specs.Frames.{leaf_holds, BeginsOpen};
 
-use crate::keeps::Keeps;
+use crate::keeps::HoldsBegun;
 use crate::nested::{ChildReader, Nested};
 use cdx_events::{List, OwnedAttribute, OwnedName, Text, XmlEvent};
 use cdx_leaf::{End, Start};
-use cdx_machine::{Found, Inside, Leaves, boxed, refuse_in, skip};
+use cdx_machine::{FoundChild, Inside, Leaves, boxed, refuse_in, skip};
 use cdx_models::{SpecVersion, XmlReadError};
 use cdx_schema::Depth;
 use std::alloc::{AllocError, Global};
@@ -67,7 +67,7 @@ impl<F: Nested> Drop for StackMachine<F> {
     }
 }
 
-impl<F: Nested> Keeps for StackMachine<F> {
+impl<F: Nested> HoldsBegun for StackMachine<F> {
     ghost use Rattle.cdx_nest_machine.specs.Frames.{leaf_holds, shape_of, stack_holds};
 
     type Sort = F::Sort;
@@ -144,7 +144,7 @@ impl<F: Nested> StackMachine<F> {
         depth: Depth,
         opened: &Start<'_>,
     ) -> Result<StackMachine<F>, XmlReadError>
-        ensures { StartsStack (⟦<StackMachine<F> as Keeps>⟧.holds sort) (F.as_kind sort)
+        ensures { StartsStack (⟦<StackMachine<F> as HoldsBegun>⟧.holds sort) (F.as_kind sort)
             opened.now.version opened.now.place (depth_of depth) opened.now.element.now
             opened.now.attributes.now result }
     {
@@ -166,15 +166,16 @@ impl<F: Nested> StackMachine<F> {
         name: &OwnedName,
         attributes: &List<OwnedAttribute>,
     ) -> Result<bool, XmlReadError>
-        requires can { CanStepStack ⟦<StackMachine<F> as Keeps>⟧.holds self.old place event.now }
+        requires can { CanStepStack ⟦<StackMachine<F> as HoldsBegun>⟧.holds self.old place
+            event.now }
         requires nothing { self.old.inside ≡ Nothing }
         requires start { (z : Namespace)
             × (event.now ≡ StartElement name.now attributes.now z) }
-        ensures { ProceedsStack ⟦<StackMachine<F> as Keeps>⟧.holds F.as_kind self.old self.new
+        ensures { ProceedsStack ⟦<StackMachine<F> as HoldsBegun>⟧.holds F.as_kind self.old self.new
             place event.now result }
     {
         match self.top.part.find(self.version, name) {
-            Found::At(position) => match self.top.part.child(position) {
+            FoundChild::At(position) => match self.top.part.child(position) {
                 ChildReader::Leaf(sort) => {
                     let started = F::Leaf::start(
                         sort,
@@ -208,14 +209,14 @@ impl<F: Nested> StackMachine<F> {
                     Ok(false)
                 }
             },
-            Found::Unknown => {
+            FoundChild::Unknown => {
                 if !self.top.part.rule().skips() {
                     return refuse_in(self.alloc, place, &self.top.name, event);
                 }
                 self.inside = Inside::Skipped(0);
                 Ok(false)
             }
-            Found::Second => refuse_in(self.alloc, place, &self.top.name, event),
+            FoundChild::Second => refuse_in(self.alloc, place, &self.top.name, event),
         }
     }
 
@@ -226,10 +227,11 @@ impl<F: Nested> StackMachine<F> {
         event: &XmlEvent,
         name: &OwnedName,
     ) -> Result<bool, XmlReadError>
-        requires can { CanStepStack ⟦<StackMachine<F> as Keeps>⟧.holds self.old place event.now }
+        requires can { CanStepStack ⟦<StackMachine<F> as HoldsBegun>⟧.holds self.old place
+            event.now }
         requires nothing { self.old.inside ≡ Nothing }
         requires end { event.now ≡ EndElement name.now }
-        ensures { ProceedsStack ⟦<StackMachine<F> as Keeps>⟧.holds F.as_kind self.old self.new
+        ensures { ProceedsStack ⟦<StackMachine<F> as HoldsBegun>⟧.holds F.as_kind self.old self.new
             place event.now result }
     {
         let Some(waiting) = self.below.pop() else {
@@ -250,8 +252,8 @@ impl<F: Nested> StackMachine<F> {
     /// refusal comes with the first event through which the element has a fault; that is the fault, and it stands at this
     /// event. Or else memory ran out. Only the top frame is touched, or the one below it.
     pub fn step(&mut self, place: usize, event: &XmlEvent) -> Result<bool, XmlReadError>
-        requires { CanStepStack ⟦<StackMachine<F> as Keeps>⟧.holds self.old place event.now }
-        ensures { ProceedsStack ⟦<StackMachine<F> as Keeps>⟧.holds F.as_kind self.old self.new
+        requires { CanStepStack ⟦<StackMachine<F> as HoldsBegun>⟧.holds self.old place event.now }
+        ensures { ProceedsStack ⟦<StackMachine<F> as HoldsBegun>⟧.holds F.as_kind self.old self.new
             place event.now result }
     {
         match replace(&mut self.inside, Inside::Nothing) {
@@ -282,8 +284,8 @@ impl<F: Nested> StackMachine<F> {
 
     /// What the element is read as that this event ends, at `place`. A refusal is its fault, at its end, or want of memory.
     pub fn finish(self, place: usize, event: &XmlEvent) -> Result<F::Value, XmlReadError>
-        requires { CanYieldStack ⟦<StackMachine<F> as Keeps>⟧.holds self place event.now }
-        ensures { YieldsStack ⟦<StackMachine<F> as Keeps>⟧.holds F.as_kind F.tree F.value_sort
+        requires { CanYieldStack ⟦<StackMachine<F> as HoldsBegun>⟧.holds self place event.now }
+        ensures { YieldsStack ⟦<StackMachine<F> as HoldsBegun>⟧.holds F.as_kind F.tree F.value_sort
             self place event.now result }
     {
         let XmlEvent::EndElement { name } = event else {

@@ -17,9 +17,9 @@ abbrev pub as_step : LeafStep → Option LeafValue
 as_step More = None
 as_step (Done x) = Some x
 
-abbrev pub as_steps : Result LeafStep XmlReadError → Result (Option LeafValue) XmlReadError
-as_steps (Ok s) = Ok (as_step s)
-as_steps (Err e) = Err e
+abbrev pub step_or_fault : Result LeafStep XmlReadError → Result (Option LeafValue) XmlReadError
+step_or_fault (Ok s) = Ok (as_step s)
+step_or_fault (Err e) = Err e
 
 abbrev pub IsMore : Result LeafStep XmlReadError → Type 0
 IsMore (Ok More) = Unit {0}

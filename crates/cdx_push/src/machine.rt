@@ -8,7 +8,7 @@ ghost use Rattle.cdx_schema.specs.Depth.{top};
 ghost use Rattle.cdx_schema.specs.Soon.{BeginsElement};
 ghost use Rattle.cdx_machine.specs.Heard.{OpensAs, Answers, IsListening, Listens};
 ghost use Rattle.cdx_push.specs.Leaf.{kind_of, value_tree};
-ghost use Rattle.cdx_push.specs.LeafSteps.{IsOfKind, IsMore, IsMemory, as_steps};
+ghost use Rattle.cdx_push.specs.LeafSteps.{IsOfKind, IsMore, IsMemory, step_or_fault};
 
 use crate::kinds::{LeafKind, LeafStep};
 use crate::leaf::Leaf;
@@ -95,7 +95,7 @@ impl LeafMachine {
             → place ≡ self.old.place + length events → BeginsElement (events ++ event.now ∷ [])
             → Answers (⟦<LeafMachine as Listener>⟧.heard self.new) value_tree self.old.version
             (kind_of self.old.kind) self.old.place top place (events ++ event.now ∷ [])
-            (as_steps result) }
+            (step_or_fault result) }
         ensures heard { (events : List XmlEvent)
             → ⟦<LeafMachine as Listener>⟧.heard self.old events
             → place ≡ self.old.place + length events → BeginsElement (events ++ event.now ∷ [])

@@ -4,7 +4,7 @@ use cdx_code::{Commit, Commits, IdentifiableAction};
 use cdx_events::{OwnedName, Text, XmlEvent};
 use cdx_leaf::{Rule, Start};
 use cdx_machine::{
-    Found, ListMachine, ListOf, Machine, Only, Or, PushRecord, RecordMachine, TextMachine,
+    FoundChild, ListMachine, ListOf, Machine, Only, Or, PushRecord, RecordMachine, TextMachine,
 };
 use cdx_models::{SpecVersion, XmlReadError};
 use std::alloc::{AllocError, Global};
@@ -54,14 +54,14 @@ impl PushRecord for IdentifiableActionChildren {
 
     type Child = Or<TextMachine, Or<TextMachine, Only<TextMachine>>>;
 
-    ghost kinds = { action_kinds };
+    ghost child_kinds = { action_kinds };
 
-    fn find(_part: &IdentifiableAction, _version: SpecVersion, name: &OwnedName) -> Found {
+    fn find(_part: &IdentifiableAction, _version: SpecVersion, name: &OwnedName) -> FoundChild {
         match name.local_name.as_str() {
-            "timestamp" => Found::At(0),
-            "name" => Found::At(1),
-            "email" => Found::At(2),
-            _ => Found::Unknown,
+            "timestamp" => FoundChild::At(0),
+            "name" => FoundChild::At(1),
+            "email" => FoundChild::At(2),
+            _ => FoundChild::Unknown,
         }
     }
 
@@ -130,16 +130,16 @@ impl PushRecord for CommitChildren {
         >,
     >;
 
-    ghost kinds = { commit_kinds };
+    ghost child_kinds = { commit_kinds };
 
-    fn find(_part: &Commit, _version: SpecVersion, name: &OwnedName) -> Found {
+    fn find(_part: &Commit, _version: SpecVersion, name: &OwnedName) -> FoundChild {
         match name.local_name.as_str() {
-            "uid" => Found::At(0),
-            "url" => Found::At(1),
-            "author" => Found::At(2),
-            "committer" => Found::At(3),
-            "message" => Found::At(4),
-            _ => Found::Unknown,
+            "uid" => FoundChild::At(0),
+            "url" => FoundChild::At(1),
+            "author" => FoundChild::At(2),
+            "committer" => FoundChild::At(3),
+            "message" => FoundChild::At(4),
+            _ => FoundChild::Unknown,
         }
     }
 

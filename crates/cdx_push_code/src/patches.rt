@@ -3,7 +3,7 @@
 use cdx_events::{List, OwnedName, Text, XmlEvent};
 use cdx_leaf::{Rule, Start};
 use cdx_machine::{
-    Found, ListMachine, ListOf, Machine, Only, Or, PushRecord, RecordMachine, TextMachine,
+    FoundChild, ListMachine, ListOf, Machine, Only, Or, PushRecord, RecordMachine, TextMachine,
 };
 use cdx_models::{AttachedText, SpecVersion, XmlReadError};
 use cdx_patch::{Diff, Issue, Patch, Patches, Source};
@@ -55,13 +55,13 @@ impl PushRecord for DiffChildren {
 
     type Child = Or<AttachedTextMachine, Only<TextMachine>>;
 
-    ghost kinds = { diff_kinds };
+    ghost child_kinds = { diff_kinds };
 
-    fn find(_part: &Diff, _version: SpecVersion, name: &OwnedName) -> Found {
+    fn find(_part: &Diff, _version: SpecVersion, name: &OwnedName) -> FoundChild {
         match name.local_name.as_str() {
-            "text" => Found::At(0),
-            "url" => Found::At(1),
-            _ => Found::Unknown,
+            "text" => FoundChild::At(0),
+            "url" => FoundChild::At(1),
+            _ => FoundChild::Unknown,
         }
     }
 
@@ -123,13 +123,13 @@ impl PushRecord for SourceChildren {
 
     type Child = Or<TextMachine, Only<TextMachine>>;
 
-    ghost kinds = { source_kinds };
+    ghost child_kinds = { source_kinds };
 
-    fn find(_part: &Source, _version: SpecVersion, name: &OwnedName) -> Found {
+    fn find(_part: &Source, _version: SpecVersion, name: &OwnedName) -> FoundChild {
         match name.local_name.as_str() {
-            "name" => Found::At(0),
-            "url" => Found::At(1),
-            _ => Found::Unknown,
+            "name" => FoundChild::At(0),
+            "url" => FoundChild::At(1),
+            _ => FoundChild::Unknown,
         }
     }
 
@@ -190,16 +190,16 @@ impl PushRecord for IssueChildren {
         Or<TextMachine, Or<TextMachine, Or<SourceMachine, Only<LinksMachine>>>>,
     >;
 
-    ghost kinds = { issue_kinds };
+    ghost child_kinds = { issue_kinds };
 
-    fn find(_part: &Issue, _version: SpecVersion, name: &OwnedName) -> Found {
+    fn find(_part: &Issue, _version: SpecVersion, name: &OwnedName) -> FoundChild {
         match name.local_name.as_str() {
-            "id" => Found::At(0),
-            "name" => Found::At(1),
-            "description" => Found::At(2),
-            "source" => Found::At(3),
-            "references" => Found::At(4),
-            _ => Found::Unknown,
+            "id" => FoundChild::At(0),
+            "name" => FoundChild::At(1),
+            "description" => FoundChild::At(2),
+            "source" => FoundChild::At(3),
+            "references" => FoundChild::At(4),
+            _ => FoundChild::Unknown,
         }
     }
 
@@ -325,13 +325,13 @@ impl PushRecord for PatchChildren {
 
     type Child = Or<DiffMachine, Only<IssuesMachine>>;
 
-    ghost kinds = { patch_kinds };
+    ghost child_kinds = { patch_kinds };
 
-    fn find(_part: &Patch, _version: SpecVersion, name: &OwnedName) -> Found {
+    fn find(_part: &Patch, _version: SpecVersion, name: &OwnedName) -> FoundChild {
         match name.local_name.as_str() {
-            "diff" => Found::At(0),
-            "resolves" => Found::At(1),
-            _ => Found::Unknown,
+            "diff" => FoundChild::At(0),
+            "resolves" => FoundChild::At(1),
+            _ => FoundChild::Unknown,
         }
     }
 

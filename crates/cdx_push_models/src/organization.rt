@@ -3,7 +3,7 @@
 use cdx_events::{List, OwnedName, Text, XmlEvent};
 use cdx_leaf::{Rule, Start, push_into};
 use cdx_machine::{
-    Found, ListMachine, ListOf, Machine, Only, Or, PushRecord, RecordMachine, TextMachine,
+    FoundChild, ListMachine, ListOf, Machine, Only, Or, PushRecord, RecordMachine, TextMachine,
 };
 use cdx_models::{OrganizationalContact, OrganizationalEntity, SpecVersion, XmlReadError};
 use std::alloc::{AllocError, Global};
@@ -53,14 +53,14 @@ impl PushRecord for ContactChildren {
 
     type Child = Or<TextMachine, Or<TextMachine, Only<TextMachine>>>;
 
-    ghost kinds = { contact_kinds };
+    ghost child_kinds = { contact_kinds };
 
-    fn find(_part: &OrganizationalContact, _version: SpecVersion, name: &OwnedName) -> Found {
+    fn find(_part: &OrganizationalContact, _version: SpecVersion, name: &OwnedName) -> FoundChild {
         match name.local_name.as_str() {
-            "name" => Found::At(0),
-            "email" => Found::At(1),
-            "phone" => Found::At(2),
-            _ => Found::Unknown,
+            "name" => FoundChild::At(0),
+            "email" => FoundChild::At(1),
+            "phone" => FoundChild::At(2),
+            _ => FoundChild::Unknown,
         }
     }
 
@@ -129,14 +129,14 @@ impl PushRecord for EntityChildren {
 
     type Child = Or<TextMachine, Or<TextMachine, Only<ContactMachine>>>;
 
-    ghost kinds = { entity_kinds };
+    ghost child_kinds = { entity_kinds };
 
-    fn find(_part: &OrganizationalEntity, _version: SpecVersion, name: &OwnedName) -> Found {
+    fn find(_part: &OrganizationalEntity, _version: SpecVersion, name: &OwnedName) -> FoundChild {
         match name.local_name.as_str() {
-            "name" => Found::At(0),
-            "url" => Found::At(1),
-            "contact" => Found::At(2),
-            _ => Found::Unknown,
+            "name" => FoundChild::At(0),
+            "url" => FoundChild::At(1),
+            "contact" => FoundChild::At(2),
+            _ => FoundChild::Unknown,
         }
     }
 

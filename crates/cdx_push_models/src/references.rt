@@ -4,7 +4,7 @@ use crate::hashes::HashesMachine;
 use cdx_events::{OwnedName, Text, XmlEvent};
 use cdx_leaf::{Rule, Start, XmlRecord};
 use cdx_machine::{
-    Found, ListMachine, ListOf, Machine, Only, Or, PushRecord, RecordMachine, TextMachine,
+    FoundChild, ListMachine, ListOf, Machine, Only, Or, PushRecord, RecordMachine, TextMachine,
 };
 use cdx_models::{ExternalReference, ExternalReferences, Hashes, SpecVersion, Tool, XmlReadError};
 use std::alloc::{AllocError, Global};
@@ -54,18 +54,18 @@ impl PushRecord for ReferenceChildren {
 
     type Child = Or<TextMachine, Or<TextMachine, Only<HashesMachine>>>;
 
-    ghost kinds = { reference_kinds };
+    ghost child_kinds = { reference_kinds };
 
     fn find(
         _part: &<ExternalReference as XmlRecord>::Part,
         _version: SpecVersion,
         name: &OwnedName,
-    ) -> Found {
+    ) -> FoundChild {
         match name.local_name.as_str() {
-            "url" => Found::At(0),
-            "comment" => Found::At(1),
-            "hashes" => Found::At(2),
-            _ => Found::Unknown,
+            "url" => FoundChild::At(0),
+            "comment" => FoundChild::At(1),
+            "hashes" => FoundChild::At(2),
+            _ => FoundChild::Unknown,
         }
     }
 
@@ -201,16 +201,16 @@ impl PushRecord for ToolChildren {
         Or<TextMachine, Or<TextMachine, Or<HashesMachine, Only<ExternalReferencesMachine>>>>,
     >;
 
-    ghost kinds = { tool_kinds };
+    ghost child_kinds = { tool_kinds };
 
-    fn find(_part: &Tool, version: SpecVersion, name: &OwnedName) -> Found {
+    fn find(_part: &Tool, version: SpecVersion, name: &OwnedName) -> FoundChild {
         match name.local_name.as_str() {
-            "vendor" => Found::At(0),
-            "name" => Found::At(1),
-            "version" => Found::At(2),
-            "hashes" => Found::At(3),
-            "externalReferences" => Found::since(SpecVersion::V1_4, version, 4),
-            _ => Found::Unknown,
+            "vendor" => FoundChild::At(0),
+            "name" => FoundChild::At(1),
+            "version" => FoundChild::At(2),
+            "hashes" => FoundChild::At(3),
+            "externalReferences" => FoundChild::since(SpecVersion::V1_4, version, 4),
+            _ => FoundChild::Unknown,
         }
     }
 

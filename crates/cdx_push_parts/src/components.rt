@@ -6,7 +6,7 @@ use cdx_events::{OwnedName, Text, XmlEvent};
 use cdx_leaf::{Rule, Start};
 use cdx_license::Licenses;
 use cdx_machine::{
-    Found, ListMachine, ListOf, Machine, Only, Or, PushRecord, RecordMachine, TextMachine,
+    FoundChild, ListMachine, ListOf, Machine, Only, Or, PushRecord, RecordMachine, TextMachine,
     TextRecordMachine,
 };
 use cdx_models::{AttachedText, SpecVersion, XmlReadError};
@@ -64,13 +64,13 @@ impl PushRecord for SwidChildren {
 
     type Child = Or<AttachedTextMachine, Only<TextMachine>>;
 
-    ghost kinds = { swid_kinds };
+    ghost child_kinds = { swid_kinds };
 
-    fn find(_part: &Swid, _version: SpecVersion, name: &OwnedName) -> Found {
+    fn find(_part: &Swid, _version: SpecVersion, name: &OwnedName) -> FoundChild {
         match name.local_name.as_str() {
-            "text" => Found::At(0),
-            "url" => Found::At(1),
-            _ => Found::Unknown,
+            "text" => FoundChild::At(0),
+            "url" => FoundChild::At(1),
+            _ => FoundChild::Unknown,
         }
     }
 
@@ -196,13 +196,13 @@ impl PushRecord for ComponentEvidenceChildren {
 
     type Child = Or<LicensesMachine, Only<CopyrightTextsMachine>>;
 
-    ghost kinds = { evidence_kinds };
+    ghost child_kinds = { evidence_kinds };
 
-    fn find(_part: &ComponentEvidence, _version: SpecVersion, name: &OwnedName) -> Found {
+    fn find(_part: &ComponentEvidence, _version: SpecVersion, name: &OwnedName) -> FoundChild {
         match name.local_name.as_str() {
-            "licenses" => Found::At(0),
-            "copyright" => Found::At(1),
-            _ => Found::Unknown,
+            "licenses" => FoundChild::At(0),
+            "copyright" => FoundChild::At(1),
+            _ => FoundChild::Unknown,
         }
     }
 

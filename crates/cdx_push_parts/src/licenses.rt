@@ -4,8 +4,8 @@ use cdx_events::{List, OwnedName, Text, XmlEvent};
 use cdx_leaf::{End, Rule, Start};
 use cdx_license::{Expression, License, LicenseChoice, LicenseIdentifier, LicensePart, Licenses};
 use cdx_machine::{
-    ByName, ExactRecord, ExactRecordMachine, Found, Frame, FrameMachine, Machine, NamedMachine,
-    Only, Or, PushRecord, RecordMachine, TextMachine, TextRecordMachine,
+    ByName, ExactRecord, ExactRecordMachine, FoundChild, Frame, FrameMachine, Machine,
+    NamedMachine, Only, Or, PushRecord, RecordMachine, TextMachine, TextRecordMachine,
 };
 use cdx_models::{AttachedText, Properties, SpecVersion, XmlReadError};
 use cdx_push_models::{AttachedTextMachine, PropertiesMachine};
@@ -215,26 +215,26 @@ impl PushRecord for LicenseChildren {
         >,
     >;
 
-    ghost kinds = { license_kinds };
+    ghost child_kinds = { license_kinds };
 
-    fn find(part: &LicensePart, version: SpecVersion, name: &OwnedName) -> Found {
+    fn find(part: &LicensePart, version: SpecVersion, name: &OwnedName) -> FoundChild {
         match name.local_name.as_str() {
             "id" => {
                 if part.license_identifier.is_some() {
-                    return Found::Second;
+                    return FoundChild::Second;
                 }
-                Found::At(0)
+                FoundChild::At(0)
             }
             "name" => {
                 if part.license_identifier.is_some() {
-                    return Found::Second;
+                    return FoundChild::Second;
                 }
-                Found::At(1)
+                FoundChild::At(1)
             }
-            "text" => Found::At(2),
-            "url" => Found::At(3),
-            "properties" => Found::since(SpecVersion::V1_5, version, 4),
-            _ => Found::Unknown,
+            "text" => FoundChild::At(2),
+            "url" => FoundChild::At(3),
+            "properties" => FoundChild::since(SpecVersion::V1_5, version, 4),
+            _ => FoundChild::Unknown,
         }
     }
 
@@ -410,7 +410,7 @@ impl Frame for BegunLicenses {
 
     ghost slots = { λ r. items_slots choice_tree r.items };
 
-    ghost kinds = { licenses_kinds };
+    ghost child_kinds = { licenses_kinds };
 
     ghost frame = { list_frame licenses };
 
@@ -424,11 +424,11 @@ impl Frame for BegunLicenses {
         })
     }
 
-    fn find(&self, _version: SpecVersion, name: &OwnedName) -> Found {
+    fn find(&self, _version: SpecVersion, name: &OwnedName) -> FoundChild {
         match name.local_name.as_str() {
-            "license" => Found::At(0),
-            "expression" => Found::At(1),
-            _ => Found::Unknown,
+            "license" => FoundChild::At(0),
+            "expression" => FoundChild::At(1),
+            _ => FoundChild::Unknown,
         }
     }
 

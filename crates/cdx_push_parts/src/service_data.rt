@@ -3,7 +3,8 @@
 use cdx_events::{List, OwnedName, XmlEvent};
 use cdx_leaf::{Children, End, Rule, Start, XmlRecord};
 use cdx_machine::{
-    Found, Frame, FrameMachine, Machine, Only, Or, PushRecord, RecordMachine, TextRecordMachine,
+    FoundChild, Frame, FrameMachine, Machine, Only, Or, PushRecord, RecordMachine,
+    TextRecordMachine,
 };
 use cdx_models::{SpecVersion, XmlReadError};
 use cdx_service_data::{Data, DataClassification, DataPart, ServiceData, ServiceDataPart};
@@ -26,12 +27,12 @@ impl PushRecord for ServiceDataChildren {
 
     type Child = Only<ClassificationMachine>;
 
-    ghost kinds = { service_data_kinds };
+    ghost child_kinds = { service_data_kinds };
 
-    fn find(_part: &ServiceDataPart, _version: SpecVersion, name: &OwnedName) -> Found {
+    fn find(_part: &ServiceDataPart, _version: SpecVersion, name: &OwnedName) -> FoundChild {
         match name.local_name.as_str() {
-            "classification" => Found::At(0),
-            _ => Found::Unknown,
+            "classification" => FoundChild::At(0),
+            _ => FoundChild::Unknown,
         }
     }
 
@@ -110,7 +111,7 @@ impl Frame for BegunEntry {
 
     ghost slots = { λ r. service_data_part r.part };
 
-    ghost kinds = { service_data_kinds };
+    ghost child_kinds = { service_data_kinds };
 
     ghost frame = { entry_frame };
 
@@ -124,7 +125,7 @@ impl Frame for BegunEntry {
         })
     }
 
-    fn find(&self, version: SpecVersion, name: &OwnedName) -> Found {
+    fn find(&self, version: SpecVersion, name: &OwnedName) -> FoundChild {
         ServiceDataChildren::find(&self.part, version, name)
     }
 
@@ -207,7 +208,7 @@ impl Frame for BegunData {
 
     ghost slots = { λ r. data_part r.part };
 
-    ghost kinds = { refl };
+    ghost child_kinds = { refl };
 
     ghost frame = { data_frame };
 
@@ -224,11 +225,11 @@ impl Frame for BegunData {
         })
     }
 
-    fn find(&self, version: SpecVersion, name: &OwnedName) -> Found {
+    fn find(&self, version: SpecVersion, name: &OwnedName) -> FoundChild {
         match name.local_name.as_str() {
-            "classification" => Found::At(0),
-            "dataflow" => Found::since(SpecVersion::V1_5, version, 1),
-            _ => Found::Unknown,
+            "classification" => FoundChild::At(0),
+            "dataflow" => FoundChild::since(SpecVersion::V1_5, version, 1),
+            _ => FoundChild::Unknown,
         }
     }
 

@@ -12,8 +12,8 @@ use Rattle.cdx_schema.specs.Early.{IsEarly, unbalanced}
 use Rattle.cdx_schema.proofs.EarlyBalance.{ends_broken, breaks_at}
 use Rattle.cdx_schema.proofs.EarlyLaws.{early_stays}
 use Rattle.cdx_machine.specs.Machines.{Holding}
-use Rattle.cdx_push_reader.specs.declared.gathering.Found.{Found}
-use Rattle.cdx_push_reader.specs.declared.gathering.Found.TheVariants.{Nothing, Fault, Imbalance}
+use Rattle.cdx_push_reader.specs.declared.gathering.Wrong.{Wrong}
+use Rattle.cdx_push_reader.specs.declared.gathering.Wrong.TheVariants.{Nothing, Fault, Imbalance}
 use Rattle.cdx_push_reader.specs.declared.hearing.Hearing.{Hearing}
 use Rattle.cdx_push_reader.specs.Pushed.{Hears, Outcome}
 use Rattle.cdx_push_reader.specs.PushAnswers.{Finishes}
@@ -39,38 +39,38 @@ out_broken place events o =
 module _ {M X : Type 0} (holds : Holding M) (tree : X → Tree) where
   -- ---- before the event
 
-  abbrev pub IsNoImbalance : Found → Type 0
+  abbrev pub IsNoImbalance : Wrong → Type 0
   IsNoImbalance found = (place : ℕ) → found ≡ Imbalance place → ⊥
 
-  abbrev pub IsNoFault : Found → Type 0
+  abbrev pub IsNoFault : Wrong → Type 0
   IsNoFault found = (f : XmlReadError) → found ≡ Fault f → ⊥
 
-  out_of : (h : Hearing M X) (found : Found) (place : ℕ) (events : List XmlEvent) → found ≡ Imbalance place → FoundIn holds tree h found events → IsOut place events
+  out_of : (h : Hearing M X) (found : Wrong) (place : ℕ) (events : List XmlEvent) → found ≡ Imbalance place → FoundIn holds tree h found events → IsOut place events
   out_of h Nothing place events i f = absurd cc
   out_of h (Fault x) place events i f = absurd cc
   out_of h (Imbalance p) place events i f = let same : p ≡ place = cc in subst (λ q. IsOut q events) same f
 
-  pub in_balance : (h : Hearing M X) (found : Found) (events : List XmlEvent) → IsNoImbalance found → FoundIn holds tree h found events → GoesOn events × balances.heard h.balance events
+  pub in_balance : (h : Hearing M X) (found : Wrong) (events : List XmlEvent) → IsNoImbalance found → FoundIn holds tree h found events → GoesOn events × balances.heard h.balance events
   in_balance h Nothing events n f = (f.0, f.1.0)
   in_balance h (Fault x) events n f = (f.0, f.1)
   in_balance h (Imbalance p) events n f = absurd (n p refl)
 
-  pub hears_of : (h : Hearing M X) (found : Found) (events : List XmlEvent) → IsNoImbalance found → IsNoFault found → FoundIn holds tree h found events → Hears holds tree h events
+  pub hears_of : (h : Hearing M X) (found : Wrong) (events : List XmlEvent) → IsNoImbalance found → IsNoFault found → FoundIn holds tree h found events → Hears holds tree h events
   hears_of h Nothing events n m f = f.1
   hears_of h (Fault x) events n m f = absurd (m x refl)
   hears_of h (Imbalance p) events n m f = absurd (n p refl)
 
-  early_of : (h : Hearing M X) (found : Found) (x : XmlReadError) (events : List XmlEvent) → found ≡ Fault x → FoundIn holds tree h found events → IsEarly h.version events (Some x)
+  early_of : (h : Hearing M X) (found : Wrong) (x : XmlReadError) (events : List XmlEvent) → found ≡ Fault x → FoundIn holds tree h found events → IsEarly h.version events (Some x)
   early_of h Nothing x events i f = absurd cc
   early_of h (Imbalance p) x events i f = absurd cc
   early_of h (Fault y) x events i f = let same : y ≡ x = cc in subst (λ z. IsEarly h.version events (Some z)) same f.2
 
   -- ---- after the event
 
-  pub still_out : (h : Hearing M X) (found : Found) (place : ℕ) (events : List XmlEvent) (e : XmlEvent) → found ≡ Imbalance place → FoundIn holds tree h found events → FoundIn holds tree h found (events ++ e ∷ [])
+  pub still_out : (h : Hearing M X) (found : Wrong) (place : ℕ) (events : List XmlEvent) (e : XmlEvent) → found ≡ Imbalance place → FoundIn holds tree h found events → FoundIn holds tree h found (events ++ e ∷ [])
   still_out h found place events e i f = subst (λ x. FoundIn holds tree h x (events ++ e ∷ [])) (sym i) (stays_out place events e (out_of h found place events i f))
 
-  pub comes_out : (h : Hearing M X) (found : Found) (place : ℕ) (events : List XmlEvent) (e : XmlEvent) → IsNoImbalance found → FoundIn holds tree h found events → place ≡ length events → (GoesOn (events ++ e ∷ []) → ⊥) → IsOut place (events ++ e ∷ [])
+  pub comes_out : (h : Hearing M X) (found : Wrong) (place : ℕ) (events : List XmlEvent) (e : XmlEvent) → IsNoImbalance found → FoundIn holds tree h found events → place ≡ length events → (GoesOn (events ++ e ∷ []) → ⊥) → IsOut place (events ++ e ∷ [])
   comes_out h found place events e n f p b = record {
     front = events;
     event = e;
@@ -81,19 +81,19 @@ module _ {M X : Type 0} (holds : Holding M) (tree : X → Tree) where
     breaks = b;
   }
 
-  pub still_faulty : (h new : Hearing M X) (found : Found) (x : XmlReadError) (events : List XmlEvent) (e : XmlEvent) → found ≡ Fault x → FoundIn holds tree h found events → new.version ≡ h.version → GoesOn (events ++ e ∷ []) → balances.heard new.balance (events ++ e ∷ []) → FoundIn holds tree new found (events ++ e ∷ [])
+  pub still_faulty : (h new : Hearing M X) (found : Wrong) (x : XmlReadError) (events : List XmlEvent) (e : XmlEvent) → found ≡ Fault x → FoundIn holds tree h found events → new.version ≡ h.version → GoesOn (events ++ e ∷ []) → balances.heard new.balance (events ++ e ∷ []) → FoundIn holds tree new found (events ++ e ∷ [])
   still_faulty h new found x events e i f v g b =
       subst (λ y. FoundIn holds tree new y (events ++ e ∷ [])) (sym i) (g, b, subst (λ w. IsEarly w (events ++ e ∷ []) (Some x)) (sym v) (early_stays h.version events (e ∷ []) x (early_of h found x events i f)))
 
-  pub still_nothing : (h : Hearing M X) (found : Found) (events : List XmlEvent) → IsNoImbalance found → IsNoFault found → GoesOn events → Hears holds tree h events → FoundIn holds tree h found events
+  pub still_nothing : (h : Hearing M X) (found : Wrong) (events : List XmlEvent) → IsNoImbalance found → IsNoFault found → GoesOn events → Hears holds tree h events → FoundIn holds tree h found events
   still_nothing h Nothing events n m g s = (g, s)
   still_nothing h (Fault x) events n m g s = absurd (m x refl)
   still_nothing h (Imbalance p) events n m g s = absurd (n p refl)
 
-  found_fault : (new : Hearing M X) (found : Found) (x : XmlReadError) (events : List XmlEvent) → ◌≡◌ {A = Result Found AllocError} (Ok found) (Ok (Fault x)) → GoesOn events → balances.heard new.balance events → IsEarly new.version events (Some x) → FoundIn holds tree new found events
+  found_fault : (new : Hearing M X) (found : Wrong) (x : XmlReadError) (events : List XmlEvent) → ◌≡◌ {A = Result Wrong AllocError} (Ok found) (Ok (Fault x)) → GoesOn events → balances.heard new.balance events → IsEarly new.version events (Some x) → FoundIn holds tree new found events
   found_fault new found x events i g b e = let same : found ≡ Fault x = cc in subst (λ y. FoundIn holds tree new y events) (sym same) (g, b, e)
 
-  pub finds_fault : (new : Hearing M X) (found : Found) (x : XmlReadError) (events : List XmlEvent) → ◌≡◌ {A = Result Found AllocError} (Ok found) (found_by x) → GoesOn events → balances.heard new.balance events → Outcome {A = Unit {0}} (λ u. Unit {0}) new.version events (Err x) → FoundIn holds tree new found events
+  pub finds_fault : (new : Hearing M X) (found : Wrong) (x : XmlReadError) (events : List XmlEvent) → ◌≡◌ {A = Result Wrong AllocError} (Ok found) (found_by x) → GoesOn events → balances.heard new.balance events → Outcome {A = Unit {0}} (λ u. Unit {0}) new.version events (Err x) → FoundIn holds tree new found events
   finds_fault new found (Memory m) events i g b o = absurd cc
   finds_fault new found (ElementReadError k p) events i g b o = found_fault new found (ElementReadError k p) events i g b o
   finds_fault new found (UnexpectedElementReadError p el k) events i g b o = found_fault new found (UnexpectedElementReadError p el k) events i g b o
@@ -105,14 +105,14 @@ module _ {M X : Type 0} (holds : Holding M) (tree : X → Tree) where
 
   -- ---- where no more events are taken
 
-  pub ends_out : (h : Hearing M X) (found : Found) (place : ℕ) (events : List XmlEvent) → found ≡ Imbalance place → FoundIn holds tree h found events → Concludes tree h.version events (Err (unbalanced place))
+  pub ends_out : (h : Hearing M X) (found : Wrong) (place : ℕ) (events : List XmlEvent) → found ≡ Imbalance place → FoundIn holds tree h found events → Concludes tree h.version events (Err (unbalanced place))
   ends_out h found place events i f = breaks place (out_broken place events (out_of h found place events i f)) refl
 
-  pub ends_short : (h : Hearing M X) (found : Found) (count : ℕ) (events : List XmlEvent) → IsNoImbalance found → FoundIn holds tree h found events → count ≡ length events → (IsBalanced events → ⊥) → Concludes tree h.version events (Err (unbalanced count))
+  pub ends_short : (h : Hearing M X) (found : Wrong) (count : ℕ) (events : List XmlEvent) → IsNoImbalance found → FoundIn holds tree h found events → count ≡ length events → (IsBalanced events → ⊥) → Concludes tree h.version events (Err (unbalanced count))
   ends_short h found count events n f c b =
       breaks count (subst (λ p. IsBroken events p) (sym c) (ends_broken events (in_balance h found events n f).0 b)) refl
 
-  pub ends_faulty : (h : Hearing M X) (found : Found) (x : XmlReadError) (events : List XmlEvent) → found ≡ Fault x → FoundIn holds tree h found events → IsBalanced events → Concludes tree h.version events (Err x)
+  pub ends_faulty : (h : Hearing M X) (found : Wrong) (x : XmlReadError) (events : List XmlEvent) → found ≡ Fault x → FoundIn holds tree h found events → IsBalanced events → Concludes tree h.version events (Err x)
   ends_faulty h found x events i f b =
       reads b (reads_document tree h.version events b (Err x) (inl (early_ends tree h.version events x (early_of h found x events i f))))
 

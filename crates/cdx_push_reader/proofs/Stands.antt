@@ -19,8 +19,8 @@ use Rattle.cdx_schema.proofs.EarlyLaws.{early_short, early_breaks}
 use Rattle.cdx_schema.proofs.EarlyEnds.{root_none, document_none, last_is, none_after}
 use Rattle.cdx_schema.proofs.EarlySoon.{ended_closed}
 use Rattle.cdx_machine.specs.Machines.{Holding}
-use Rattle.cdx_push_reader.specs.declared.hearing.Stage.{Stage}
-use Rattle.cdx_push_reader.specs.declared.hearing.Stage.TheVariants.{Before, Within, After}
+use Rattle.cdx_push_reader.specs.declared.hearing.ReadingStage.{ReadingStage}
+use Rattle.cdx_push_reader.specs.declared.hearing.ReadingStage.TheVariants.{Before, Within, After}
 use Rattle.cdx_push_reader.specs.Pushed.{IsRootOpen, IsDone, StandsAtStage}
 use Rattle.cdx_push_reader.specs.PushAnswers.{IsValueOf}
 use Rattle.cdx_push_reader.proofs.Starts.{root_early}
@@ -41,7 +41,7 @@ open_unbalanced es s b = by s.still_open (ended_closed es s).balanced
 
 module _ {M X : Type 0} (holds : Holding M) (tree : X → Tree) (v : SpecVersion) where
   -- there is no early fault
-  pub stands_none : (s : Stage M X) (events : List XmlEvent) → StandsAtStage holds tree v s events → IsEarly v events None
+  pub stands_none : (s : ReadingStage M X) (events : List XmlEvent) → StandsAtStage holds tree v s events → IsEarly v events None
   stands_none Before events (inl e) = subst (λ es. IsEarly v es None) (sym e) (early_short v [] nothing_goes (omega arith))
   stands_none Before events (inr e) = subst (λ es. IsEarly v es None) (sym e) (early_short v (StartDocument ∷ []) begun_goes (omega arith))
   stands_none (Within m) events w = subst (λ es. IsEarly v es None) (sym w.events_are) (root_early v w.name w.attributes w.namespace w.inside None w.begins w.quiet)
@@ -52,7 +52,7 @@ module _ {M X : Type 0} (holds : Holding M) (tree : X → Tree) (v : SpecVersion
       ]
 
   -- the next event is out of balance
-  pub breaks_next : (s : Stage M X) (events : List XmlEvent) (place : ℕ) (e : XmlEvent) → StandsAtStage holds tree v s events → place ≡ length events → (GoesOn (events ++ e ∷ []) → ⊥) → IsEarly v (events ++ e ∷ []) (Some (unbalanced place))
+  pub breaks_next : (s : ReadingStage M X) (events : List XmlEvent) (place : ℕ) (e : XmlEvent) → StandsAtStage holds tree v s events → place ≡ length events → (GoesOn (events ++ e ∷ []) → ⊥) → IsEarly v (events ++ e ∷ []) (Some (unbalanced place))
   breaks_next s events place e h p cannot = subst (λ q. IsEarly v (events ++ e ∷ []) (Some (unbalanced q))) (sym p) (early_breaks v events e (stands_none s events h) cannot)
 
   -- before the root's end no document is whole
@@ -69,7 +69,7 @@ module _ {M X : Type 0} (holds : Holding M) (tree : X → Tree) (v : SpecVersion
   within_unbalanced : (m : M) (events : List XmlEvent) → IsRootOpen holds v m events → IsBalanced events → ⊥
   within_unbalanced m events w b = open_unbalanced (StartElement w.name w.attributes w.namespace ∷ w.inside) w.quiet.ended (subst IsBalanced w.events_are b)
 
-  pub not_after : (s : Stage M X) (events : List XmlEvent) → StandsAtStage holds tree v s events → ((x : X) → s ≡ After x → ⊥) → IsBalanced events → ⊥
+  pub not_after : (s : ReadingStage M X) (events : List XmlEvent) → StandsAtStage holds tree v s events → ((x : X) → s ≡ After x → ⊥) → IsBalanced events → ⊥
   not_after Before events h f b = before_unbalanced events h b
   not_after (Within m) events h f b = within_unbalanced m events h b
   not_after (After x) events h f b = f x refl

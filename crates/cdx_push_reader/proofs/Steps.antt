@@ -21,8 +21,8 @@ use Rattle.cdx_machine.specs.Heard.{Hears, IsRead, Answers}
 use Rattle.cdx_machine.specs.Machines.{Holding, CanStep, CanYield, ProceedsAs, YieldsAs, StepsAs}
 use Rattle.cdx_machine.proofs.Heard.{not_whole, can_step, answers_step}
 use Rattle.cdx_machine.proofs.Yielding.{waits, fails, ends_with, ended_with, can_yield}
-use Rattle.cdx_push_reader.specs.declared.hearing.Stage.{Stage}
-use Rattle.cdx_push_reader.specs.declared.hearing.Stage.TheVariants.{Before, Within, After}
+use Rattle.cdx_push_reader.specs.declared.hearing.ReadingStage.{ReadingStage}
+use Rattle.cdx_push_reader.specs.declared.hearing.ReadingStage.TheVariants.{Before, Within, After}
 use Rattle.cdx_push_reader.specs.Starting.{IsBillStart}
 use Rattle.cdx_push_reader.specs.Pushed.{IsRootOpen, IsDone, StandsAtStage, Outcome}
 use Rattle.cdx_push_reader.specs.PushSteps.{Closes}
@@ -139,7 +139,7 @@ module _ {M X : Type 0} (holds : Holding M) (tree : X → Tree) (v : SpecVersion
           events_are = inl (now ∙ ap (λ es. StartDocument ∷ es) e.whole);
         }
 
-    pub closes : (stage : Stage M X) (r : Result (Unit {0}) XmlReadError) → Closes holds tree new place event stage r → Outcome {A = Unit {0}} (λ u. StandsAtStage holds tree v stage (events ++ event ∷ [])) v (events ++ event ∷ []) r
+    pub closes : (stage : ReadingStage M X) (r : Result (Unit {0}) XmlReadError) → Closes holds tree new place event stage r → Outcome {A = Unit {0}} (λ u. StandsAtStage holds tree v stage (events ++ event ∷ [])) v (events ++ event ∷ []) r
     closes Before (Ok u) h = absurd h
     closes (Within n) (Ok u) h = absurd h
     closes (After x) (Ok u) h = read x h

@@ -10,8 +10,8 @@ use Rattle.cdx_models.specs.declared.errors.XmlReadError.TheVariants.{Memory}
 use Rattle.cdx_models.specs.Trees.{Tree}
 use Rattle.cdx_schema.specs.Early.{IsEarly, unbalanced}
 use Rattle.cdx_machine.specs.Machines.{Holding}
-use Rattle.cdx_push_reader.specs.declared.gathering.Found.{Found}
-use Rattle.cdx_push_reader.specs.declared.gathering.Found.TheVariants.{Nothing, Fault, Imbalance}
+use Rattle.cdx_push_reader.specs.declared.gathering.Wrong.{Wrong}
+use Rattle.cdx_push_reader.specs.declared.gathering.Wrong.TheVariants.{Nothing, Fault, Imbalance}
 use Rattle.cdx_push_reader.specs.declared.gathering.Gathering.{Gathering}
 use Rattle.cdx_push_reader.specs.declared.hearing.Hearing.{Hearing}
 use Rattle.cdx_push_reader.specs.Pushed.{Hears}
@@ -28,7 +28,7 @@ pub record IsOut (place : ℕ) (events : List XmlEvent) : Type 0 where
   pub breaks : GoesOn (front ++ event ∷ []) → ⊥
 
 -- Where the events are in balance as yet, they were heard, or their fault was.
-abbrev pub FoundIn : {M X : Type 0} → Holding M → (X → Tree) → Hearing M X → Found → List XmlEvent → Type 0
+abbrev pub FoundIn : {M X : Type 0} → Holding M → (X → Tree) → Hearing M X → Wrong → List XmlEvent → Type 0
 FoundIn holds tree h Nothing events = GoesOn events × Hears holds tree h events
 FoundIn holds tree h (Fault f) events = GoesOn events × balances.heard h.balance events × IsEarly h.version events (Some f)
 FoundIn holds tree h (Imbalance place) events = IsOut place events
@@ -37,7 +37,7 @@ abbrev pub Gathered : {M X : Type 0} → Holding M → (X → Tree) → Gatherin
 Gathered holds tree g events = FoundIn holds tree g.hearing g.found events
 
 -- what is found by an error of the document
-abbrev pub found_by : XmlReadError → Result Found AllocError
+abbrev pub found_by : XmlReadError → Result Wrong AllocError
 found_by (Memory e) = Err e
 found_by f = Ok (Fault f)
 

@@ -21,8 +21,8 @@ use Rattle.cdx_schema.specs.Soon.{IsSoon}
 use Rattle.cdx_schema.specs.Early.{IsEarly}
 use Rattle.cdx_machine.specs.Machines.{Holding}
 use Rattle.cdx_machine.specs.Heard as machines
-use Rattle.cdx_push_reader.specs.declared.hearing.Stage.{Stage}
-use Rattle.cdx_push_reader.specs.declared.hearing.Stage.TheVariants.{Before, Within, After}
+use Rattle.cdx_push_reader.specs.declared.hearing.ReadingStage.{ReadingStage}
+use Rattle.cdx_push_reader.specs.declared.hearing.ReadingStage.TheVariants.{Before, Within, After}
 use Rattle.cdx_push_reader.specs.declared.hearing.Hearing.{Hearing}
 use Rattle.cdx_push_reader.specs.declared.reader.DocumentReader.{DocumentReader}
 use Rattle.cdx_push_reader.specs.Starting.{IsBillStart}
@@ -44,7 +44,7 @@ pub record IsDone {X : Type 0} (tree : X → Tree) (v : SpecVersion) (x : X) (ev
   pub denotes : xml_denotes (node_of root) v ≡ Ok (tree x)
   pub events_are : (events ≡ StartDocument ∷ events_of (node_of root)) ⊎ (events ≡ document (node_of root))
 
-abbrev pub StandsAtStage : {M X : Type 0} → Holding M → (X → Tree) → SpecVersion → Stage M X → List XmlEvent → Type 0
+abbrev pub StandsAtStage : {M X : Type 0} → Holding M → (X → Tree) → SpecVersion → ReadingStage M X → List XmlEvent → Type 0
 StandsAtStage holds tree v Before events = (events ≡ []) ⊎ (events ≡ StartDocument ∷ [])
 StandsAtStage holds tree v (Within m) events = IsRootOpen holds v m events
 StandsAtStage holds tree v (After x) events = IsDone tree v x events

@@ -16,7 +16,7 @@ use std::alloc::{AllocError, Global};
 
 // What was found to be wrong with the events so far.
 #[derive(Drop)]
-pub(crate) enum Found {
+pub(crate) enum Wrong {
     Nothing,
     // The document has this fault, but an imbalance may still come, which goes before it.
     Fault { fault: XmlReadError },
@@ -27,7 +27,7 @@ pub(crate) enum Found {
 // What is kept of the events of a source, whatever they are.
 pub(crate) struct Gathering<M: RootMachine> {
     hearing: Hearing<M>,
-    found: Found,
+    found: Wrong,
 }
 
 // By hand, so that it is freed by a call, and not field by field.
@@ -40,12 +40,12 @@ impl<M: RootMachine> Drop for Gathering<M> {
     }
 }
 
-fn found_by(error: XmlReadError) -> Result<Found, AllocError>
+fn found_by(error: XmlReadError) -> Result<Wrong, AllocError>
     ensures { result ≡ found_by error }
 {
     match error {
         XmlReadError::Memory(error) => Err(error),
-        fault => Ok(Found::Fault { fault }),
+        fault => Ok(Wrong::Fault { fault }),
     }
 }
 
@@ -62,7 +62,7 @@ impl<M: RootMachine> Gathering<M> {
     {
         Gathering {
             hearing: Hearing::new(alloc, version),
-            found: Found::Nothing,
+            found: Wrong::Nothing,
         }
     }
 
@@ -75,14 +75,14 @@ impl<M: RootMachine> Gathering<M> {
             → IfOk result (λ _. Gathered M.holds M.tree self.new (events ++ event.now ∷ [])) }
         ensures version { self.new.hearing.version ≡ self.old.hearing.version }
     {
-        if let Found::Imbalance { .. } = self.found {
+        if let Wrong::Imbalance { .. } = self.found {
             return Ok(());
         }
         if !self.hearing.balance.step(event)? {
-            self.found = Found::Imbalance { place };
+            self.found = Wrong::Imbalance { place };
             return Ok(());
         }
-        if let Found::Fault { .. } = self.found {
+        if let Wrong::Fault { .. } = self.found {
             return Ok(());
         }
         if let Err(error) = self.hearing.go_on(place, event) {
@@ -98,14 +98,14 @@ impl<M: RootMachine> Gathering<M> {
             → Concludes M.tree self.hearing.version events result }
     {
         let Gathering { hearing, found } = self;
-        if let Found::Imbalance { place } = found {
+        if let Wrong::Imbalance { place } = found {
             return Err(unbalanced(place));
         }
         if !hearing.balance.whole() {
             return Err(unbalanced(count));
         }
         match found {
-            Found::Fault { fault } => Err(fault),
+            Wrong::Fault { fault } => Err(fault),
             _ => hearing.finish(count),
         }
     }

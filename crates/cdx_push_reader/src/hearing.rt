@@ -5,7 +5,7 @@ ghost use Rattle.cdx_events.specs.declared.event.XmlEvent.{XmlEvent};
 ghost use Rattle.cdx_push_reader.specs.Pushed.{StandsAtStage, Hears, Outcome};
 ghost use Rattle.cdx_machine.specs.Machines.{CanYield};
 ghost use Rattle.cdx_push_reader.specs.PushSteps.{CanGoOn, Closes, Moves};
-ghost use Rattle.cdx_push_reader.specs.declared.hearing.Stage.TheVariants.{Before, Within};
+ghost use Rattle.cdx_push_reader.specs.declared.hearing.ReadingStage.TheVariants.{Before, Within};
 ghost use Rattle.cdx_push_reader.specs.PushAnswers.{is_want, Finishes};
 
 use crate::machine::RootMachine;
@@ -18,7 +18,7 @@ use std::mem::replace;
 
 // Where a reader stands in the document.
 #[derive(Drop)]
-pub(crate) enum Stage<M, X> {
+pub(crate) enum ReadingStage<M, X> {
     // The root hasn't begun.
     Before,
     // The root is open.
@@ -32,7 +32,7 @@ pub(crate) struct Hearing<M: RootMachine> {
     alloc: Global,
     version: SpecVersion,
     pub(crate) balance: Balance,
-    stage: Stage<M, M::Value>,
+    stage: ReadingStage<M, M::Value>,
 }
 
 // By hand, so that it is freed by a call, and not field by field.
@@ -56,7 +56,7 @@ impl<M: RootMachine> Hearing<M> {
             alloc,
             version,
             balance: Balance::new(alloc),
-            stage: Stage::Before,
+            stage: ReadingStage::Before,
         }
     }
 
@@ -81,11 +81,11 @@ impl<M: RootMachine> Hearing<M> {
         ensures balance { self.new.balance ≡ self.old.balance }
         ensures version { self.new.version ≡ self.old.version }
     {
-        let Stage::Within { machine } = replace(&mut self.stage, Stage::Before) else {
+        let ReadingStage::Within { machine } = replace(&mut self.stage, ReadingStage::Before) else {
             unreachable!()
         };
         let value = machine.finish(place, event)?;
-        self.stage = Stage::After { value };
+        self.stage = ReadingStage::After { value };
         Ok(())
     }
 
@@ -99,14 +99,14 @@ impl<M: RootMachine> Hearing<M> {
         ensures version { self.new.version ≡ self.old.version }
     {
         match &mut self.stage {
-            Stage::Before => self.open(place, event),
-            Stage::Within { machine } => {
+            ReadingStage::Before => self.open(place, event),
+            ReadingStage::Within { machine } => {
                 if !machine.step(place, event)? {
                     return Ok(());
                 }
                 self.close(place, event)
             }
-            Stage::After { .. } => Ok(()),
+            ReadingStage::After { .. } => Ok(()),
         }
     }
 
@@ -159,7 +159,7 @@ impl<M: RootMachine> Hearing<M> {
             return Err(unbalanced(count));
         }
         match stage {
-            Stage::After { value } => Ok(value),
+            ReadingStage::After { value } => Ok(value),
             _ => Err(unbalanced(count)),
         }
     }

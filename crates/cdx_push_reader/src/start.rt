@@ -4,9 +4,9 @@ ghost use Rattle.cdx_leaf.specs.Fault.{Denotes};
 ghost use Rattle.cdx_push_reader.specs.Starting.{root_name_read};
 ghost use Rattle.cdx_push_reader.specs.Pushed.{StandsAtStage};
 ghost use Rattle.cdx_push_reader.specs.PushSteps.{Moves};
-ghost use Rattle.cdx_push_reader.specs.declared.hearing.Stage.TheVariants.{Before};
+ghost use Rattle.cdx_push_reader.specs.declared.hearing.ReadingStage.TheVariants.{Before};
 
-use crate::hearing::Stage;
+use crate::hearing::ReadingStage;
 use crate::machine::RootMachine;
 use cdx_events::{EventKind, OwnedName, Text, XmlEvent};
 use cdx_leaf::{Start, expected_namespace_or_error};
@@ -33,8 +33,8 @@ pub(crate) fn begin<M: RootMachine>(
     version: SpecVersion,
     place: usize,
     event: &XmlEvent,
-) -> Result<Stage<M, M::Value>, XmlReadError>
-    ensures { Moves M.holds M.tree version Stage.Before place event.now
+) -> Result<ReadingStage<M, M::Value>, XmlReadError>
+    ensures { Moves M.holds M.tree version ReadingStage.Before place event.now
         (λ events stage. StandsAtStage M.holds M.tree version stage events) result }
 {
     match event {
@@ -52,8 +52,8 @@ pub(crate) fn begin<M: RootMachine>(
                 element: name,
                 attributes,
             })?;
-            Ok(Stage::Within { machine })
+            Ok(ReadingStage::Within { machine })
         }
-        _ => Ok(Stage::Before),
+        _ => Ok(ReadingStage::Before),
     }
 }

@@ -2,7 +2,7 @@
 
 use cdx_events::{OwnedName, Text, XmlEvent};
 use cdx_leaf::{End, Rule, Start, required_attribute};
-use cdx_machine::{Found, Frame, FrameMachine, Machine, NoMachine};
+use cdx_machine::{FoundChild, Frame, FrameMachine, Machine, NoMachine};
 use cdx_models::{SpecVersion, XmlReadError};
 use cdx_relations::BomReference;
 use std::alloc::{AllocError, Global};
@@ -70,7 +70,7 @@ impl Frame for BegunReference {
 
     ghost slots = { λ r. one (text r.reference) };
 
-    ghost kinds = { refl };
+    ghost child_kinds = { refl };
 
     ghost frame = { reference_frame };
 
@@ -84,8 +84,8 @@ impl Frame for BegunReference {
         })
     }
 
-    fn find(&self, _version: SpecVersion, _name: &OwnedName) -> Found {
-        Found::Unknown
+    fn find(&self, _version: SpecVersion, _name: &OwnedName) -> FoundChild {
+        FoundChild::Unknown
     }
 
     fn put(&mut self, _alloc: Global, _value: NoMachine) -> Result<(), AllocError> {

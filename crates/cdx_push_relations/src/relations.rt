@@ -5,7 +5,7 @@ use crate::signature::SignatureMachine;
 use cdx_events::{List, OwnedName, Text, XmlEvent};
 use cdx_leaf::{Rule, Start, XmlRecord};
 use cdx_machine::{
-    Found, ListMachine, ListOf, Machine, NoMachine, Only, Or, PushRecord, RecordMachine,
+    FoundChild, ListMachine, ListOf, Machine, NoMachine, Only, Or, PushRecord, RecordMachine,
     TextMachine,
 };
 use cdx_models::{SpecVersion, XmlReadError};
@@ -58,12 +58,12 @@ impl PushRecord for DependencyChildren {
 
     type Child = Or<BomReferenceMachine, NoMachine>;
 
-    ghost kinds = { dependency_kinds };
+    ghost child_kinds = { dependency_kinds };
 
-    fn find(_part: &Dependency, _version: SpecVersion, name: &OwnedName) -> Found {
+    fn find(_part: &Dependency, _version: SpecVersion, name: &OwnedName) -> FoundChild {
         match name.local_name.as_str() {
-            "dependency" => Found::At(0),
-            _ => Found::Unknown,
+            "dependency" => FoundChild::At(0),
+            _ => FoundChild::Unknown,
         }
     }
 
@@ -371,20 +371,20 @@ impl PushRecord for CompositionChildren {
         >,
     >;
 
-    ghost kinds = { composition_kinds };
+    ghost child_kinds = { composition_kinds };
 
     fn find(
         _part: &<Composition as XmlRecord>::Part,
         version: SpecVersion,
         name: &OwnedName,
-    ) -> Found {
+    ) -> FoundChild {
         match name.local_name.as_str() {
-            "aggregate" => Found::At(0),
-            "assemblies" => Found::At(1),
-            "dependencies" => Found::At(2),
-            "vulnerabilities" => Found::since(SpecVersion::V1_5, version, 3),
-            "signature" => Found::since(SpecVersion::V1_4, version, 4),
-            _ => Found::Unknown,
+            "aggregate" => FoundChild::At(0),
+            "assemblies" => FoundChild::At(1),
+            "dependencies" => FoundChild::At(2),
+            "vulnerabilities" => FoundChild::since(SpecVersion::V1_5, version, 3),
+            "signature" => FoundChild::since(SpecVersion::V1_4, version, 4),
+            _ => FoundChild::Unknown,
         }
     }
 

@@ -3,7 +3,7 @@
 use cdx_events::{List, OwnedName, Text, XmlEvent};
 use cdx_leaf::{End, Rule, Start, XmlRecord};
 use cdx_machine::{
-    Found, Frame, FrameMachine, Machine, NoMachine, Only, Or, PushRecord, RecordMachine,
+    FoundChild, Frame, FrameMachine, Machine, NoMachine, Only, Or, PushRecord, RecordMachine,
     TextMachine,
 };
 use cdx_models::{SpecVersion, XmlReadError};
@@ -55,13 +55,13 @@ impl PushRecord for SignerChildren {
 
     type Child = Or<TextMachine, Only<TextMachine>>;
 
-    ghost kinds = { signer_kinds };
+    ghost child_kinds = { signer_kinds };
 
-    fn find(_part: &SignerPart, _version: SpecVersion, name: &OwnedName) -> Found {
+    fn find(_part: &SignerPart, _version: SpecVersion, name: &OwnedName) -> FoundChild {
         match name.local_name.as_str() {
-            "algorithm" => Found::At(0),
-            "value" => Found::At(1),
-            _ => Found::Unknown,
+            "algorithm" => FoundChild::At(0),
+            "value" => FoundChild::At(1),
+            _ => FoundChild::Unknown,
         }
     }
 
@@ -142,7 +142,7 @@ impl Frame for BegunSigners {
 
     ghost slots = { λ r. items_slots signer_tree r.items };
 
-    ghost kinds = { signers_kinds };
+    ghost child_kinds = { signers_kinds };
 
     ghost frame = { record_frame signers (content_from_rows signers) refl };
 
@@ -156,10 +156,10 @@ impl Frame for BegunSigners {
         })
     }
 
-    fn find(&self, _version: SpecVersion, name: &OwnedName) -> Found {
+    fn find(&self, _version: SpecVersion, name: &OwnedName) -> FoundChild {
         match name.local_name.as_str() {
-            "signer" => Found::At(0),
-            _ => Found::Unknown,
+            "signer" => FoundChild::At(0),
+            _ => FoundChild::Unknown,
         }
     }
 
@@ -243,7 +243,7 @@ impl Frame for BegunChain {
 
     ghost slots = { λ r. items_slots signer_tree r.items };
 
-    ghost kinds = { chain_kinds };
+    ghost child_kinds = { chain_kinds };
 
     ghost frame = { record_frame chain (content_from_rows chain) refl };
 
@@ -257,10 +257,10 @@ impl Frame for BegunChain {
         })
     }
 
-    fn find(&self, _version: SpecVersion, name: &OwnedName) -> Found {
+    fn find(&self, _version: SpecVersion, name: &OwnedName) -> FoundChild {
         match name.local_name.as_str() {
-            "chain" => Found::At(0),
-            _ => Found::Unknown,
+            "chain" => FoundChild::At(0),
+            _ => FoundChild::Unknown,
         }
     }
 
@@ -346,7 +346,7 @@ impl Frame for BegunSignature {
 
     ghost slots = { λ r. signature_part r.part };
 
-    ghost kinds = { refl };
+    ghost child_kinds = { refl };
 
     ghost frame = { signature_frame };
 
@@ -366,13 +366,13 @@ impl Frame for BegunSignature {
         })
     }
 
-    fn find(&self, _version: SpecVersion, name: &OwnedName) -> Found {
+    fn find(&self, _version: SpecVersion, name: &OwnedName) -> FoundChild {
         match name.local_name.as_str() {
-            "signers" => Found::At(0),
-            "chain" => Found::At(1),
-            "algorithm" => Found::At(2),
-            "value" => Found::At(3),
-            _ => Found::Unknown,
+            "signers" => FoundChild::At(0),
+            "chain" => FoundChild::At(1),
+            "algorithm" => FoundChild::At(2),
+            "value" => FoundChild::At(3),
+            _ => FoundChild::Unknown,
         }
     }
 

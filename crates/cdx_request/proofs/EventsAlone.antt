@@ -11,7 +11,7 @@ use Rattle.cdx_events.specs.declared.name.Namespace.{Namespace}
 use Rattle.cdx_events.specs.declared.event.XmlEvent.{XmlEvent}
 use Rattle.cdx_events.specs.declared.event.XmlEvent.TheVariants.{StartDocument, EndDocument, StartElement, EndElement, Characters, CData}
 use Rattle.cdx_request.specs.Parts.{◌>>=◌, has, text_at, how_many, if_text, all_in}
-use Rattle.cdx_request.specs.EventValues.{with_optional_text, with_name, attribute_value, one_text}
+use Rattle.cdx_request.specs.EventValues.{with_optional_text, with_name, attribute_value, only_text}
 use Rattle.cdx_request.specs.EventReading.{name_at, members_of_name, attribute_parts, attribute_meant, if_attributes, mark_of, mark_event, start_parts, members_of_start, start_event, end_event, text_event, event_of}
 use Rattle.cdx_request.specs.SameValues.{HoldsTheSame, HasMembers}
 use Rattle.cdx_request.specs.Alone.{WritesEvent, EventsAlone}
@@ -170,24 +170,24 @@ end_alone ds e h =
     (many ∙ sym (end_len name.0.local_name name.0.namespace name.0.prefix), named_held (codes "end") ds name.0 no_members is tt)
 
 -- one text and no other member
-one_held : (k : List ℕ) (ds : Members) (s : List ℕ) → (members_len ds == 1) ≡ true → text_at k (object ds) ≡ Some s → HoldsTheSame (object ds) (one_text k s)
+one_held : (k : List ℕ) (ds : Members) (s : List ℕ) → (members_len ds == 1) ≡ true → text_at k (object ds) ≡ Some s → HoldsTheSame (object ds) (only_text k s)
 one_held k ds s one e = (count (members_len ds) 1 one, (text_held k ds s e, tt))
 
-text_alone : (k : List ℕ) (event : List ℕ → XmlEvent) → ((d : Data) (s : List ℕ) → HoldsTheSame d (one_text k s) → WritesEvent d (event s))
+text_alone : (k : List ℕ) (event : List ℕ → XmlEvent) → ((d : Data) (s : List ℕ) → HoldsTheSame d (only_text k s) → WritesEvent d (event s))
     → (ds : Members) (e : XmlEvent) → text_event k event (object ds) ≡ Some e → WritesEvent (object ds) e
 text_alone k event writes ds e h =
     let t = tested (members_len ds == 1) _ e h in
     let text = made event (text_at k (object ds)) e t.1 in
     subst (λ (e : XmlEvent). WritesEvent (object ds) e) text.2 (writes (object ds) text.0 (one_held k ds text.0 t.0 text.1))
 
-mark_writes : (d : Data) (s : List ℕ) (e : XmlEvent) → mark_of s ≡ Some e → HoldsTheSame d (one_text (codes "document") s) → WritesEvent d e
+mark_writes : (d : Data) (s : List ℕ) (e : XmlEvent) → mark_of s ≡ Some e → HoldsTheSame d (only_text (codes "document") s) → WritesEvent d e
 mark_writes d s e = by (bytes_eq s (codes "start")) (bytes_eq s (codes "end")) refl refl
   where
-    as_text : (w : List ℕ) → bytes_eq s w ≡ true → HoldsTheSame d (one_text (codes "document") s) → HoldsTheSame d (one_text (codes "document") w)
-    as_text w is = subst (λ (s : List ℕ). HoldsTheSame d (one_text (codes "document") s)) ((bytes_eq-Decides s w).0 is)
+    as_text : (w : List ℕ) → bytes_eq s w ≡ true → HoldsTheSame d (only_text (codes "document") s) → HoldsTheSame d (only_text (codes "document") w)
+    as_text w is = subst (λ (s : List ℕ). HoldsTheSame d (only_text (codes "document") s)) ((bytes_eq-Decides s w).0 is)
 
     by : (b c : Bool) → bytes_eq s (codes "start") ≡ b → bytes_eq s (codes "end") ≡ c → (if b then Some StartDocument else (if c then Some EndDocument else None)) ≡ Some e
-        → HoldsTheSame d (one_text (codes "document") s) → WritesEvent d e
+        → HoldsTheSame d (only_text (codes "document") s) → WritesEvent d e
     by true c p q h held = subst (λ (e : XmlEvent). WritesEvent d e) (same_some StartDocument e h) (as_text (codes "start") p held)
     by false true p q h held = subst (λ (e : XmlEvent). WritesEvent d e) (same_some EndDocument e h) (as_text (codes "end") q held)
     by false false p q h held = absurd cc

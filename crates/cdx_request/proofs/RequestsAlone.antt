@@ -16,7 +16,7 @@ use Rattle.cdx_models.specs.Versions.{label, version_of}
 use Rattle.cdx_schema.specs.Trips.{Form, in_json, in_xml, Hop}
 use Rattle.cdx_schema.specs.Roads.{Doc, json, xml}
 use Rattle.cdx_request.specs.Parts.{◌>>=◌, member_count, text_at, version_at, all_in}
-use Rattle.cdx_request.specs.EventReading.{events_of}
+use Rattle.cdx_request.specs.EventReading.{events_in}
 use Rattle.cdx_request.specs.Refusals.{only}
 use Rattle.cdx_request.specs.Requests.{Misread, Sent, sent_value, sent_events, sent_under, sent_of, rooted, doc_of, doc_if, form_named, hop_parts, hop_meant, hops_at, Request, Asked, asked_parts, asked_of, asking, request_if}
 use Rattle.cdx_request.specs.RequestValues.{form_word, hop_value, sent, asked}
@@ -52,7 +52,7 @@ sent_held k v s = by (get (codes "json") (only k v)) (get (codes "xml") (only k 
     by : (a b : Option Data) → get (codes "json") (only k v) ≡ a → get (codes "xml") (only k v) ≡ b → sent_under a b ≡ Some s → WritesSent (only k v) s
     by (Some x) b p q e = subst (λ (s : Sent). WritesSent (only k v) s) (same_some (sent_value x) s e) (found_only (codes "json") k v x p)
     by None (Some x) p q e =
-        let events = made (λ es. sent_events es) (events_of x) s e in
+        let events = made (λ es. sent_events es) (events_in x) s e in
         subst (λ (s : Sent). WritesSent (only k v) s) events.2 (x, found_only (codes "xml") k v x q, events_alone x events.0 events.1)
     by None None p q e = absurd cc
 

@@ -12,7 +12,7 @@ use Rattle.cdx_schema.specs.Trips.{Hop}
 use Rattle.cdx_schema.specs.Roads.{Doc}
 use Rattle.cdx_request.specs.Parts.{member_count}
 use Rattle.cdx_request.specs.EventValues.{with_optional_text, with_name, event_value}
-use Rattle.cdx_request.specs.EventReading.{events_of}
+use Rattle.cdx_request.specs.EventReading.{events_in}
 use Rattle.cdx_request.specs.Refusals.{only}
 use Rattle.cdx_request.specs.Requests.{Sent, sent_value, sent_events, sent_of, doc_in, hop_meant, Asked, asked_of, Request, request_of}
 use Rattle.cdx_request.specs.RequestValues.{hop_value, sent, asked}
@@ -57,7 +57,7 @@ pub record WritesAsked (d : Data) (a : Asked) : Type 0 where
 -- ---- the laws
 
 abbrev pub EventsAlone : Type 0
-EventsAlone = (d : Data) (events : List XmlEvent) → events_of d ≡ Some events → WritesEvents d events
+EventsAlone = (d : Data) (events : List XmlEvent) → events_in d ≡ Some events → WritesEvents d events
 
 abbrev pub SentAlone : Type 0
 SentAlone = (d : Data) (s : Sent) → sent_of d ≡ Some s → WritesSent d s

@@ -80,5 +80,5 @@ event_of d =
     None))))
 
 -- the events of an array
-abbrev pub events_of : Data → Option (List XmlEvent)
-events_of d = as_array d >>= all_in event_of
+abbrev pub events_in : Data → Option (List XmlEvent)
+events_in d = as_array d >>= all_in event_of

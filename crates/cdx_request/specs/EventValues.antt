@@ -22,16 +22,16 @@ abbrev pub with_attributes : List OwnedAttribute → Members → Members
 with_attributes [] ms = ms
 with_attributes (a ∷ more) ms = put (codes "attributes") (array (items_of (map attribute_value (a ∷ more)))) ms
 
-abbrev pub one_text : List ℕ → List ℕ → Data
-one_text name s = object (member name (string s) no_members)
+abbrev pub only_text : List ℕ → List ℕ → Data
+only_text name s = object (member name (string s) no_members)
 
 abbrev pub event_value : XmlEvent → Data
-event_value StartDocument = one_text (codes "document") (codes "start")
-event_value EndDocument = one_text (codes "document") (codes "end")
+event_value StartDocument = only_text (codes "document") (codes "start")
+event_value EndDocument = only_text (codes "document") (codes "end")
 event_value (StartElement name attributes namespace) = object (with_attributes attributes (with_optional_text (codes "default") namespace.default (with_name (codes "element") name no_members)))
 event_value (EndElement name) = object (with_name (codes "end") name no_members)
-event_value (Characters s) = one_text (codes "text") s
-event_value (CData s) = one_text (codes "cdata") s
+event_value (Characters s) = only_text (codes "text") s
+event_value (CData s) = only_text (codes "cdata") s
 
 abbrev pub events_value : List XmlEvent → Data
 events_value events = array (items_of (map event_value events))

@@ -11,7 +11,7 @@ use Rattle.cdx_models.specs.declared.bom.SpecVersion.{SpecVersion}
 use Rattle.cdx_schema.specs.Trips.{Form, in_json, in_xml, Hop}
 use Rattle.cdx_schema.specs.Roads.{Doc, json, xml}
 use Rattle.cdx_request.specs.Parts.{◌>>=◌, member_count, text_at, version_at, all_in}
-use Rattle.cdx_request.specs.EventReading.{events_of}
+use Rattle.cdx_request.specs.EventReading.{events_in}
 use Rattle.cdx_request.specs.Breaks.{broken}
 
 -- why bytes are no request
@@ -29,7 +29,7 @@ pub data Sent : Type 0 where
 
 abbrev pub sent_under : Option Data → Option Data → Option Sent
 sent_under (Some x) events = Some (sent_value x)
-sent_under None events = option_map (λ es. sent_events es) (events >>= events_of)
+sent_under None events = option_map (λ es. sent_events es) (events >>= events_in)
 
 -- A document stands in an object as its only member: any value under `json`, or an array of events under `xml`.
 abbrev pub sent_of : Data → Option Sent

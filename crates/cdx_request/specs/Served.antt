@@ -11,7 +11,7 @@ use Rattle.cdx_schema.specs.Trips.{Hop}
 use Rattle.cdx_schema.specs.Roads.{Doc, json, xml, Refusal, denotes, fits_all, road}
 use Rattle.cdx_schema.specs.Laws.{LeadsFrom}
 use Rattle.cdx_request.specs.EventValues.{events_value}
-use Rattle.cdx_request.specs.EventReading.{events_of}
+use Rattle.cdx_request.specs.EventReading.{events_in}
 use Rattle.cdx_request.specs.Requests.{Request, doc_in, request_of, request_in}
 use Rattle.cdx_request.specs.Refusals.{refusal_value}
 use Rattle.cdx_request.specs.Replies.{line_of, doc_value, documents_value, limit, reply_to}
@@ -36,7 +36,7 @@ pub record IsValid (r : Request) : Type 0 where
 
 -- Events that are written in an answer are read back from a request.
 abbrev pub EventsBack : Type 0
-EventsBack = (events : List XmlEvent) → events_of (events_value events) ≡ Some events
+EventsBack = (events : List XmlEvent) → events_in (events_value events) ≡ Some events
 
 -- A document with a root that is written in an answer is read back from a request.
 abbrev pub DocsBack : Type 0

@@ -16,7 +16,7 @@ use Rattle.cdx_schema.specs.Depth.{Depth, top, inside, name_too_deep}
 use Rattle.cdx_models.specs.Entries.{entry_of}
 use Rattle.cdx_schema.specs.JsonReading.{is_required}
 use Rattle.cdx_schema.specs.XmlTexts.{boolean_of, number_of, boolean_tree, tree_of_text}
-use Rattle.cdx_schema.specs.XmlReading.{ElementReading, Child, Plan, record_plan, plan_of_list, tools_plan, data_plan, signature_plan, no_plan, find_child, stored, stray, unknown, is_second, child_read_into, find_attribute, parsed, attribute_read, attribute_or_read, row_attribute, attributes_read, in_force, after_text, text_in, exact_text, Content, no_content, any_text, one_text_alone, content_from, name_owed, lacks, lacking_row, filled, ended, Element, end_of, text_read, number_alone, number_in, list_of, content_fields, record_so_far, record_denoted, tools_object_of, tools_of, data_of, signature_of, in_namespace, kind_read, xread, nodes_read, xml_denotes}
+use Rattle.cdx_schema.specs.XmlReading.{ElementReading, Child, Plan, record_plan, plan_of_list, tools_plan, data_plan, signature_plan, no_plan, find_child, stored, stray, unknown, is_second, child_read_into, find_attribute, parsed, attribute_read, attribute_or_read, row_attribute, attributes_read, in_force, after_text, text_in, exact_text, TextContent, no_content, any_text, one_text_alone, content_from, name_owed, lacks, lacking_row, filled, ended, Element, end_of, text_read, number_alone, number_in, list_of, content_fields, record_so_far, record_denoted, tools_object_of, tools_of, data_of, signature_of, in_namespace, kind_read, xread, nodes_read, xml_denotes}
 use Rattle.cdx_events.specs.EmptyTexts.{lean, lean_nodes}
 use Rattle.cdx_schema.specs.Dropped.{earlier, if_nothing, record_hole, kind_hole, child_hole, hole, holes, unless}
 use Rattle.cdx_events.specs.declared.event.EventKind.TheVariants as kinds
@@ -200,7 +200,7 @@ module _ (n : List ℕ) (as' : List OwnedAttribute) (nsp : Option (List ℕ)) (p
   abbrev R : Name → SpecVersion → Option XmlReadError
   R k v = record_hole (content_from 0 (rows k)) k v n q (lean_nodes xs) (H v)
 
-  content_lean : (c : Content) (k : Name) (ts us : Trees) (v : SpecVersion) (d : Depth) → content_fields c E k ts v d ≡ Ok us → content_fields c F k ts v d ≡ unless (record_hole c k v n q (lean_nodes xs) (H v)) us
+  content_lean : (c : TextContent) (k : Name) (ts us : Trees) (v : SpecVersion) (d : Depth) → content_fields c E k ts v d ≡ Ok us → content_fields c F k ts v d ≡ unless (record_hole c k v n q (lean_nodes xs) (H v)) us
   content_lean no_content k ts us v d g = h (record_plan k) v d ts us g
   content_lean (any_text i) k ts us v d g = bind_ok (text_read E) (λ s. Ok (with_field i (text s) ts)) us g
       (λ s a b. ap (λ r. r >>= (λ z. Ok (with_field i (text z) ts))) (text_lean xs n (suc p) (suc q) s a) ∙ b)

@@ -19,7 +19,7 @@ use Rattle.cdx_schema.specs.Depth.{Depth, top, inside, name_too_deep}
 use Rattle.cdx_models.specs.Entries.{entry_of}
 use Rattle.cdx_schema.specs.JsonReading.{is_required}
 use Rattle.cdx_schema.specs.XmlTexts.{boolean_of, number_of, boolean_tree, tree_of_text}
-use Rattle.cdx_schema.specs.XmlReading.{ElementReading, Child, Plan, row_children, children_from, record_plan, plan_of_list, tools_plan, data_plan, signature_plan, no_plan, find_child, stored, stray, unknown, is_second, child_read_into, node_read, find_attribute, parsed, attribute_read, attribute_or_read, row_attribute, attributes_read, in_force, after_text, text_in, exact_text, Content, no_content, any_text, one_text_alone, content_from, name_owed, lacks, lacking_row, filled, ended, Element, end_of, text_read, boolean_read, number_alone, number_in, list_of, content_fields, record_so_far, record_denoted, tools_object_of, tools_of, data_of, signature_of, tools_read, signature_read, in_namespace, kind_read, xread, nodes_read, xml_denotes}
+use Rattle.cdx_schema.specs.XmlReading.{ElementReading, Child, Plan, row_children, children_from, record_plan, plan_of_list, tools_plan, data_plan, signature_plan, no_plan, find_child, stored, stray, unknown, is_second, child_read_into, node_read, find_attribute, parsed, attribute_read, attribute_or_read, row_attribute, attributes_read, in_force, after_text, text_in, exact_text, TextContent, no_content, any_text, one_text_alone, content_from, name_owed, lacks, lacking_row, filled, ended, Element, end_of, text_read, boolean_read, number_alone, number_in, list_of, content_fields, record_so_far, record_denoted, tools_object_of, tools_of, data_of, signature_of, tools_read, signature_read, in_namespace, kind_read, xread, nodes_read, xml_denotes}
 use Rattle.cdx_schema.specs.Locality.{fault_place, IsDocumentFault, RefusesByFaults}
 use Rattle.cdx_schema.proofs.JsonBack.{and_true}
 use Rattle.cdx_events.specs.declared.event.EventKind.TheVariants as kinds
@@ -195,7 +195,7 @@ module _ (m : Bool) (Q : Type 0) (f : XmlReadError) (n : List ℕ) (as' : List O
   exact_out : exact_text xs n (suc s) ≡ Err f → Out m Q f (exact_text ys n (suc s))
   exact_out g = h.1 (Err (unexpected (suc s) n kinds.EndElement)) (λ z. ap fault_place (sym (err_same z))) g
 
-  content_out : (c : Content) (k : Name) (ts : Trees) (v : SpecVersion) (d : Depth) → content_fields c E k ts v d ≡ Err f → Out m Q f (content_fields c F k ts v d)
+  content_out : (c : TextContent) (k : Name) (ts : Trees) (v : SpecVersion) (d : Depth) → content_fields c E k ts v d ≡ Err f → Out m Q f (content_fields c F k ts v d)
   content_out no_content k ts v d g = h.0 (record_plan k) v d ts (children_no_bill 0 (rows k) (rows_no_bill k)) g
   content_out (any_text i) k ts v d g = bind_err (text_read E) (λ t. Ok (with_field i (text t) ts)) f g
       (λ z. out_bind m Q f (text_read F) (λ t. Ok (with_field i (text t) ts)) (simple_out z)) (λ t i j. ok_err j)

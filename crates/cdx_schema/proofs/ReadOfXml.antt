@@ -19,7 +19,7 @@ use Rattle.cdx_schema.specs.Depth.{Depth, top, inside, name_too_deep}
 use Rattle.cdx_models.specs.Entries.{entry_of}
 use Rattle.cdx_schema.specs.JsonReading.{is_required}
 use Rattle.cdx_schema.specs.XmlTexts.{boolean_of, number_of, boolean_tree, number_tree, tree_of_text, below_2_32, digits_of}
-use Rattle.cdx_schema.specs.XmlReading.{ElementReading, Place, last, once, all, Child, Plan, row_children, children_from, record_plan, plan_of_list, tools_plan, data_plan, signature_plan, no_plan, find_child, appended, stored, stray, unknown, is_second, child_read_into, node_read, find_attribute, parsed, attribute_read, attribute_or_read, row_attribute, attributes_read, in_force, after_text, text_in, simple_text, exact_text, Content, no_content, any_text, one_text_alone, content_from, name_owed, lacks, lacking_row, filled, ended, Element, end_of, text_read, boolean_read, number_alone, number_in, list_of, list_read, content_fields, record_so_far, record_denoted, reference_read, choice_read, identifier_read, tools_object_of, tools_of, data_of, signature_of, tools_read, data_read, signature_read, in_namespace, bill_read, kind_read, xread, nodes_read, xml_denotes}
+use Rattle.cdx_schema.specs.XmlReading.{ElementReading, Place, last, once, all, Child, Plan, row_children, children_from, record_plan, plan_of_list, tools_plan, data_plan, signature_plan, no_plan, find_child, appended, stored, stray, unknown, is_second, child_read_into, node_read, find_attribute, parsed, attribute_read, attribute_or_read, row_attribute, attributes_read, in_force, after_text, text_in, simple_text, exact_text, TextContent, no_content, any_text, one_text_alone, content_from, name_owed, lacks, lacking_row, filled, ended, Element, end_of, text_read, boolean_read, number_alone, number_in, list_of, list_read, content_fields, record_so_far, record_denoted, reference_read, choice_read, identifier_read, tools_object_of, tools_of, data_of, signature_of, tools_read, data_read, signature_read, in_namespace, bill_read, kind_read, xread, nodes_read, xml_denotes}
 use Rattle.cdx_schema.specs.Keeping.{is_shallow, are_shallow}
 use Rattle.cdx_schema.specs.Membership.{Never, IsOfAll, AreOfAll, IsListKind, may_lack}
 use Rattle.cdx_schema.specs.Texts.{AttributeTexts, NodeTexts, NodesTexts}
@@ -135,7 +135,7 @@ appended_slot Q (items ts) t s d l (inr h, e) g f = ((l, append_of Q ts t (held_
 appended_slot Q (items ts) t s d l (inl h, e) g f = absurd (true≢false (sym (ap is_absent h)))
 appended_slot Q _ t s d l h g f = alone Q t s d l g f
 
--- Both: the row_kinds of all, and the fields that are there.
+-- Both: the kinds of all rows, and the fields that are there.
 abbrev Holds : (Q : List ℕ → Type 0) → Trees → List Kind → List Bool → Depth → Type 0
 Holds Q ts ks bs d = AreSlots Q ts ks d × Present ts bs
 
@@ -583,12 +583,12 @@ ReadGood Q e = (plan : Plan) (ks : List Kind) (bs : List Bool) (v : SpecVersion)
 abbrev GoodElement : (Q : List ℕ → Type 0) → Element → Type 0
 GoodElement Q e = ReadGood Q e × AttributeTexts Q e.attributes × NodesTexts Q e.nodes × Q []
 
-abbrev at_end : Content → List Bool → List Bool
+abbrev at_end : TextContent → List Bool → List Bool
 at_end no_content bs = bs
 at_end (any_text i) bs = flag_at i bs
 at_end (one_text_alone i) bs = flag_at i bs
 
-abbrev is_text_at : Content → List Kind → Bool
+abbrev is_text_at : TextContent → List Kind → Bool
 is_text_at no_content ks = true
 is_text_at (any_text i) ks = is_text_kind (kind_at i ks)
 is_text_at (one_text_alone i) ks = is_text_kind (kind_at i ks)
@@ -612,7 +612,7 @@ text_set : (Q : List ℕ → Type 0) (i : ℕ) (s : List ℕ) (ts us : Trees) (k
 text_set Q i s ts us ks bs d h u holds e = subst (λ (x : Trees). Holds Q x ks (flag_at i bs) d) e
     (with_slot Q i (text s) ts ks d holds.0 (slot_of Q (kind_at i ks) d (text s) (text_kind_read Q (kind_at i ks) s d h u)), now_present i (text s) ts bs refl holds.1)
 
-content_good : (Q : List ℕ → Type 0) (c : Content) (e : Element) (n : Name) (ts us : Trees) (v : SpecVersion) (bs : List Bool) (d : Depth) → GoodElement Q e → is_text_at c (row_kinds (rows n)) ≡ true → Holds Q ts (row_kinds (rows n)) bs d
+content_good : (Q : List ℕ → Type 0) (c : TextContent) (e : Element) (n : Name) (ts us : Trees) (v : SpecVersion) (bs : List Bool) (d : Depth) → GoodElement Q e → is_text_at c (row_kinds (rows n)) ≡ true → Holds Q ts (row_kinds (rows n)) bs d
     → content_fields c e n ts v d ≡ Ok us → Holds Q us (row_kinds (rows n)) (at_end c bs) d
 content_good Q no_content e n ts us v bs d g h holds o = g.0 (record_plan n) (row_kinds (rows n)) bs v d ts us (plan_good Q n) holds o
 content_good Q (any_text i) e n ts us v bs d g h holds o =

@@ -15,7 +15,7 @@ use Rattle.cdx_schema.proofs.Sound.{all_sound, sound, sound_parts, whole_kind, w
 use Rattle.std.specs.Prelude.{codes}
 use Rattle.cdx_schema.specs.Kinds.{classifications}
 use Rattle.cdx_schema.specs.XmlTexts.{text_of}
-use Rattle.cdx_schema.specs.XmlSpelling.{nodes_of, items_nodes, fields_nodes, row_nodes, wrapped, flow_of, item_node, Items, items_of, any_flow, attributes_of, attributes_in, row_attributes, tag_of, ordered, signed_in, lone, root, plain_element, each_under, as_flows}
+use Rattle.cdx_schema.specs.XmlSpelling.{nodes_of, items_nodes, fields_nodes, row_nodes, wrapped, flow_of, item_node, ItemSpelling, items_of, any_flow, attributes_of, attributes_in, row_attributes, tag_of, ordered, signed_in, lone, root, plain_element, each_under, as_flows}
 use Rattle.cdx_schema.specs.Suppliers.{is_supplier, unsupplied, items_unsupplied, rows_unsupplied}
 use Rattle.cdx_schema.proofs.KeptOf.{IsField}
 use Rattle.cdx_schema.proofs.BareTwice.{unsupplied_there, no_child_unsupplied, no_supplier}
@@ -66,7 +66,7 @@ unfolding unsupplied
 flow_unsupplied (fields service_data ts) w k xs ys e = wrapped_unsupplied (fields service_data ts) w (codes "dataflow") k xs ys e
 flow_unsupplied t w k xs ys e = in_flow_unsupplied t w k xs ys e
 
-item_unsupplied : (how : Items) (t : Tree) (w : SpecVersion) (k : Kind) (xs ys : Nodes) → xs ≡ ys → item_node how (unsupplied t) w k xs ≡ item_node how t w k ys
+item_unsupplied : (how : ItemSpelling) (t : Tree) (w : SpecVersion) (k : Kind) (xs ys : Nodes) → xs ≡ ys → item_node how (unsupplied t) w k xs ≡ item_node how t w k ys
 item_unsupplied (each_under tag) t w k xs ys e = wrapped_unsupplied t w tag k xs ys e
 item_unsupplied as_flows t w k xs ys e = flow_unsupplied t w k xs ys e
 
@@ -162,7 +162,7 @@ mutual
   nodes_unsupplied (fields n ts) w k h = ap (signed_in k n) (fields_nodes_unsupplied ts w (rows n) (sound n) h.1)
   nodes_unsupplied _ w k h = refl
 
-  items_nodes_unsupplied : (ts : Trees) (w : SpecVersion) (how : Items) (k : Kind) → HaveShape ts k → items_nodes (items_unsupplied ts) w how k ≡ items_nodes ts w how k
+  items_nodes_unsupplied : (ts : Trees) (w : SpecVersion) (how : ItemSpelling) (k : Kind) → HaveShape ts k → items_nodes (items_unsupplied ts) w how k ≡ items_nodes ts w how k
   items_nodes_unsupplied none w how k h = refl
   items_nodes_unsupplied (more t ts) w how k h =
       join_alike (is_passed_over (unsupplied t)) (is_passed_over t) (lone (item_node how (unsupplied t) w k (nodes_of (unsupplied t) w k))) (lone (item_node how t w k (nodes_of t w k))) (items_nodes (items_unsupplied ts) w how k) (items_nodes ts w how k)

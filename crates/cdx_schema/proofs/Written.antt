@@ -16,7 +16,7 @@ use Rattle.cdx_schema.proofs.Sound.{sound_xml, all_sound, sound, sound_parts, wh
 use Rattle.std.specs.Prelude.{codes}
 use Rattle.cdx_schema.specs.Kinds.{classifications}
 use Rattle.cdx_schema.specs.XmlTexts.{text_of}
-use Rattle.cdx_schema.specs.XmlSpelling.{nodes_of, items_nodes, fields_nodes, row_nodes, wrapped, flow_of, item_node, Items, items_of, any_flow, attributes_of, attributes_in, row_attributes, attribute_of, tag_of, ordered, signed_in, lone, root, plain_element, each_under, as_flows}
+use Rattle.cdx_schema.specs.XmlSpelling.{nodes_of, items_nodes, fields_nodes, row_nodes, wrapped, flow_of, item_node, ItemSpelling, items_of, any_flow, attributes_of, attributes_in, row_attributes, attribute_of, tag_of, ordered, signed_in, lone, root, plain_element, each_under, as_flows}
 use Rattle.cdx_schema.proofs.TrippedOf.{more_is}
 use Rattle.cdx_schema.proofs.Commute.{filled_whole}
 use Rattle.cdx_schema.proofs.Alike.{settled_more, settled_there, passed_settled, hollow_settled}
@@ -128,7 +128,7 @@ flow_settled (items ts) w k xs ys e = list_flow k (items_settled ts (held_kind k
 flow_settled (fields service_data ts) w k xs ys e = wrapped_settled (fields service_data ts) w (codes "dataflow") k xs ys e
 flow_settled t w k xs ys e = in_flow_settled t w k xs ys e
 
-item_settled : (how : Items) (t : Tree) (w : SpecVersion) (k : Kind) (xs ys : Nodes) → xs ≡ ys → item_node how (settled t k) w k xs ≡ item_node how t w k ys
+item_settled : (how : ItemSpelling) (t : Tree) (w : SpecVersion) (k : Kind) (xs ys : Nodes) → xs ≡ ys → item_node how (settled t k) w k xs ≡ item_node how t w k ys
 item_settled (each_under tag) t w k xs ys e = wrapped_settled t w tag k xs ys e
 item_settled as_flows t w k xs ys e = flow_settled t w k xs ys e
 
@@ -196,7 +196,7 @@ mutual
   nodes_settled (fields n ts) w k = ap (signed_in k n) (fields_nodes_settled ts w (rows n) (sound n))
   nodes_settled _ w k = refl
 
-  items_nodes_settled : (ts : Trees) (w : SpecVersion) (how : Items) (k : Kind) → items_nodes (items_settled ts k) w how k ≡ items_nodes ts w how k
+  items_nodes_settled : (ts : Trees) (w : SpecVersion) (how : ItemSpelling) (k : Kind) → items_nodes (items_settled ts k) w how k ≡ items_nodes ts w how k
   items_nodes_settled none w how k = refl
   items_nodes_settled (more t ts) w how k =
       join_alike (is_passed_over (settled t k)) (is_passed_over t) (lone (item_node how (settled t k) w k (nodes_of (settled t k) w k))) (lone (item_node how t w k (nodes_of t w k))) (items_nodes (items_settled ts k) w how k) (items_nodes ts w how k)

@@ -15,7 +15,7 @@ use Rattle.cdx_schema.specs.Depth.{top}
 use Rattle.cdx_schema.specs.Membership.{HasShape}
 use Rattle.cdx_schema.specs.Keeping.{keep, fits, is_shallow}
 use Rattle.cdx_schema.specs.XmlSpelling.{root}
-use Rattle.cdx_schema.specs.XmlReading.{xml_denotes, Plan, Child, find_child, plan_of_list, record_plan, tools_plan, data_plan, signature_plan, no_plan, Content, no_content, any_text, one_text_alone, content_from}
+use Rattle.cdx_schema.specs.XmlReading.{xml_denotes, Plan, Child, find_child, plan_of_list, record_plan, tools_plan, data_plan, signature_plan, no_plan, TextContent, no_content, any_text, one_text_alone, content_from}
 
 -- ---- the first element without content that has to have one text
 
@@ -28,7 +28,7 @@ if_nothing no_nodes f = Some f
 if_nothing (node x xs) f = None
 
 -- Where the record has a row that is exactly one text, the element itself; else the elements in it.
-abbrev pub record_hole : Content → Name → SpecVersion → List ℕ → ℕ → Nodes → (Plan → Option XmlReadError) → Option XmlReadError
+abbrev pub record_hole : TextContent → Name → SpecVersion → List ℕ → ℕ → Nodes → (Plan → Option XmlReadError) → Option XmlReadError
 record_hole no_content n v tag p xs inside = inside (record_plan n)
 record_hole (any_text i) n v tag p xs inside = None
 record_hole (one_text_alone i) n v tag p xs inside = if_nothing xs (unexpected (suc p) tag kinds.EndElement)

@@ -62,8 +62,8 @@ children_from i (r ∷ rs) = row_children i r ++ children_from (suc i) rs
 abbrev pub record_plan : Name → Plan
 record_plan n = record { rule = rule n; children = children_from 0 (rows n) }
 
-abbrev pub list_plan : Lists → Plan
-list_plan l = record { rule = (list l).rule; children = record { name = (list l).name; since = V1_3; kind = (list l).kind; field = 0; place = all } ∷ [] }
+abbrev pub items_plan : Lists → Plan
+items_plan l = record { rule = (list l).rule; children = record { name = (list l).name; since = V1_3; kind = (list l).kind; field = 0; place = all } ∷ [] }
 
 -- either a license or an expression
 abbrev pub choice_plan : Lists → Plan
@@ -74,7 +74,7 @@ plan_of_list l = by (list l).kind
   where
     by : Kind → Plan
     by a_license_choice = choice_plan l
-    by _ = list_plan l
+    by _ = items_plan l
 
 abbrev pub tools_plan : Plan
 tools_plan = record { rule = strict; children = record { name = codes "tool"; since = V1_3; kind = a_record tool; field = 0; place = all } ∷ record { name = codes "services"; since = V1_5; kind = a_list services; field = 1; place = last } ∷ record { name = codes "components"; since = V1_5; kind = a_list components; field = 2; place = last } ∷ [] }
@@ -198,17 +198,17 @@ abbrev pub exact_text : Nodes → List ℕ → ℕ → Result (List ℕ) XmlRead
 exact_text xs around p = text_in (Err (unexpected p around kinds.EndElement)) xs around p
 
 -- Which field the content is, and whether it is exactly one text.
-pub data Content : Type 0 where
-  no_content : Content
-  any_text one_text_alone : ℕ → Content
+pub data TextContent : Type 0 where
+  no_content : TextContent
+  any_text one_text_alone : ℕ → TextContent
 
-abbrev pub or_later : Spelled → ℕ → Content → Content
+abbrev pub or_later : Spelled → ℕ → TextContent → TextContent
 or_later content i c = any_text i
 or_later as_cdata i c = any_text i
 or_later one_text i c = one_text_alone i
 or_later _ i c = c
 
-abbrev pub content_from : ℕ → List Row → Content
+abbrev pub content_from : ℕ → List Row → TextContent
 content_from i [] = no_content
 content_from i (r ∷ rs) = or_later r.xml i (content_from (suc i) rs)
 
@@ -291,7 +291,7 @@ list_read e l v d = do
   Ok (list_of (field 0 ts))
 
 -- The fields after the element's content.
-abbrev pub content_fields : Content → Element → Name → Trees → SpecVersion → Depth → Result Trees XmlReadError
+abbrev pub content_fields : TextContent → Element → Name → Trees → SpecVersion → Depth → Result Trees XmlReadError
 content_fields no_content e n ts v d = e.read (record_plan n) v d ts
 content_fields (any_text i) e n ts v d = do
   s ← text_read e

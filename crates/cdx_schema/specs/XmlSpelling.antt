@@ -80,11 +80,11 @@ flow_of (fields service_data ts) w k xs = wrapped (fields service_data ts) w (co
 flow_of t w k xs = plain_element (codes "dataflow") [] (lone (wrapped t w (codes "classification") k xs))
 
 -- How the items of a kind are written: under a name, or as flows.
-pub data Items : Type 0 where
-  each_under : List ℕ → Items
-  as_flows : Items
+pub data ItemSpelling : Type 0 where
+  each_under : List ℕ → ItemSpelling
+  as_flows : ItemSpelling
 
-abbrev pub item_node : Items → Tree → SpecVersion → Kind → Nodes → Node
+abbrev pub item_node : ItemSpelling → Tree → SpecVersion → Kind → Nodes → Node
 item_node (each_under tag) t w k xs = wrapped t w tag k xs
 item_node as_flows t w k xs = flow_of t w k xs
 
@@ -93,7 +93,7 @@ any_flow none = false
 any_flow (more (fields n us) ts) = is_flow n us || any_flow ts
 any_flow (more _ ts) = any_flow ts
 
-abbrev pub items_of : Kind → Trees → Items
+abbrev pub items_of : Kind → Trees → ItemSpelling
 items_of (a_list l) ts = each_under (list l).name
 items_of a_tools ts = each_under (list tool_list).name
 items_of a_data ts = if any_flow ts then as_flows else each_under (list classifications).name
@@ -132,7 +132,7 @@ unfoldable mutual
   nodes_of (items ts) w k = items_nodes ts w (items_of k ts) (held_kind k)
   nodes_of (fields n ts) w k = signed_in k n (fields_nodes ts w (rows n))
 
-  pub items_nodes : Trees → SpecVersion → Items → Kind → Nodes
+  pub items_nodes : Trees → SpecVersion → ItemSpelling → Kind → Nodes
   items_nodes none w how k = no_nodes
   items_nodes (more t ts) w how k = (if is_passed_over t then no_nodes else lone (item_node how t w k (nodes_of t w k))) ⊕ items_nodes ts w how k
 

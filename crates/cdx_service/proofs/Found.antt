@@ -7,16 +7,16 @@ use Rattle.cdx_models.specs.Versions.{knows}
 use Rattle.cdx_models.specs.Trees.{Trees, field}
 use Rattle.cdx_schema.specs.XmlReading.{Child, is_second}
 use Rattle.cdx_machine.specs.Several.{at_position, found_from}
-use Rattle.cdx_machine.specs.declared.frame.Found.{Found}
-use Rattle.cdx_machine.specs.declared.frame.Found.TheVariants.{At, Unknown, Second}
+use Rattle.cdx_machine.specs.declared.frame.FoundChild.{FoundChild}
+use Rattle.cdx_machine.specs.declared.frame.FoundChild.TheVariants.{At, Unknown, Second}
 
 -- what the first group knows, or else what the others do
-abbrev pub or_found : Found → Found → Found
+abbrev pub or_found : FoundChild → FoundChild → FoundChild
 or_found (At i) r = At i
 or_found Second r = Second
 or_found Unknown r = r
 
-pub taken_first : (r q : Found) → (r ≡ Unknown → ⊥) → r ≡ or_found r q
+pub taken_first : (r q : FoundChild) → (r ≡ Unknown → ⊥) → r ≡ or_found r q
 taken_first (At i) q known = refl
 taken_first Second q known = refl
 taken_first Unknown q known = absurd (known refl)

@@ -4,7 +4,7 @@ use Rattle.cdx_models.specs.Trees.{service}
 use Rattle.cdx_schema.specs.Kinds.{services}
 use Rattle.cdx_schema.specs.Table.{rows, list}
 use Rattle.cdx_machine.specs.Feeding.{IsNoBill}
-use Rattle.cdx_nest_machine.specs.Children.{ReadsEach, reads_listed}
+use Rattle.cdx_nest_machine.specs.Children.{ReadsEach, readers_listed}
 use Rattle.cdx_nest_machine.specs.Forms.{plan_of, IsNested, record_nested, list_nested}
 use Rattle.cdx_push.specs.Leaf.{kind_of as leaf_kind_of}
 use Rattle.cdx_service.specs.declared.frames.ServiceKind.{ServiceKind}
@@ -13,8 +13,8 @@ use Rattle.cdx_service.specs.Frames.{kind_of, service_readers, services_readers,
 
 pub children_by_rows : (s : ServiceKind) → ReadsEach leaf_kind_of kind_of (reader_of s) (plan_of (kind_of s)).children
 unfolding rows list
-children_by_rows Service = reads_listed leaf_kind_of kind_of service_readers (plan_of (kind_of Service)).children refl
-children_by_rows Services = reads_listed leaf_kind_of kind_of services_readers (plan_of (kind_of Services)).children refl
+children_by_rows Service = readers_listed leaf_kind_of kind_of service_readers (plan_of (kind_of Service)).children refl
+children_by_rows Services = readers_listed leaf_kind_of kind_of services_readers (plan_of (kind_of Services)).children refl
 
 pub kinds_nested : (s : ServiceKind) → IsNested (kind_of s)
 unfolding rows

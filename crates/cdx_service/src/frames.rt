@@ -10,7 +10,7 @@ use crate::xml::reading::finish::finish_service;
 use crate::xml::reading::parts::ServicePart;
 use cdx_events::OwnedName;
 use cdx_leaf::{End, Rule, Start};
-use cdx_machine::Found;
+use cdx_machine::FoundChild;
 use cdx_models::{SpecVersion, XmlReadError};
 use cdx_nest_machine::{ChildReader, Nested};
 use cdx_push::{Leaf, LeafKind, LeafValue};
@@ -111,14 +111,14 @@ impl Nested for ServiceFrame {
         }
     }
 
-    fn find(&self, version: SpecVersion, name: &OwnedName) -> Found {
+    fn find(&self, version: SpecVersion, name: &OwnedName) -> FoundChild {
         match self {
             ServiceFrame::Service(_) => find_in_service(version, name),
             ServiceFrame::Services(_) => {
                 if !name.local_name.is("service") {
-                    return Found::Unknown;
+                    return FoundChild::Unknown;
                 }
-                Found::At(0)
+                FoundChild::At(0)
             }
         }
     }

@@ -191,19 +191,19 @@ impl ServiceData {
 }
 
 /// A value that may stand among a service's data.
-trait Entry: HasTree {
+trait DataEntry: HasTree {
     /// Whether it is the same entry as a service data. It takes no memory.
     fn equal_entry(&self, other: &ServiceData) -> bool
         ensures { result ≡ equal (entry_of (Self.tree self.now)) (service_entry other.now) };
 }
 
-impl Entry for DataClassification {
+impl DataEntry for DataClassification {
     fn equal_entry(&self, other: &ServiceData) -> bool {
         !other.is_flow() && self.equals(&other.classification)
     }
 }
 
-impl Entry for ServiceData {
+impl DataEntry for ServiceData {
     fn equal_entry(&self, other: &ServiceData) -> bool {
         if self.is_flow() {
             self.equals(other)
@@ -214,7 +214,7 @@ impl Entry for ServiceData {
 }
 
 /// Whether the entries are equal one by one. It takes no memory.
-fn equal_entries<T: Entry + Drop>(one: &List<T>, other: &List<ServiceData>) -> bool
+fn equal_entries<T: DataEntry + Drop>(one: &List<T>, other: &List<ServiceData>) -> bool
     ensures { result
         ≡ equal (list_tree (λ x. entry_of (T.tree x)) one.now)
         (list_tree service_entry other.now) }

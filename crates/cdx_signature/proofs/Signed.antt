@@ -13,7 +13,7 @@ use Rattle.cdx_schema.specs.JsonReading.{Object, Found, nothing, a_null, found, 
 use Rattle.cdx_schema.specs.JsonSpelling.{jspell}
 use Rattle.cdx_schema.specs.Keeping.{kept, keep}
 use Rattle.cdx_json.specs.Gives.{is_found}
-use Rattle.cdx_json.specs.ByRows.{read_if_found, member_of, signature_of, by_rows}
+use Rattle.cdx_json.specs.ByRows.{read_if_found, member_of, signature_in, by_rows}
 use Rattle.cdx_json.specs.KeptRows.{put_kept}
 use Rattle.cdx_json.proofs.ByRowsLaws.{by_rows_are}
 
@@ -22,8 +22,8 @@ use Rattle.cdx_json.proofs.ByRowsLaws.{by_rows_are}
 abbrev pub as_signers : Name → Tree → Result Tree JsonFault
 as_signers n t = Ok (fields n (one t))
 
-pub reads_signers : (o : Object) (b : Bool) (v : SpecVersion) (d : Depth) → b ≡ is_found (o (codes "signers")) → b ≡ true → signature_of o v d ≡ (member_of o (codes "signers") else_empty (a_list signer_list) v d >>= as_signers signers)
-unfolding signature_of member_of
+pub reads_signers : (o : Object) (b : Bool) (v : SpecVersion) (d : Depth) → b ≡ is_found (o (codes "signers")) → b ≡ true → signature_in o v d ≡ (member_of o (codes "signers") else_empty (a_list signer_list) v d >>= as_signers signers)
+unfolding signature_in member_of
 reads_signers o b v d is e = by (o (codes "signers")) (sym is ∙ e)
   where
     by : (f : Found) → is_found f ≡ true → signature_read f o v d ≡ (under (to_member (codes "signers")) (read_if_found f else_empty (a_list signer_list) v d) >>= as_signers signers)
@@ -36,8 +36,8 @@ no_signers nothing o v d h = refl
 no_signers a_null o v d h = refl
 no_signers (found read) o v d h = absurd cc
 
-pub reads_chain : (o : Object) (b c : Bool) (v : SpecVersion) (d : Depth) → b ≡ is_found (o (codes "signers")) → b ≡ false → c ≡ is_found (o (codes "chain")) → c ≡ true → signature_of o v d ≡ (member_of o (codes "chain") else_empty (a_list chain_list) v d >>= as_signers chain)
-unfolding signature_of member_of
+pub reads_chain : (o : Object) (b c : Bool) (v : SpecVersion) (d : Depth) → b ≡ is_found (o (codes "signers")) → b ≡ false → c ≡ is_found (o (codes "chain")) → c ≡ true → signature_in o v d ≡ (member_of o (codes "chain") else_empty (a_list chain_list) v d >>= as_signers chain)
+unfolding signature_in member_of
 reads_chain o b c v d is e at h = no_signers (o (codes "signers")) o v d (sym is ∙ e) ∙ by (o (codes "chain")) (sym at ∙ h)
   where
     by : (f : Found) → is_found f ≡ true → chain_read f o v d ≡ (under (to_member (codes "chain")) (read_if_found f else_empty (a_list chain_list) v d) >>= as_signers chain)
@@ -45,8 +45,8 @@ reads_chain o b c v d is e at h = no_signers (o (codes "signers")) o v d (sym is
     by a_null h = absurd cc
     by (found read) h = refl
 
-pub reads_single : (o : Object) (b c : Bool) (v : SpecVersion) (d : Depth) → b ≡ is_found (o (codes "signers")) → b ≡ false → c ≡ is_found (o (codes "chain")) → c ≡ false → signature_of o v d ≡ by_rows signer o v d
-unfolding signature_of
+pub reads_single : (o : Object) (b c : Bool) (v : SpecVersion) (d : Depth) → b ≡ is_found (o (codes "signers")) → b ≡ false → c ≡ is_found (o (codes "chain")) → c ≡ false → signature_in o v d ≡ by_rows signer o v d
+unfolding signature_in
 reads_single o b c v d is e at h = no_signers (o (codes "signers")) o v d (sym is ∙ e) ∙ by (o (codes "chain")) (sym at ∙ h) ∙ sym (by_rows_are signer o v d)
   where
     by : (f : Found) → is_found f ≡ false → chain_read f o v d ≡ record_denoted signer o v d

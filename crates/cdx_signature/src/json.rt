@@ -14,7 +14,7 @@ ghost use Rattle.cdx_schema.specs.Depths.{depth_of};
 ghost use Rattle.cdx_json.specs.Gives.{Gives};
 ghost use Rattle.serde_json.specs.Data.{no_members, object};
 ghost use Rattle.cdx_models.specs.Trees.{signer, list_tree};
-ghost use Rattle.cdx_json.specs.ByRows.{signature_of};
+ghost use Rattle.cdx_json.specs.ByRows.{signature_in};
 ghost use Rattle.cdx_json.specs.KeptRows.{put_kept};
 
 use crate::signature::{Algorithm, Signature, Signer};
@@ -100,7 +100,7 @@ impl FromJson for Signature {
 
 fn signature_from_members(map: &Members, context: Context) -> Result<Signature, JsonReadError>
     ensures { Gives signature_tree result
-        (signature_of (seen (members_view map.now.entries)) context.version
+        (signature_in (seen (members_view map.now.entries)) context.version
         (depth_of context.depth)) }
 {
     if has_value(map, "signers") {

@@ -8,7 +8,7 @@ use Rattle.serde_json.proofs.OnLiterals.{serde_json_on_literals}
 use Rattle.cdx_events.specs.declared.event.XmlEvent.{XmlEvent}
 use Rattle.cdx_events.specs.declared.name.OwnedName.{OwnedName}
 use Rattle.cdx_events.specs.declared.name.OwnedAttribute.{OwnedAttribute}
-use Rattle.cdx_request.specs.EventValues.{with_optional_text, with_name, attribute_value, with_attributes, one_text, event_value}
+use Rattle.cdx_request.specs.EventValues.{with_optional_text, with_name, attribute_value, with_attributes, only_text, event_value}
 use Rattle.cdx_request.specs.Refusals.{only}
 use Rattle.cdx_request.specs.Replies.{line_of}
 use Rattle.cdx_tool.specs.Prints.{then_text, then_text_if, then_name, then_default, then_attributes}
@@ -176,18 +176,18 @@ end_printed before n =
     ∙ first_printed before (codes "{\"end\":") (codes "end") (string n.local_name) (space_members n no_members) end_key
     ∙ ap (λ ms. before ++ compact_text (object ms)) (sym (end_named n.local_name n.namespace n.prefix))
 
-only_printed : (before start name s : List ℕ) → start ≡ 123 ∷ key_text false name → then_text start s before ++ codes "}" ≡ before ++ compact_text (one_text name s)
+only_printed : (before start name s : List ℕ) → start ≡ 123 ∷ key_text false name → then_text start s before ++ codes "}" ≡ before ++ compact_text (only_text name s)
 only_printed before start name s is = first_printed before start name (string s) no_members is
 
-pub document_printed : (before s : List ℕ) → then_text (codes "{\"document\":") s before ++ codes "}" ≡ before ++ compact_text (one_text (codes "document") s)
+pub document_printed : (before s : List ℕ) → then_text (codes "{\"document\":") s before ++ codes "}" ≡ before ++ compact_text (only_text (codes "document") s)
 unfolding serde_json_on_literals
 document_printed before s = only_printed before (codes "{\"document\":") (codes "document") s refl
 
-pub text_printed : (before s : List ℕ) → then_text (codes "{\"text\":") s before ++ codes "}" ≡ before ++ compact_text (one_text (codes "text") s)
+pub text_printed : (before s : List ℕ) → then_text (codes "{\"text\":") s before ++ codes "}" ≡ before ++ compact_text (only_text (codes "text") s)
 unfolding serde_json_on_literals
 text_printed before s = only_printed before (codes "{\"text\":") (codes "text") s refl
 
-pub cdata_printed : (before s : List ℕ) → then_text (codes "{\"cdata\":") s before ++ codes "}" ≡ before ++ compact_text (one_text (codes "cdata") s)
+pub cdata_printed : (before s : List ℕ) → then_text (codes "{\"cdata\":") s before ++ codes "}" ≡ before ++ compact_text (only_text (codes "cdata") s)
 unfolding serde_json_on_literals
 cdata_printed before s = only_printed before (codes "{\"cdata\":") (codes "cdata") s refl
 

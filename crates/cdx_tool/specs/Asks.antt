@@ -62,14 +62,14 @@ AsksFor bytes b = (d : Data) × (document_in_json bytes ≡ Some d) × (bill_in 
 
 -- ---- what is answered where there is none
 
-abbrev pub reply_to_lack : WhyNoBill → Reply
-reply_to_lack (misread e) = reply_to_misread e
-reply_to_lack (bill_refused r) = reply 1 (refusal_value r)
+abbrev pub reply_to_no_bill : WhyNoBill → Reply
+reply_to_no_bill (misread e) = reply_to_misread e
+reply_to_no_bill (bill_refused r) = reply 1 (refusal_value r)
 
 -- f is what is answered to a bill
 abbrev pub reply_to_bill : (Tree → Data) → Result Tree WhyNoBill → Reply
 reply_to_bill f (Ok b) = reply 0 (f b)
-reply_to_bill f (Err l) = reply_to_lack l
+reply_to_bill f (Err l) = reply_to_no_bill l
 
 abbrev pub reply_if_read : (Tree → Data) → Option Data → Reply
 reply_if_read f None = reply_to_misread not_json
@@ -85,14 +85,14 @@ abbrev pub IsQuestion : Question → Inquiry → Type 0
 IsQuestion q a = (q.from ≡ a.from) × IsDoc q.doc a.doc
 
 -- The error is what is owed: a lack. Want of memory alone is free.
-abbrev pub Lacks : Result Tree WhyNoBill → NoBill → Type 0
-Lacks owed (lack.Misread (misreading.Memory m)) = Unit {0}
-Lacks owed (lack.Misread misreading.Shape) = owed ≡ Err (misread shape)
-Lacks owed (lack.Misread (misreading.Unbalanced place)) = owed ≡ Err (misread (unbalanced place))
-Lacks owed (lack.Refused (error.Memory m)) = Unit {0}
-Lacks owed (lack.Refused e) = (r : Refusal) × (refusal_of e ≡ Some r) × (owed ≡ Err (bill_refused r))
+abbrev pub IsWhyNoBill : Result Tree WhyNoBill → NoBill → Type 0
+IsWhyNoBill owed (lack.Misread (misreading.Memory m)) = Unit {0}
+IsWhyNoBill owed (lack.Misread misreading.Shape) = owed ≡ Err (misread shape)
+IsWhyNoBill owed (lack.Misread (misreading.Unbalanced place)) = owed ≡ Err (misread (unbalanced place))
+IsWhyNoBill owed (lack.Refused (error.Memory m)) = Unit {0}
+IsWhyNoBill owed (lack.Refused e) = (r : Refusal) × (refusal_of e ≡ Some r) × (owed ≡ Err (bill_refused r))
 
 -- The answer is what is owed: the bill, or why there is none.
 abbrev pub GivesBill : Result Tree WhyNoBill → Result Bom NoBill → Type 0
 GivesBill owed (Ok bill) = owed ≡ Ok (bom_tree bill)
-GivesBill owed (Err e) = Lacks owed e
+GivesBill owed (Err e) = IsWhyNoBill owed e

@@ -10,7 +10,7 @@ ghost use Rattle.cdx_schema.specs.Roads.{Refusal};
 ghost use Rattle.cdx_bom.specs.Docs.{refusal_of};
 ghost use Rattle.cdx_request.specs.Refusals.{refusal_value as refused_for, imbalance_value as unbalanced_at};
 ghost use Rattle.cdx_request.specs.Replies.{reply};
-ghost use Rattle.cdx_tool.specs.Asks.{IsQuestion, inquiry_of, bill_in, GivesBill, WhyNoBill, Lacks, reply_to_bill};
+ghost use Rattle.cdx_tool.specs.Asks.{IsQuestion, inquiry_of, bill_in, GivesBill, WhyNoBill, IsWhyNoBill, reply_to_bill};
 
 use crate::answer::{Answer, answer_value, imbalance_value, refusal_value, refuse};
 use crate::part::{count_members, take_member, version_at};
@@ -113,9 +113,9 @@ fn answer_refused(alloc: Global, error: &RoadError) -> Result<Answer, AllocError
 /// The answer where there is no bill: status 2 and `{"request":"shape"}` for a value that is no question, and status 1
 /// and `{"refused":{..}}` for a document whose events aren't balanced or that has a fault, by `imbalance_value` and
 /// `refusal_value`. Only want of memory refuses.
-pub fn answer_lack(alloc: Global, error: NoBill) -> Result<Answer, AllocError>
-    requires { (owed : Owed Tree WhyNoBill) × Lacks owed error }
-    ensures { (owed : Owed Tree WhyNoBill) (f : Tree → Data) → Lacks owed error
+pub fn answer_no_bill(alloc: Global, error: NoBill) -> Result<Answer, AllocError>
+    requires { (owed : Owed Tree WhyNoBill) × IsWhyNoBill owed error }
+    ensures { (owed : Owed Tree WhyNoBill) (f : Tree → Data) → IsWhyNoBill owed error
         → IfOk result (λ a. reply_of a ≡ reply_to_bill f owed) }
 {
     match error {

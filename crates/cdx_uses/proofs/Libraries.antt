@@ -15,7 +15,7 @@ use Rattle.cdx_schema.specs.Keeping.{kept, items_kept, keep, is_shallow, are_sha
 use Rattle.cdx_schema.specs.JsonReading.{json_denotes}
 use Rattle.cdx_schema.specs.Laws.{HasBillShape, IsShallow, ReadsBackJson}
 use Rattle.cdx_bom.specs.Outputs.{kept_json}
-use Rattle.cdx_uses.specs.Uses.{library_tree, bill_of_library}
+use Rattle.cdx_uses.specs.Uses.{library_tree, library_bill}
 
 library_shaped : (type name version : List ℕ) → HasShape (library_tree type name version) (a_record component)
 unfolding rows
@@ -24,26 +24,26 @@ library_shaped type name version = (refl, (inr tt, (inl (refl, refl), (inl (refl
 one_fits : 1 < 2 ^ 32
 one_fits = omega arith
 
-bill_shaped : (name version : List ℕ) → HasBillShape (bill_of_library name version)
+bill_shaped : (name version : List ℕ) → HasBillShape (library_bill name version)
 unfolding rows list
 bill_shaped name version = (refl, (inr refl, (inr one_fits, (inl (refl, refl), (inl (refl, refl), (inr (tt, (library_shaped (codes "library") name version, tt)), (inl (refl, refl), (inl (refl, refl), (inl (refl, refl), (inl (refl, refl), (inl (refl, refl), (inl (refl, refl), tt))))))))))))
 
-bill_shallow : (name version : List ℕ) → IsShallow (bill_of_library name version)
+bill_shallow : (name version : List ℕ) → IsShallow (library_bill name version)
 unfolding are_shallow is_shallow
 bill_shallow name version = refl
 
-bill_kept : (name version : List ℕ) → keep V1_5 (bill_of_library name version) a_bill ≡ bill_of_library name version
+bill_kept : (name version : List ℕ) → keep V1_5 (library_bill name version) a_bill ≡ library_bill name version
 unfolding kept items_kept rows list
 bill_kept name version = refl
 
 -- the document of the bill denotes the bill
-pub bill_back : ReadsBackJson → (name version : List ℕ) → json_denotes (kept_json V1_5 (bill_of_library name version)) V1_5 ≡ Ok (bill_of_library name version)
+pub bill_back : ReadsBackJson → (name version : List ℕ) → json_denotes (kept_json V1_5 (library_bill name version)) V1_5 ≡ Ok (library_bill name version)
 bill_back law name version =
-    subst (λ (b : Tree). json_denotes (kept_json V1_5 (bill_of_library name version)) V1_5 ≡ Ok b) (bill_kept name version)
-    (law (bill_of_library name version) V1_5 (bill_shaped name version) (bill_shallow name version) refl)
+    subst (λ (b : Tree). json_denotes (kept_json V1_5 (library_bill name version)) V1_5 ≡ Ok b) (bill_kept name version)
+    (law (library_bill name version) V1_5 (bill_shaped name version) (bill_shallow name version) refl)
 
 -- what is written of the bill denotes the bill
-pub made_back : ReadsBackJson → (b : Tree) (name version : List ℕ) → b ≡ bill_of_library name version → (r : Result Value JsonWriteError) → Makes r (λ v. view v ≡ kept_json V1_5 b) → Makes r (λ v. json_denotes (view v) V1_5 ≡ Ok (bill_of_library name version))
+pub made_back : ReadsBackJson → (b : Tree) (name version : List ℕ) → b ≡ library_bill name version → (r : Result Value JsonWriteError) → Makes r (λ v. view v ≡ kept_json V1_5 b) → Makes r (λ v. json_denotes (view v) V1_5 ≡ Ok (library_bill name version))
 made_back law b name version is (Ok v) made = ap (λ x. json_denotes x V1_5) (made ∙ ap (kept_json V1_5) is) ∙ bill_back law name version
 made_back law b name version is (Err (write.Memory m)) made = tt
 made_back law b name version is (Err (write.JsonElementWriteError n)) made = absurd made

@@ -34,7 +34,7 @@ abbrev pub components_alone : Tree → Tree
 components_alone t = items (trees (t ∷ []))
 
 -- the bill of 1.5 with the library of this name and version, and nothing else
-abbrev pub bill_of_library : List ℕ → List ℕ → Tree
-bill_of_library name version = fields bill (trees (
+abbrev pub library_bill : List ℕ → List ℕ → Tree
+library_bill name version = fields bill (trees (
     text (label V1_5) ∷ number 1 ∷ absent ∷ absent ∷ components_alone (library_tree (codes "library") name version)
     ∷ absent ∷ absent ∷ absent ∷ absent ∷ absent ∷ absent ∷ []))

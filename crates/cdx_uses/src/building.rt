@@ -7,7 +7,7 @@ ghost use Rattle.cdx_component.specs.Trees.{component_tree, components_tree};
 ghost use Rattle.cdx_schema.specs.JsonReading.{json_denotes};
 ghost use Rattle.cdx_json.specs.Gives.{Makes};
 ghost use Rattle.cdx_bom.specs.Trees.{bom_tree};
-ghost use Rattle.cdx_uses.specs.Uses.{library_tree, components_alone, bill_of_library};
+ghost use Rattle.cdx_uses.specs.Uses.{library_tree, components_alone, library_bill};
 
 use cdx_bom::Bom;
 use cdx_component::{Component, Components};
@@ -59,7 +59,7 @@ fn alone(alloc: Global, component: Component) -> Result<Components, AllocError>
 
 /// The bill of 1.5 whose one component is the library of this name and version. Only want of memory refuses.
 pub fn library_bill(alloc: Global, name: &str, version: &str) -> Result<Bom, AllocError>
-    ensures { IfOk result (λ bill. bom_tree bill ≡ bill_of_library name.now version.now) }
+    ensures { IfOk result (λ bill. bom_tree bill ≡ library_bill name.now version.now) }
 {
     let component_type = Text::new(alloc, "library")?;
     let name = Text::new(alloc, name)?;
@@ -73,7 +73,7 @@ pub fn library_bill(alloc: Global, name: &str, version: &str) -> Result<Bom, All
 /// The JSON document of that bill. Whoever reads it in 1.5 gets exactly that bill. Only want of memory refuses.
 pub fn library_document(alloc: Global, name: &str, version: &str) -> Result<Value, JsonWriteError>
     ensures { Makes result (λ document.
-        json_denotes (view document) SpecVersion.V1_5 ≡ Ok (bill_of_library name.now version.now)) }
+        json_denotes (view document) SpecVersion.V1_5 ≡ Ok (library_bill name.now version.now)) }
 {
     let bill = match library_bill(alloc, name, version) {
         Ok(bill) => bill,

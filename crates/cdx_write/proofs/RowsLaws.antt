@@ -1,4 +1,4 @@
--- A record that is spelled_events row by row is the schema's spelling of it.
+-- A record that is written row by row is the schema's spelling of it.
 use Rattle.std.proofs.Common.{◌≡◌, ℕ, Bool, true, false, not, ◌&&◌, if◌then◌else◌, List, [], ◌∷◌, ◌++◌, refl, sym, ap, ◌∙◌, append_assoc}
 use Rattle.std.proofs.lemmas.List.{append-nil}
 use Rattle.cdx_events.specs.declared.name.OwnedAttribute.{OwnedAttribute}
@@ -24,11 +24,11 @@ pub events_append : (xs ys : Nodes) → events_of_all (xs ⊕ ys) ≡ events_of_
 events_append no_nodes ys = refl
 events_append (node x xs) ys = ap (λ s. events_of x ++ s) (events_append xs ys) ∙ sym (append_assoc (events_of x) (events_of_all xs) (events_of_all ys))
 
-put_since_is : {A : Type 0} (s w : SpecVersion) (xs : List A) → written_since s w xs ≡ (if knows s w then xs else [])
+is_written_since : {A : Type 0} (s w : SpecVersion) (xs : List A) → written_since s w xs ≡ (if knows s w then xs else [])
 unfolding late_written
-put_since_is V1_3 w xs = refl
-put_since_is V1_4 w xs = refl
-put_since_is V1_5 w xs = refl
+is_written_since V1_3 w xs = refl
+is_written_since V1_4 w xs = refl
+is_written_since V1_5 w xs = refl
 
 -- ---- attributes
 
@@ -44,8 +44,8 @@ none_known false rest = refl
 attribute_row : (x : Spelled) (k : Kind) (r : Row) (t : Tree) (w : SpecVersion) (rest : List OwnedAttribute) → x ≡ r.xml
     → attribute_then (record r { xml = x }) t w rest ≡ (if knows r.since w then row_attributes (record r { xml = x }) (keep w t r.kind) else []) ++ rest
 unfolding attribute_written
-attribute_row (attribute name) k r t w rest e = ap (λ s. s ++ rest) (put_since_is r.since w _)
-attribute_row (attribute_or name n) k r t w rest e = ap (λ s. s ++ rest) (put_since_is r.since w _)
+attribute_row (attribute name) k r t w rest e = ap (λ s. s ++ rest) (is_written_since r.since w _)
+attribute_row (attribute_or name n) k r t w rest e = ap (λ s. s ++ rest) (is_written_since r.since w _)
 attribute_row content k r t w rest e = sym (none_known (knows r.since w) rest)
 attribute_row one_text k r t w rest e = sym (none_known (knows r.since w) rest)
 attribute_row as_cdata k r t w rest e = sym (none_known (knows r.since w) rest)
@@ -103,7 +103,7 @@ nothing true s rest e = ap (λ q. q ++ rest) (sym e)
 nothing false s rest e = refl
 
 something : (since w : SpecVersion) (a s rest : List XmlEvent) → a ≡ s → written_since since w a ++ rest ≡ (if knows since w then s else []) ++ rest
-something since w a s rest e = ap (λ q. q ++ rest) (put_since_is since w a ∙ ap (λ q. if knows since w then q else []) e)
+something since w a s rest e = ap (λ q. q ++ rest) (is_written_since since w a ∙ ap (λ q. if knows since w then q else []) e)
 
 row_is : (x : Spelled) (r : Row) (t : Tree) (w : SpecVersion) (rest : List XmlEvent)
     → row_then (record r { xml = x }) t w rest ≡ (if knows r.since w then row_events x r.kind t w else []) ++ rest
@@ -185,7 +185,7 @@ row_then_more (children name) r t w a b = sym (append_assoc (written_since r.sin
 row_then_more (either_child m n) r t w a b = sym (append_assoc (written_since r.since w (child_written m r.kind t w)) a b)
 row_then_more the_version r t w a b = refl
 
--- Two groups of rows, spelled_events one after the other, are all of them.
+-- Two groups of rows, written one after the other, are all of them.
 pub rows_in_groups : (ts us : Trees) (w : SpecVersion) (rs qs : List Row) → are_rows_of ts rs ≡ true → rows_written (ts ⧺ us) w (rs ++ qs) ≡ rows_written ts w rs ++ rows_written us w qs
 unfolding rows_written
 rows_in_groups none us w [] qs e = refl

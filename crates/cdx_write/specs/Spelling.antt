@@ -1,4 +1,4 @@
--- What a value is spelled_events as in a version: the schema's spelling of what the version keeps.
+-- What a value is written as in a version: the schema's spelling of what the version keeps.
 use Rattle.std.specs.Prelude.{ℕ, List, [], if◌then◌else◌}
 use Rattle.cdx_events.specs.declared.event.XmlEvent.{XmlEvent}
 use Rattle.cdx_events.specs.Nodes.{events_of, events_of_all}
@@ -16,7 +16,7 @@ spelled_events t w tag k = events_of (spelled (keep w t k) w tag k)
 unfoldable pub inner : Tree → SpecVersion → Kind → List XmlEvent
 inner t w k = events_of_all (nodes_of (keep w t k) w k)
 
--- How a value is spelled_events where nothing else names it: under this name, unless its kind has one of its own; without a
+-- How a value is written where nothing else names it: under this name, unless its kind has one of its own; without a
 -- tag, which whatever stands around it writes; or as a document of its own.
 pub data Tag : Type 0 where
   tagged : List ℕ → Tag
@@ -28,6 +28,6 @@ spelled_as (tagged tag) t w k = spelled_events t w tag k
 spelled_as untagged t w k = inner t w k
 spelled_as whole t w k = xml_document (keep w t k) w
 
--- Of what isn't there nothing is spelled_events.
+-- Of what isn't there nothing is written.
 abbrev pub spelling : Tag → Tree → SpecVersion → Kind → List XmlEvent
 spelling tag t w k = if is_absent t then [] else spelled_as tag t w k

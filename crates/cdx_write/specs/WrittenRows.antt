@@ -1,4 +1,4 @@
--- What a record's rows are spelled_events as, one after the other.
+-- What a record's rows are written as, one after the other.
 use Rattle.std.specs.Prelude.{ℕ, List, [], ◌∷◌, ◌++◌, Bool, true, false, if◌then◌else◌}
 use Rattle.cdx_events.specs.declared.name.OwnedAttribute.{OwnedAttribute}
 use Rattle.cdx_events.specs.declared.event.XmlEvent.{XmlEvent}
@@ -22,7 +22,7 @@ attribute_written name k t w = attribute_of name (keep w t k)
 unfoldable pub child_written : List ℕ → Kind → Tree → SpecVersion → List XmlEvent
 child_written name k t w = if is_absent (keep w t k) then [] else spelled_events t w name k
 
--- the same for a child that isn't spelled_events where it is hollow
+-- the same for a child that isn't written where it is hollow
 unfoldable pub filled_written : List ℕ → Kind → Tree → SpecVersion → List XmlEvent
 filled_written name k t w = if is_hollow (keep w t k) then [] else child_written name k t w
 

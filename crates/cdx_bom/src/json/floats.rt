@@ -3,7 +3,7 @@
 ghost use Rattle.serde_json.specs.View.{view, items_view, members_view};
 ghost use Rattle.cdx_schema.specs.JsonReading.{first_float, float_of_items, float_of_members};
 ghost use Rattle.cdx_json.specs.Gives.{Gives};
-ghost use Rattle.cdx_bom.specs.Floats.{nothing, unless_float};
+ghost use Rattle.cdx_bom.specs.Floats.{to_unit, unless_float};
 
 use cdx_json::{at_item, at_member, here};
 use cdx_models::{JsonKind, JsonReadError};
@@ -14,7 +14,7 @@ use std::alloc::Global;
 /// in byte order of their names, depth first.
 #[cycle(floats)]
 pub(crate) fn refuse_floats(alloc: Global, value: &Value) -> Result<(), JsonReadError>
-    ensures { Gives nothing result (unless_float (first_float (view value.now))) }
+    ensures { Gives to_unit result (unless_float (first_float (view value.now))) }
 {
     match value {
         Value::Null => Ok(()),
@@ -34,7 +34,7 @@ pub(crate) fn refuse_floats(alloc: Global, value: &Value) -> Result<(), JsonRead
 
 #[cycle(floats)]
 fn refuse_item_floats(alloc: Global, items: &Vec<Value>) -> Result<(), JsonReadError>
-    ensures { Gives nothing result (unless_float (float_of_items 0 (items_view items.now.items))) }
+    ensures { Gives to_unit result (unless_float (float_of_items 0 (items_view items.now.items))) }
 {
     for (i, item) in items.iter().enumerate() {
         match refuse_floats(alloc, item) {
@@ -47,7 +47,7 @@ fn refuse_item_floats(alloc: Global, items: &Vec<Value>) -> Result<(), JsonReadE
 
 #[cycle(floats)]
 fn refuse_member_floats(alloc: Global, map: &Map<String, Value>) -> Result<(), JsonReadError>
-    ensures { Gives nothing result
+    ensures { Gives to_unit result
         (unless_float (float_of_members (members_view map.now.entries))) }
 {
     for (name, item) in map.iter() {

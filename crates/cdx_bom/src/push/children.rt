@@ -6,11 +6,11 @@ ghost use Rattle.cdx_schema.specs.Table.{rows};
 ghost use Rattle.cdx_schema.specs.XmlReading.{children_from, record_plan};
 ghost use Rattle.cdx_machine.specs.Several.{at_position, found_from};
 ghost use Rattle.cdx_nest_machine.specs.Children.{HasReader};
-ghost use Rattle.cdx_bom.specs.Frames.{nest_reads, bill_readers};
+ghost use Rattle.cdx_bom.specs.Frames.{nest_reader, bill_readers};
 
 use crate::push::frame::BillKind;
 use cdx_events::OwnedName;
-use cdx_machine::Found;
+use cdx_machine::FoundChild;
 use cdx_models::SpecVersion;
 use cdx_nest::NestKind;
 use cdx_nest_machine::ChildReader;
@@ -19,32 +19,32 @@ use cdx_push::LeafKind;
 /// The child of a bill that has the name, where the version knows it. The last of several counts, so none is a second
 /// one.
 #[tactic(auto, unfolding(cdx_machine::proofs::OnRows::on_rows), using(cdx_machine::proofs::OnRows::by_rows))]
-pub(crate) fn find_in_bill(version: SpecVersion, name: &OwnedName) -> Found
+pub(crate) fn find_in_bill(version: SpecVersion, name: &OwnedName) -> FoundChild
     ensures { (ts : Trees)
         → result ≡ found_from 0 (record_plan bill).children ts version name.now.local_name }
 {
     match name.local_name.as_str() {
-        "metadata" => Found::At(0),
-        "components" => Found::At(1),
-        "services" => Found::At(2),
+        "metadata" => FoundChild::At(0),
+        "components" => FoundChild::At(1),
+        "services" => FoundChild::At(2),
         _ => find_relation(version, name),
     }
 }
 
 // The same among the children of the rows from the references on.
 #[tactic(auto, unfolding(cdx_machine::proofs::OnRows::on_rows), using(cdx_machine::proofs::OnRows::by_rows))]
-fn find_relation(version: SpecVersion, name: &OwnedName) -> Found
+fn find_relation(version: SpecVersion, name: &OwnedName) -> FoundChild
     ensures { (ts : Trees)
         → result
         ≡ found_from 3 (children_from 6 (drop 6 (rows bill))) ts version name.now.local_name }
 {
     match name.local_name.as_str() {
-        "externalReferences" => Found::At(3),
-        "dependencies" => Found::At(4),
-        "compositions" => Found::At(5),
-        "properties" => Found::since(SpecVersion::V1_5, version, 6),
-        "signature" => Found::since(SpecVersion::V1_4, version, 7),
-        _ => Found::Unknown,
+        "externalReferences" => FoundChild::At(3),
+        "dependencies" => FoundChild::At(4),
+        "compositions" => FoundChild::At(5),
+        "properties" => FoundChild::since(SpecVersion::V1_5, version, 6),
+        "signature" => FoundChild::since(SpecVersion::V1_4, version, 7),
+        _ => FoundChild::Unknown,
     }
 }
 
@@ -67,10 +67,12 @@ pub(crate) fn bill_child(position: usize) -> ChildReader<LeafKind, BillKind>
 }
 
 /// What reads a child of what stands in a bill.
-pub(crate) fn nest_reads(reads: ChildReader<LeafKind, NestKind>) -> ChildReader<LeafKind, BillKind>
-    ensures { result ≡ nest_reads reads }
+pub(crate) fn nest_reader(
+    reader: ChildReader<LeafKind, NestKind>,
+) -> ChildReader<LeafKind, BillKind>
+    ensures { result ≡ nest_reader reader }
 {
-    match reads {
+    match reader {
         ChildReader::Leaf(kind) => ChildReader::Leaf(kind),
         ChildReader::Nested(kind) => ChildReader::Nested(BillKind::Nest(kind)),
     }

@@ -7,13 +7,13 @@ ghost use Rattle.cdx_bom.specs.declared.push.frame.BillKind.TheVariants.{Bill};
 ghost use Rattle.cdx_bom.specs.declared.push.frame.BillValue.TheVariants.{Nest};
 
 use crate::bom::Bom;
-use crate::push::children::{bill_child, find_in_bill, nest_reads};
+use crate::push::children::{bill_child, find_in_bill, nest_reader};
 use crate::push::putting::{put_nested, put_relation};
 use crate::xml::reading::part::{BillPart, finish_bill};
 use crate::xml::reading::start::begin_bill;
 use cdx_events::OwnedName;
 use cdx_leaf::{End, Rule, Start};
-use cdx_machine::Found;
+use cdx_machine::FoundChild;
 use cdx_models::{SpecVersion, XmlReadError};
 use cdx_nest::{NestFrame, NestKind, NestValue};
 use cdx_nest_machine::{ChildReader, Nested};
@@ -119,7 +119,7 @@ impl Nested for BillFrame {
         }
     }
 
-    fn find(&self, version: SpecVersion, name: &OwnedName) -> Found {
+    fn find(&self, version: SpecVersion, name: &OwnedName) -> FoundChild {
         match self {
             BillFrame::Nest(frame) => frame.find(version, name),
             BillFrame::Bill(_) => find_in_bill(version, name),
@@ -128,7 +128,7 @@ impl Nested for BillFrame {
 
     fn child(&self, position: usize) -> ChildReader<LeafKind, BillKind> {
         match self {
-            BillFrame::Nest(frame) => nest_reads(frame.child(position)),
+            BillFrame::Nest(frame) => nest_reader(frame.child(position)),
             BillFrame::Bill(_) => bill_child(position),
         }
     }

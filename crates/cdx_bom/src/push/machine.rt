@@ -5,7 +5,7 @@ use crate::push::frame::{BillFrame, BillKind, bill_of};
 use cdx_events::XmlEvent;
 use cdx_leaf::Start;
 use cdx_models::XmlReadError;
-use cdx_nest_machine::{Keeps, StackMachine};
+use cdx_nest_machine::{HoldsBegun, StackMachine};
 use cdx_push_reader::RootMachine;
 use cdx_schema::Depth;
 
@@ -31,7 +31,7 @@ impl RootMachine for BillMachine {
     ghost tree = { bom_tree };
 
     ghost holds = { λ m v p d o.
-        ⟦<StackMachine<BillFrame> as Keeps>⟧.holds Bill m.stack v p d o };
+        ⟦<StackMachine<BillFrame> as HoldsBegun>⟧.holds Bill m.stack v p d o };
 
     fn start(opened: &Start<'_>) -> Result<BillMachine, XmlReadError> {
         let depth = Depth {

@@ -3,7 +3,7 @@
 ghost use Rattle.std.specs.Prelude.{◌≡◌, Some};
 ghost use Rattle.cdx_machine.specs.Several.{at_position};
 ghost use Rattle.cdx_nest_machine.specs.Children.{HasReader};
-ghost use Rattle.cdx_component.specs.Frames.{component_reads, pedigree_reads};
+ghost use Rattle.cdx_component.specs.Frames.{component_readers, pedigree_readers};
 
 use crate::frames::ComponentKind;
 use cdx_nest_machine::ChildReader;
@@ -11,8 +11,8 @@ use cdx_push::LeafKind;
 
 /// What reads the child of the position in a component.
 pub(crate) fn component_child(position: usize) -> ChildReader<LeafKind, ComponentKind>
-    requires { HasReader (at_position component_reads) position }
-    ensures { at_position component_reads position ≡ Some result }
+    requires { HasReader (at_position component_readers) position }
+    ensures { at_position component_readers position ≡ Some result }
 {
     match position {
         0 => ChildReader::Leaf(LeafKind::Entity),
@@ -42,8 +42,8 @@ pub(crate) fn component_child(position: usize) -> ChildReader<LeafKind, Componen
 
 /// What reads the child of the position in a pedigree.
 pub(crate) fn pedigree_child(position: usize) -> ChildReader<LeafKind, ComponentKind>
-    requires { HasReader (at_position pedigree_reads) position }
-    ensures { at_position pedigree_reads position ≡ Some result }
+    requires { HasReader (at_position pedigree_readers) position }
+    ensures { at_position pedigree_readers position ≡ Some result }
 {
     match position {
         0 => ChildReader::Nested(ComponentKind::Components),

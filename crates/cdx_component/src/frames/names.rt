@@ -5,107 +5,107 @@ ghost use Rattle.cdx_models.specs.declared.bom.SpecVersion.{SpecVersion};
 ghost use Rattle.cdx_models.specs.Trees.{component, pedigree, Trees};
 ghost use Rattle.cdx_schema.specs.Kinds.{components};
 ghost use Rattle.cdx_schema.specs.Table.{rows};
-ghost use Rattle.cdx_schema.specs.XmlReading.{children_from, record_plan, list_plan};
+ghost use Rattle.cdx_schema.specs.XmlReading.{children_from, record_plan, items_plan};
 ghost use Rattle.cdx_machine.specs.Several.{found_from};
 
 use cdx_events::OwnedName;
-use cdx_machine::Found;
+use cdx_machine::FoundChild;
 use cdx_models::SpecVersion;
 
 /// The child of a component that has the name, where the version knows it. The last of several counts, so none is a second
 /// one.
 #[tactic(auto, unfolding(cdx_machine::proofs::OnRows::on_rows), using(cdx_machine::proofs::OnRows::by_rows))]
-pub(crate) fn find_in_component(version: SpecVersion, name: &OwnedName) -> Found
+pub(crate) fn find_in_component(version: SpecVersion, name: &OwnedName) -> FoundChild
     ensures { (ts : Trees)
         → result ≡ found_from 0 (record_plan component).children ts version name.now.local_name }
 {
     match name.local_name.as_str() {
-        "supplier" => Found::At(0),
-        "author" => Found::At(1),
-        "publisher" => Found::At(2),
+        "supplier" => FoundChild::At(0),
+        "author" => FoundChild::At(1),
+        "publisher" => FoundChild::At(2),
         _ => find_naming(version, name),
     }
 }
 
 // The same among the children of the rows from the group on.
 #[tactic(auto, unfolding(cdx_machine::proofs::OnRows::on_rows), using(cdx_machine::proofs::OnRows::by_rows))]
-fn find_naming(version: SpecVersion, name: &OwnedName) -> Found
+fn find_naming(version: SpecVersion, name: &OwnedName) -> FoundChild
     ensures { (ts : Trees) → result
         ≡ found_from 3 (children_from 6 (drop 6 (rows component))) ts version
         name.now.local_name }
 {
     match name.local_name.as_str() {
-        "group" => Found::At(3),
-        "name" => Found::At(4),
-        "version" => Found::At(5),
-        "description" => Found::At(6),
-        "scope" => Found::At(7),
-        "hashes" => Found::At(8),
+        "group" => FoundChild::At(3),
+        "name" => FoundChild::At(4),
+        "version" => FoundChild::At(5),
+        "description" => FoundChild::At(6),
+        "scope" => FoundChild::At(7),
+        "hashes" => FoundChild::At(8),
         _ => find_marks(version, name),
     }
 }
 
 // The same among the children of the rows from the licenses on.
 #[tactic(auto, unfolding(cdx_machine::proofs::OnRows::on_rows), using(cdx_machine::proofs::OnRows::by_rows))]
-fn find_marks(version: SpecVersion, name: &OwnedName) -> Found
+fn find_marks(version: SpecVersion, name: &OwnedName) -> FoundChild
     ensures { (ts : Trees) → result
         ≡ found_from 9 (children_from 12 (drop 12 (rows component))) ts version
         name.now.local_name }
 {
     match name.local_name.as_str() {
-        "licenses" => Found::At(9),
-        "copyright" => Found::At(10),
-        "cpe" => Found::At(11),
-        "purl" => Found::At(12),
-        "swid" => Found::At(13),
-        "modified" => Found::At(14),
+        "licenses" => FoundChild::At(9),
+        "copyright" => FoundChild::At(10),
+        "cpe" => FoundChild::At(11),
+        "purl" => FoundChild::At(12),
+        "swid" => FoundChild::At(13),
+        "modified" => FoundChild::At(14),
         _ => find_contents(version, name),
     }
 }
 
 // The same among the children of the rows from the pedigree on.
 #[tactic(auto, unfolding(cdx_machine::proofs::OnRows::on_rows), using(cdx_machine::proofs::OnRows::by_rows))]
-fn find_contents(version: SpecVersion, name: &OwnedName) -> Found
+fn find_contents(version: SpecVersion, name: &OwnedName) -> FoundChild
     ensures { (ts : Trees) → result
         ≡ found_from 15 (children_from 18 (drop 18 (rows component))) ts version
         name.now.local_name }
 {
     match name.local_name.as_str() {
-        "pedigree" => Found::At(15),
-        "externalReferences" => Found::At(16),
-        "properties" => Found::At(17),
-        "components" => Found::At(18),
-        "evidence" => Found::At(19),
-        "signature" => Found::since(SpecVersion::V1_4, version, 20),
-        _ => Found::Unknown,
+        "pedigree" => FoundChild::At(15),
+        "externalReferences" => FoundChild::At(16),
+        "properties" => FoundChild::At(17),
+        "components" => FoundChild::At(18),
+        "evidence" => FoundChild::At(19),
+        "signature" => FoundChild::since(SpecVersion::V1_4, version, 20),
+        _ => FoundChild::Unknown,
     }
 }
 
 /// The child of a pedigree that has the name.
 #[tactic(auto, unfolding(cdx_machine::proofs::OnRows::on_rows), using(cdx_machine::proofs::OnRows::by_rows))]
-pub(crate) fn find_in_pedigree(name: &OwnedName) -> Found
+pub(crate) fn find_in_pedigree(name: &OwnedName) -> FoundChild
     ensures { (v : SpecVersion) (ts : Trees)
         → result ≡ found_from 0 (record_plan pedigree).children ts v name.now.local_name }
 {
     match name.local_name.as_str() {
-        "ancestors" => Found::At(0),
-        "descendants" => Found::At(1),
-        "variants" => Found::At(2),
-        "commits" => Found::At(3),
-        "patches" => Found::At(4),
-        "notes" => Found::At(5),
-        _ => Found::Unknown,
+        "ancestors" => FoundChild::At(0),
+        "descendants" => FoundChild::At(1),
+        "variants" => FoundChild::At(2),
+        "commits" => FoundChild::At(3),
+        "patches" => FoundChild::At(4),
+        "notes" => FoundChild::At(5),
+        _ => FoundChild::Unknown,
     }
 }
 
 /// The child of a list of components that has the name: a component alone.
 #[tactic(auto, unfolding(cdx_machine::proofs::OnRows::on_rows), using(cdx_machine::proofs::OnRows::by_rows))]
-pub(crate) fn find_in_list(name: &OwnedName) -> Found
+pub(crate) fn find_in_list(name: &OwnedName) -> FoundChild
     ensures { (v : SpecVersion) (ts : Trees)
-        → result ≡ found_from 0 (list_plan components).children ts v name.now.local_name }
+        → result ≡ found_from 0 (items_plan components).children ts v name.now.local_name }
 {
     if name.local_name.is("component") {
-        return Found::At(0);
+        return FoundChild::At(0);
     }
-    Found::Unknown
+    FoundChild::Unknown
 }

@@ -3,7 +3,7 @@
 ghost use Rattle.std.specs.Prelude.{◌≡◌, ◌<◌, ◌≤◌, Some, OnOk};
 ghost use Rattle.cdx_models.specs.Trees.{component, pedigree, Trees, ◌⧺◌};
 ghost use Rattle.cdx_schema.specs.Kinds.{components};
-ghost use Rattle.cdx_schema.specs.XmlReading.{record_plan, list_plan};
+ghost use Rattle.cdx_schema.specs.XmlReading.{record_plan, items_plan};
 ghost use Rattle.cdx_leaf.specs.Listing.{listing_slots};
 ghost use Rattle.cdx_machine.specs.Several.{at_position, Puts};
 ghost use Rattle.cdx_nest_machine.specs.declared.nested.ChildReader.TheVariants.{Leaf, Nested};
@@ -11,7 +11,7 @@ ghost use Rattle.cdx_push.specs.Leaf.{value_kind as leaf_value_kind, value_tree 
 ghost use Rattle.cdx_component.specs.Trees.{component_tree, component_items};
 ghost use Rattle.cdx_component.specs.PartTrees.{origin_trees, marks_trees, contents_trees};
 ghost use Rattle.cdx_component.specs.ReadingParts.{naming_part, component_part, pedigree_part};
-ghost use Rattle.cdx_component.specs.Frames.{value_kind, value_tree, component_reads, pedigree_reads, reads_of};
+ghost use Rattle.cdx_component.specs.Frames.{value_kind, value_tree, component_readers, pedigree_readers, readers_of};
 ghost use Rattle.cdx_component.specs.declared.component.parts.Origin.{Origin as OriginRows};
 ghost use Rattle.cdx_component.specs.declared.component.parts.Marks.{Marks as MarksRows};
 ghost use Rattle.cdx_component.specs.declared.xml.reading.parts.NamingPart.{NamingPart as NamingRows};
@@ -31,8 +31,8 @@ pub(crate) fn push_component(
     position: usize,
     value: ComponentValue,
 ) -> Result<(), AllocError>
-    requires { at_position (reads_of ListKind) position ≡ Some (Nested (value_kind value)) }
-    ensures { OnOk result (Puts (list_plan components).children position (value_tree value)
+    requires { at_position (readers_of ListKind) position ≡ Some (Nested (value_kind value)) }
+    ensures { OnOk result (Puts (items_plan components).children position (value_tree value)
         (listing_slots component_tree (component_items list.old))
         (listing_slots component_tree (component_items list.new))) }
 {
@@ -45,7 +45,7 @@ pub(crate) fn push_component(
 /// Puts the pedigree or the components of a component into their field.
 #[tactic(auto, unfolding(cdx_machine::proofs::OnRows::on_rows))]
 pub(crate) fn put_part(part: &mut Contents, position: usize, value: ComponentValue)
-    requires { at_position component_reads position ≡ Some (Nested (value_kind value)) }
+    requires { at_position component_readers position ≡ Some (Nested (value_kind value)) }
     ensures { (o : OriginRows) (n : NamingRows) (m : MarksRows)
         → Puts (record_plan component).children position (value_tree value)
         (origin_trees o ⧺ (naming_part n ⧺ (marks_trees m ⧺ contents_trees part.old)))
@@ -61,7 +61,7 @@ pub(crate) fn put_part(part: &mut Contents, position: usize, value: ComponentVal
 /// Puts the components of a pedigree into the field of their position.
 #[tactic(auto, unfolding(cdx_machine::proofs::OnRows::on_rows))]
 pub(crate) fn put_relatives(part: &mut PedigreePart, position: usize, value: ComponentValue)
-    requires { at_position pedigree_reads position ≡ Some (Nested (value_kind value)) }
+    requires { at_position pedigree_readers position ≡ Some (Nested (value_kind value)) }
     ensures { Puts (record_plan pedigree).children position (value_tree value)
         (pedigree_part part.old) (pedigree_part part.new) }
 {
@@ -76,7 +76,7 @@ pub(crate) fn put_relatives(part: &mut PedigreePart, position: usize, value: Com
 /// Puts what a child of a pedigree was read as into its field, where it holds no components.
 #[tactic(auto, unfolding(cdx_machine::proofs::OnRows::on_rows))]
 pub(crate) fn put_pedigree_leaf(part: &mut PedigreePart, position: usize, value: LeafValue)
-    requires { at_position pedigree_reads position ≡ Some (Leaf (leaf_value_kind value)) }
+    requires { at_position pedigree_readers position ≡ Some (Leaf (leaf_value_kind value)) }
     ensures { Puts (record_plan pedigree).children position (leaf_value_tree value)
         (pedigree_part part.old) (pedigree_part part.new) }
 {
@@ -90,7 +90,7 @@ pub(crate) fn put_pedigree_leaf(part: &mut PedigreePart, position: usize, value:
 
 /// Puts what a child of a component was read as into its field, where it holds no components.
 pub(crate) fn put_component_leaf(part: &mut ComponentPart, position: usize, value: LeafValue)
-    requires { at_position component_reads position ≡ Some (Leaf (leaf_value_kind value)) }
+    requires { at_position component_readers position ≡ Some (Leaf (leaf_value_kind value)) }
     ensures { Puts (record_plan component).children position (leaf_value_tree value)
         (component_part part.old) (component_part part.new) }
 {
@@ -108,7 +108,7 @@ pub(crate) fn put_component_leaf(part: &mut ComponentPart, position: usize, valu
 // The same of the first children, whatever the other fields are.
 #[tactic(auto, unfolding(cdx_machine::proofs::OnRows::on_rows))]
 fn put_origin(part: &mut Origin, position: usize, value: LeafValue)
-    requires read { at_position component_reads position ≡ Some (Leaf (leaf_value_kind value)) }
+    requires read { at_position component_readers position ≡ Some (Leaf (leaf_value_kind value)) }
     requires before { position < 3 }
     ensures { (others : Trees) → Puts (record_plan component).children position
         (leaf_value_tree value) (origin_trees part.old ⧺ others) (origin_trees part.new ⧺ others) }
@@ -124,7 +124,7 @@ fn put_origin(part: &mut Origin, position: usize, value: LeafValue)
 // The same of the children from the group to the hashes.
 #[tactic(auto, unfolding(cdx_machine::proofs::OnRows::on_rows))]
 fn put_naming(part: &mut NamingPart, position: usize, value: LeafValue)
-    requires read { at_position component_reads position ≡ Some (Leaf (leaf_value_kind value)) }
+    requires read { at_position component_readers position ≡ Some (Leaf (leaf_value_kind value)) }
     requires after { 3 ≤ position }
     requires before { position < 9 }
     ensures { (o : OriginRows) (others : Trees) → Puts (record_plan component).children position
@@ -145,7 +145,7 @@ fn put_naming(part: &mut NamingPart, position: usize, value: LeafValue)
 // The same of the children from the licenses to the mark of a change.
 #[tactic(auto, unfolding(cdx_machine::proofs::OnRows::on_rows))]
 fn put_marks(part: &mut Marks, position: usize, value: LeafValue)
-    requires read { at_position component_reads position ≡ Some (Leaf (leaf_value_kind value)) }
+    requires read { at_position component_readers position ≡ Some (Leaf (leaf_value_kind value)) }
     requires after { 9 ≤ position }
     requires before { position < 15 }
     ensures { (o : OriginRows) (n : NamingRows) (others : Trees)
@@ -167,7 +167,7 @@ fn put_marks(part: &mut Marks, position: usize, value: LeafValue)
 // The same of the children behind those.
 #[tactic(auto, unfolding(cdx_machine::proofs::OnRows::on_rows))]
 fn put_contents(part: &mut Contents, position: usize, value: LeafValue)
-    requires read { at_position component_reads position ≡ Some (Leaf (leaf_value_kind value)) }
+    requires read { at_position component_readers position ≡ Some (Leaf (leaf_value_kind value)) }
     requires after { 15 ≤ position }
     ensures { (o : OriginRows) (n : NamingRows) (m : MarksRows)
         → Puts (record_plan component).children position (leaf_value_tree value)

@@ -11,14 +11,14 @@ ghost use Rattle.cdx_nest_machine.specs.declared.nested.ChildReader.TheVariants.
 ghost use Rattle.cdx_nest_machine.specs.Children.{HasReader};
 ghost use Rattle.cdx_push.specs.Leaf.{value_kind as leaf_value_kind, value_tree as leaf_value_tree};
 ghost use Rattle.cdx_nest.specs.Trees.{metadata_tree};
-ghost use Rattle.cdx_nest.specs.Frames.{value_kind, value_tree, metadata_reads};
+ghost use Rattle.cdx_nest.specs.Frames.{value_kind, value_tree, metadata_readers};
 ghost use Rattle.cdx_nest.specs.Reading.{metadata_part};
 
 use crate::frames::{NestKind, NestValue};
 use crate::metadata::Metadata;
 use crate::metadata::parts::{Makers, Terms, assemble};
 use cdx_events::OwnedName;
-use cdx_machine::Found;
+use cdx_machine::FoundChild;
 use cdx_nest_machine::ChildReader;
 use cdx_push::{LeafKind, LeafValue};
 
@@ -52,27 +52,27 @@ pub(crate) fn begin_metadata() -> MetadataPart
 
 /// The child of metadata that has the name. The last of several counts, so none is a second one.
 #[tactic(auto, unfolding(cdx_machine::proofs::OnRows::on_rows), using(cdx_machine::proofs::OnRows::by_rows))]
-pub(crate) fn find_in_metadata(name: &OwnedName) -> Found
+pub(crate) fn find_in_metadata(name: &OwnedName) -> FoundChild
     ensures { (v : SpecVersion) (ts : Trees)
         → result ≡ found_from 0 (record_plan metadata).children ts v name.now.local_name }
 {
     match name.local_name.as_str() {
-        "timestamp" => Found::At(0),
-        "tools" => Found::At(1),
-        "authors" => Found::At(2),
-        "component" => Found::At(3),
-        "manufacture" => Found::At(4),
-        "supplier" => Found::At(5),
-        "licenses" => Found::At(6),
-        "properties" => Found::At(7),
-        _ => Found::Unknown,
+        "timestamp" => FoundChild::At(0),
+        "tools" => FoundChild::At(1),
+        "authors" => FoundChild::At(2),
+        "component" => FoundChild::At(3),
+        "manufacture" => FoundChild::At(4),
+        "supplier" => FoundChild::At(5),
+        "licenses" => FoundChild::At(6),
+        "properties" => FoundChild::At(7),
+        _ => FoundChild::Unknown,
     }
 }
 
 /// What reads the child of the position in metadata.
 pub(crate) fn child_in_metadata(position: usize) -> ChildReader<LeafKind, NestKind>
-    requires { HasReader (at_position metadata_reads) position }
-    ensures { at_position metadata_reads position ≡ Some result }
+    requires { HasReader (at_position metadata_readers) position }
+    ensures { at_position metadata_readers position ≡ Some result }
 {
     match position {
         0 => ChildReader::Leaf(LeafKind::Text),
@@ -90,7 +90,7 @@ pub(crate) fn child_in_metadata(position: usize) -> ChildReader<LeafKind, NestKi
 /// Puts the tools or the component into their field.
 #[tactic(auto, unfolding(cdx_machine::proofs::OnRows::on_rows))]
 pub(crate) fn put_metadata_part(part: &mut MetadataPart, position: usize, value: NestValue)
-    requires { at_position metadata_reads position ≡ Some (Nested (value_kind value)) }
+    requires { at_position metadata_readers position ≡ Some (Nested (value_kind value)) }
     ensures { Puts (record_plan metadata).children position (value_tree value)
         (metadata_part part.old) (metadata_part part.new) }
 {
@@ -104,7 +104,7 @@ pub(crate) fn put_metadata_part(part: &mut MetadataPart, position: usize, value:
 /// Puts what the child of the position, which holds neither components nor services, was read as into its field.
 #[tactic(auto, unfolding(cdx_machine::proofs::OnRows::on_rows))]
 pub(crate) fn put_metadata_leaf(part: &mut MetadataPart, position: usize, value: LeafValue)
-    requires { at_position metadata_reads position ≡ Some (Leaf (leaf_value_kind value)) }
+    requires { at_position metadata_readers position ≡ Some (Leaf (leaf_value_kind value)) }
     ensures { Puts (record_plan metadata).children position (leaf_value_tree value)
         (metadata_part part.old) (metadata_part part.new) }
 {

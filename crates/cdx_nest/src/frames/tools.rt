@@ -12,7 +12,7 @@ ghost use Rattle.cdx_push.specs.Leaf.{value_kind as leaf_value_kind, value_tree 
 ghost use Rattle.cdx_component.specs.Trees.{components_tree};
 ghost use Rattle.cdx_service.specs.Trees.{services_tree};
 ghost use Rattle.cdx_nest.specs.Trees.{tools_tree};
-ghost use Rattle.cdx_nest.specs.Frames.{value_kind, value_tree, tools_reads};
+ghost use Rattle.cdx_nest.specs.Frames.{value_kind, value_tree, tools_readers};
 ghost use Rattle.cdx_nest.specs.Reading.{tools_part, object_slots};
 
 use crate::frames::{NestKind, NestValue};
@@ -20,7 +20,7 @@ use crate::tools::Tools;
 use cdx_component::Components;
 use cdx_events::{List, OwnedName};
 use cdx_leaf::End;
-use cdx_machine::Found;
+use cdx_machine::FoundChild;
 use cdx_models::{SpecVersion, Tool, XmlReadError};
 use cdx_nest_machine::ChildReader;
 use cdx_push::{LeafKind, LeafValue};
@@ -49,22 +49,22 @@ pub(crate) fn begin_tools(alloc: Global) -> ToolsPart
 
 /// The child of tools that the version knows by the name: services and components are known from 1.5 on.
 #[tactic(auto, unfolding(cdx_machine::proofs::OnRows::on_rows), using(cdx_machine::proofs::OnRows::by_rows))]
-pub(crate) fn find_in_tools(version: SpecVersion, name: &OwnedName) -> Found
+pub(crate) fn find_in_tools(version: SpecVersion, name: &OwnedName) -> FoundChild
     ensures { (ts : Trees)
         → result ≡ found_from 0 tools_plan.children ts version name.now.local_name }
 {
     match name.local_name.as_str() {
-        "tool" => Found::At(0),
-        "services" => Found::since(SpecVersion::V1_5, version, 1),
-        "components" => Found::since(SpecVersion::V1_5, version, 2),
-        _ => Found::Unknown,
+        "tool" => FoundChild::At(0),
+        "services" => FoundChild::since(SpecVersion::V1_5, version, 1),
+        "components" => FoundChild::since(SpecVersion::V1_5, version, 2),
+        _ => FoundChild::Unknown,
     }
 }
 
 /// What reads the child of the position in tools.
 pub(crate) fn child_in_tools(position: usize) -> ChildReader<LeafKind, NestKind>
-    requires { HasReader (at_position tools_reads) position }
-    ensures { at_position tools_reads position ≡ Some result }
+    requires { HasReader (at_position tools_readers) position }
+    ensures { at_position tools_readers position ≡ Some result }
 {
     match position {
         0 => ChildReader::Leaf(LeafKind::Tool),
@@ -80,7 +80,7 @@ pub(crate) fn put_tool(
     position: usize,
     value: LeafValue,
 ) -> Result<(), AllocError>
-    requires { at_position tools_reads position ≡ Some (Leaf (leaf_value_kind value)) }
+    requires { at_position tools_readers position ≡ Some (Leaf (leaf_value_kind value)) }
     ensures { OnOk result (Puts tools_plan.children position (leaf_value_tree value)
         (tools_part part.old) (tools_part part.new)) }
 {
@@ -92,7 +92,7 @@ pub(crate) fn put_tool(
 
 /// Puts the services or the components into their field.
 pub(crate) fn put_tools_part(part: &mut ToolsPart, position: usize, value: NestValue)
-    requires { at_position tools_reads position ≡ Some (Nested (value_kind value)) }
+    requires { at_position tools_readers position ≡ Some (Nested (value_kind value)) }
     ensures { Puts tools_plan.children position (value_tree value) (tools_part part.old)
         (tools_part part.new) }
 {

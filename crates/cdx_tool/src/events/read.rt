@@ -4,7 +4,7 @@ ghost use Rattle.std.specs.Prelude.{◌≡◌, ◌+◌, option_map, IfOk, IsNone
 ghost use Rattle.serde_json.specs.Data.{object, member, no_members, string};
 ghost use Rattle.serde_json.specs.View.{view};
 ghost use Rattle.cdx_tool.specs.LoneMember.{lone_member};
-ghost use Rattle.cdx_request.specs.EventReading.{name_at, members_of_name, attribute_meant, if_attributes, mark_of, members_of_start, start_parts, start_event, end_event, event_of, events_of};
+ghost use Rattle.cdx_request.specs.EventReading.{name_at, members_of_name, attribute_meant, if_attributes, mark_of, members_of_start, start_parts, start_event, end_event, event_of, events_in};
 
 use crate::part::{
     RequestPart, count_members, count_named, has_member, lone_member, read_parts, read_text_if,
@@ -198,7 +198,7 @@ impl RequestPart for Event {
 
 // The events of an array, if each item is one.
 pub(crate) fn events_if(alloc: Global, value: &Value) -> Result<Option<Items<Event>>, AllocError>
-    ensures { IfOk result (λ o. o ≡ events_of (view value.now)) }
+    ensures { IfOk result (λ o. o ≡ events_in (view value.now)) }
 {
     match value.as_array() {
         None => Ok(None),

@@ -2,7 +2,7 @@
 
 ghost use Rattle.std.specs.Prelude.{◌≡◌, [], IfOk, OnOk};
 ghost use Rattle.serde_json.specs.View.{view, members_view};
-ghost use Rattle.cdx_request.specs.EventValues.{with_optional_text, with_name, attribute_value, with_attributes, one_text, event_value, events_value};
+ghost use Rattle.cdx_request.specs.EventValues.{with_optional_text, with_name, attribute_value, with_attributes, only_text, event_value, events_value};
 
 use crate::json_item::{JsonItem, items_to_json};
 use cdx_events::{
@@ -74,7 +74,7 @@ fn put_attributes(
 
 // An object with this text alone.
 fn text_to_json(alloc: Global, name: &str, text: &str) -> Result<Value, AllocError>
-    ensures { IfOk result (λ v. view v ≡ one_text name.now text.now) }
+    ensures { IfOk result (λ v. view v ≡ only_text name.now text.now) }
 {
     let mut map = Map::new(alloc);
     put(&mut map, alloc, name, Value::try_from_str(alloc, text)?)?;

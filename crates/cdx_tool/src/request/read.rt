@@ -6,7 +6,7 @@ ghost use Rattle.serde_json.specs.View.{view};
 ghost use Rattle.std.specs.Prelude.{codes};
 ghost use Rattle.cdx_bom.specs.Docs.{IsDoc, hops_of};
 ghost use Rattle.cdx_request.specs.Requests.{sent_of, doc_of, doc_in, hops_at, asked_of, request_if, request_of};
-ghost use Rattle.cdx_request.specs.EventReading.{events_of};
+ghost use Rattle.cdx_request.specs.EventReading.{events_in};
 ghost use Rattle.cdx_tool.specs.Reads.{ReadsOwed, ReadsIf, IsRequest, sent_in, asked_in, form_in, hop_in};
 
 use super::sent::{Asked, Sent};
@@ -135,7 +135,7 @@ pub fn take_doc(alloc: Global, value: Value) -> Result<Doc, RequestError>
 /// comes exactly where the value is no such array. It doesn't matter whether the events are balanced, so `Unbalanced`
 /// never comes.
 pub fn events_from_json(alloc: Global, value: &Value) -> Result<List<XmlEvent>, RequestError>
-    ensures { ReadsIf (events_of (view value.now)) result }
+    ensures { ReadsIf (events_in (view value.now)) result }
 {
     match events_if(alloc, value)? {
         None => Err(RequestError::Shape),

@@ -7,7 +7,7 @@ use Rattle.cdx_component.specs.Trees.{component_tree, components_tree, pedigree_
 use Rattle.cdx_ways.specs.Ways.{behind_step}
 use Rattle.cdx_inventory.specs.Listing.{listed_in, items_listed}
 use Rattle.cdx_inventory.specs.Entries.{entry, all_told}
-use Rattle.cdx_inventory.specs.Walks.{below}
+use Rattle.cdx_inventory.specs.Walks.{entries_below}
 use Rattle.cdx_inventory.proofs.Walks.{component_listed, pedigree_listed, components_listed, adds_same, adds_both, adds_one, adds_end, adds_absent, adds_row, cut_back, remains_next, remains_none}
 use Rattle.cdx_inventory.proofs.listing.+listing.Goals as goal
 
@@ -66,8 +66,8 @@ list_components_row-returns-in_ok-list_components-in-Some t c =
 pub list_components-loop-i-init : goal.list_components-loop-i-init
 list_components-loop-i-init t c = (
   refl,
-  ap (λ xs. all_told c.args.entries.now ++ below c.args.path.now.items (items_listed (each component_tree xs) (a_record component) 0)) c.as_slice-item-items.ensures
-      ∙ ap (λ xs. all_told c.args.entries.now ++ below c.args.path.now.items xs) (sym (components_listed c.args.held.now)),
+  ap (λ xs. all_told c.args.entries.now ++ entries_below c.args.path.now.items (items_listed (each component_tree xs) (a_record component) 0)) c.as_slice-item-items.ensures
+      ∙ ap (λ xs. all_told c.args.entries.now ++ entries_below c.args.path.now.items xs) (sym (components_listed c.args.held.now)),
 )
 
 pub list_components-loop-i-preserved : goal.list_components-loop-i-preserved
@@ -79,7 +79,7 @@ list_components-loop-i-preserved t c =
     let listed = c.in_ok-list_component.ensures in (
       cut_back p c.enter_item.new.path.items c.list_component.new.path.items c.leave.new.path.items (to_item i) c.steps_in-depth.result entered listed.0 c.steps_in-depth.ensures c.leave.ensures,
       remains_next component_tree (a_record component) p c.as_slice-item-items.result.now i x c.loop-i.entries c.list_component.new.entries _ c.loop-i-test.true c.item-item.is
-          (listed.1 ∙ ap (λ z. all_told c.loop-i.entries ++ below z (listed_in (component_tree x) (a_record component))) entered) c.loop-i.invariant.1,
+          (listed.1 ∙ ap (λ z. all_told c.loop-i.entries ++ entries_below z (listed_in (component_tree x) (a_record component))) entered) c.loop-i.invariant.1,
     )
 
 pub list_components-returns : goal.list_components-returns

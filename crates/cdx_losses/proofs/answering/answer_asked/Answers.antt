@@ -10,8 +10,8 @@ use Rattle.cdx_losses.proofs.answering.answer_asked.Goals as goal
 pub answer_request-requires : goal.answer_request-requires
 answer_request-requires c = let q = c.in-Ok.ensures in (q.0, q.2)
 
-pub answer_lack-requires : goal.answer_lack-requires
-answer_lack-requires c = let o = request_of (view c.args.value) in (asked_for o, misreads o c.in-Err.error c.in-Err.ensures)
+pub answer_no_bill-requires : goal.answer_no_bill-requires
+answer_no_bill-requires c = let o = request_of (view c.args.value) in (asked_for o, misreads o c.in-Err.error c.in-Err.ensures)
 
 pub returns-in-Ok : goal.returns-in-Ok
 returns-in-Ok c =
@@ -21,4 +21,4 @@ returns-in-Ok c =
 pub returns-in-Err : goal.returns-in-Err
 returns-in-Err c =
     let o = request_of (view c.args.value) in
-    subst (λ (r : Reply). IfOk c.answer_lack.result (λ a. reply_of a ≡ r)) (reply_in o) (c.answer_lack.ensures (asked_for o) (answer_in o) (misreads o c.in-Err.error c.in-Err.ensures))
+    subst (λ (r : Reply). IfOk c.answer_no_bill.result (λ a. reply_of a ≡ r)) (reply_in o) (c.answer_no_bill.ensures (asked_for o) (answer_in o) (misreads o c.in-Err.error c.in-Err.ensures))

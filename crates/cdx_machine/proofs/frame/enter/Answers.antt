@@ -12,14 +12,14 @@ returns-in_err-child-in-At g c = λ is d s.
     let f = g.F.Frame in
     let m = g.F.Child.Machines in
     let h = found_at (f.slots c.args.part.now) c.args.version c.args.name.now.local_name f.plan.children c.find.result c.in-At.position c.in-At.is c.find.ensures in
-    rw (q.1, q.2) (enters_fault (reads_boxed f.plan m.position_of m.holds) f.plan (f.slots c.args.part.now) c.args.version c.args.element.now c.args.place d c.args.name.now c.args.attributes.now s c.in_err-child-in-At.field-0.0 c.in-At.position h (c.in_err-child-in-At.ensures.starts h.row.kind (runs_kind f.plan m.kinds g.met.F.Frame.kinds m.position_of m.holds m.tree c.in-At.position h.row h.is_at) d s))
+    rw (q.1, q.2) (enters_fault (reads_boxed f.plan m.position_of m.holds) f.plan (f.slots c.args.part.now) c.args.version c.args.element.now c.args.place d c.args.name.now c.args.attributes.now s c.in_err-child-in-At.field-0.0 c.in-At.position h (c.in_err-child-in-At.ensures.starts h.row.kind (runs_kind f.plan m.kinds g.met.F.Frame.child_kinds m.position_of m.holds m.tree c.in-At.position h.row h.is_at) d s))
 
 pub returns-in_ok-boxed-in-At : goal.returns-in_ok-boxed-in-At
 returns-in_ok-boxed-in-At g c = λ is d s.
     let f = g.F.Frame in
     let m = g.F.Child.Machines in
     let h = found_at (f.slots c.args.part.now) c.args.version c.args.name.now.local_name f.plan.children c.find.result c.in-At.position c.in-At.is c.find.ensures in
-    child_starts f.plan m.kinds g.met.F.Frame.kinds m.position_of m.holds m.tree (f.slots c.args.part.now) c.args.version c.args.place d c.args.name.now c.args.attributes.now s c.in-At.position c.in_ok-child-in-At.child c.in_ok-boxed-in-At.field-0 h c.in_ok-boxed-in-At.ensures (c.in_ok-child-in-At.ensures.runs (there_is f.plan m.kinds g.met.F.Frame.kinds m.position_of m.holds m.tree c.in-At.position h.row h.is_at)) c.in_ok-child-in-At.ensures.starts
+    child_starts f.plan m.kinds g.met.F.Frame.child_kinds m.position_of m.holds m.tree (f.slots c.args.part.now) c.args.version c.args.place d c.args.name.now c.args.attributes.now s c.in-At.position c.in_ok-child-in-At.child c.in_ok-boxed-in-At.field-0 h c.in_ok-boxed-in-At.ensures (c.in_ok-child-in-At.ensures.runs (there_is f.plan m.kinds g.met.F.Frame.child_kinds m.position_of m.holds m.tree c.in-At.position h.row h.is_at)) c.in_ok-child-in-At.ensures.starts
 
 pub returns-then-not-skips : goal.returns-then-not-skips
 returns-then-not-skips g c = λ is d s.

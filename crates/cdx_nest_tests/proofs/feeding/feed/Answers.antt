@@ -4,7 +4,7 @@ use Rattle.cdx_schema.specs.Depths.{depth_of}
 use Rattle.cdx_leaf.proofs.Whole.{start_is}
 use Rattle.cdx_machine.specs.Heard.{Answers, IsListening}
 use Rattle.cdx_nest.specs.Frames.{nest_kind, value_tree}
-use Rattle.cdx_nest.specs.NestSteps.{IsMore, as_steps}
+use Rattle.cdx_nest.specs.NestSteps.{IsMore, step_or_fault}
 use Rattle.cdx_nest.specs.declared.frames.NestStep.{NestStep}
 use Rattle.cdx_push_tests.proofs.Fed.{fed_first, fed_never, fed_begins, fed_on}
 use Rattle.cdx_nest_tests.proofs.Hears.{heard}
@@ -47,5 +47,5 @@ events-preserved c =
     let e = c.in-Ok-More.ensures in
     let more = c.in-Ok-More.field-0-is in
     let listens = e.listening (subst (λ (r : NestStep). IsMore (Ok r)) (sym more) tt) in
-    let answers = subst (λ (r : NestStep). Answers (heard n) value_tree m.version (nest_kind m.kind) m.place (depth_of m.depth) c.place-place.result (f.events ++ c.in-Some.event.now ∷ []) (as_steps (Ok r))) more (e.answers f.events f.were_heard at begins) in
+    let answers = subst (λ (r : NestStep). Answers (heard n) value_tree m.version (nest_kind m.kind) m.place (depth_of m.depth) c.place-place.result (f.events ++ c.in-Some.event.now ∷ []) (step_or_fault (Ok r))) more (e.answers f.events f.were_heard at begins) in
     record { fed = fed_on (heard m) (IsListening m.machine) m.place c.events.reader c.next.new.self c.in-Some.event.now t.0 t.1 f (heard n) (IsListening n.machine) n.place e.kept.2 listens (e.heard f.events f.were_heard at begins (λ h. h)) answers.answers.1 }

@@ -6,7 +6,7 @@ use Rattle.serde_json.proofs.Views.{Entry, view-Array, view-Object}
 use Rattle.cdx_models.specs.declared.errors.Step.TheVariants.{Member}
 use Rattle.cdx_schema.specs.JsonReading.{first_float, float_of_members}
 use Rattle.cdx_json.specs.Gives.{Fails, Gives, IsWithin}
-use Rattle.cdx_bom.specs.Floats.{nothing, unless_float}
+use Rattle.cdx_bom.specs.Floats.{to_unit, unless_float}
 use Rattle.cdx_bom.proofs.Floats.{number_free, number_float, items_go, items_stop, items_end, members_go, members_stop, members_end}
 use Rattle.cdx_bom.proofs.json.floats.+floats.Goals as goal
 
@@ -41,12 +41,12 @@ refuse_floats-returns-else-is_f64 t c =
 pub refuse_floats-returns-in-Array : goal.refuse_floats-returns-in-Array
 unfolding first_float
 refuse_floats-returns-in-Array t c =
-    subst (λ d. Gives nothing c.refuse_item_floats.result (unless_float (first_float d))) (sym (ap view c.in-Array.is ∙ view-Array c.in-Array.items)) c.refuse_item_floats.ensures
+    subst (λ d. Gives to_unit c.refuse_item_floats.result (unless_float (first_float d))) (sym (ap view c.in-Array.is ∙ view-Array c.in-Array.items)) c.refuse_item_floats.ensures
 
 pub refuse_floats-returns-in-Object : goal.refuse_floats-returns-in-Object
 unfolding first_float
 refuse_floats-returns-in-Object t c =
-    subst (λ d. Gives nothing c.refuse_member_floats.result (unless_float (first_float d))) (sym (ap view c.in-Object.is ∙ view-Object c.in-Object.map)) c.refuse_member_floats.ensures
+    subst (λ d. Gives to_unit c.refuse_member_floats.result (unless_float (first_float d))) (sym (ap view c.in-Object.is ∙ view-Object c.in-Object.map)) c.refuse_member_floats.ensures
 
 pub refuse_item_floats-returns-in-Err : goal.refuse_item_floats-returns-in-Err
 refuse_item_floats-returns-in-Err t c =
