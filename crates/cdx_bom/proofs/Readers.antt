@@ -2,7 +2,6 @@
 use Rattle.std.proofs.Common.{◌≡◌, ℕ, zero, suc, Option, Some, None, refl, sym, ap}
 use Rattle.std.specs.Prelude.{option_map}
 use Rattle.cdx_machine.specs.Several.{at_position}
-use Rattle.cdx_machine.proofs.Several.{some_same}
 use Rattle.cdx_nest_machine.specs.declared.nested.ChildReader.{ChildReader}
 use Rattle.cdx_nest_machine.specs.declared.nested.ChildReader.TheVariants.{Leaf, Nested}
 use Rattle.cdx_push.specs.declared.kinds.LeafKind.{LeafKind}
@@ -13,6 +12,7 @@ use Rattle.cdx_nest.specs.Frames as nests
 use Rattle.cdx_bom.specs.Frames.{nest_reader, bill_readers, reader_of, IsNest}
 use Rattle.cdx_bom.specs.declared.push.frame.BillKind.{BillKind}
 use Rattle.cdx_bom.specs.declared.push.frame.BillKind.TheVariants.{Nest, Bill}
+use Rattle.cdx_schema.proofs.Basics.{some_same}
 
 -- ---- of what stands in a bill
 

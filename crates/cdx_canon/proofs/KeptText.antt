@@ -16,9 +16,9 @@ use Rattle.cdx_schema.specs.JsonSpelling.{jspell}
 use Rattle.cdx_schema.specs.Membership.{Never, HasShape, HaveShape, FieldsHaveShape, IsRecordOf, may_lack}
 use Rattle.cdx_schema.specs.Laws.{HasBillShape}
 use Rattle.cdx_schema.proofs.JsonBack.{and_true}
-use Rattle.cdx_schema.proofs.TrippedOf.{more_is}
 use Rattle.cdx_bom.proofs.Names.{no_more, lacks, all_lack, fields_lack, both_hold}
 use Rattle.cdx_canon.specs.Canon.{labelled, KeepsText}
+use Rattle.cdx_schema.proofs.Basics.{more_is}
 
 -- ---- trees that hold no bill
 

@@ -12,7 +12,6 @@ use Rattle.cdx_schema.specs.Keeping.{is_shallow, are_shallow}
 use Rattle.cdx_schema.specs.Trips.{settled, items_settled, rows_settled, list_settled}
 use Rattle.cdx_schema.specs.Membership.{IsOfAll, AreOfAll, AreFieldsAll, IsListKind, IsRecordOf, may_lack}
 use Rattle.cdx_schema.proofs.Alike.{settled_there, settled_more}
-use Rattle.cdx_schema.proofs.TrippedOf.{more_is}
 use Rattle.std.specs.Prelude.{Some, Ok}
 use Rattle.serde_json.specs.Read.{read}
 use Rattle.serde_json.specs.Written.{compact_text}
@@ -33,6 +32,7 @@ use Rattle.cdx_canon.specs.Canon.{labelled, plain, canon, OneText, TextReadsBack
 use Rattle.cdx_canon.proofs.KeptText.{labelled_whole, shaped_whole}
 use Rattle.cdx_schema.proofs.JsonBack.{and_true}
 use Rattle.cdx_schema.proofs.Sound.{both}
+use Rattle.cdx_schema.proofs.Basics.{more_is, some_same}
 
 -- ---- settling twice
 
@@ -253,9 +253,6 @@ TextsRead = (b : Tree) → HasBillShape b → IsShallow b → read (canon b) ≡
 
 pub text_reads_back : TextsRead → TextReadsBack
 text_reads_back reads b is s = (jspell (plain b) V1_5 a_bill, reads b is s, plain_denoted b is s, ap (λ x. compact_text (jspell x V1_5 a_bill)) (plain_twice b is))
-
-some_same : {A : Type 0} {x y : A} → Some x ≡ Some y → x ≡ y
-some_same e = cc
 
 pub one_text : TextsRead → OneText
 one_text reads b c is is' s s' =

@@ -6,7 +6,6 @@ use Rattle.serde_json.specs.Data.{Data, string}
 use Rattle.serde_json.specs.View.{items_of}
 use Rattle.serde_json.specs.Written.{has_float, items_have_float, members_have_float}
 use Rattle.cdx_models.specs.Trees.{Tree}
-use Rattle.cdx_schema.proofs.Clear.{neither}
 use Rattle.cdx_request.specs.Requests.{Misread, not_json, shape, unbalanced, document_in_json}
 use Rattle.cdx_request.specs.Replies.{Reply, line_of, limit, reply_to_misread}
 use Rattle.cdx_tool.specs.declared.answer.Answer.{Answer}
@@ -17,6 +16,7 @@ use Rattle.cdx_tool.specs.Asks.{WhyNoBill, misread, bill_refused, bill_in, AsksF
 use Rattle.cdx_inventory.specs.declared.entry.Entry.{Entry}
 use Rattle.cdx_inventory.specs.Entries.{Told, told, all_told}
 use Rattle.cdx_inventory.specs.Stock.{Command, if_version, entry_value, components_answer, answer_to, reply_to_command}
+use Rattle.cdx_schema.proofs.Basics.{neither}
 
 -- ---- the answer
 

@@ -20,7 +20,6 @@ use Rattle.cdx_leaf.specs.declared.taken.Taken.TheVariants as answers
 use Rattle.cdx_leaf.specs.Reading.{Stands, behind_end}
 use Rattle.cdx_leaf.specs.Children.{Met, nothing, second, found, meet, ReadsChild, TakesChild}
 use Rattle.cdx_leaf.specs.Groups.{rows_plan, size}
-use Rattle.cdx_leaf.specs.NextChild.{is_unknown}
 use Rattle.cdx_leaf.proofs.Records.{first_fails}
 
 -- ---- fields of groups
@@ -296,8 +295,3 @@ ended_of_two (r ∷ rs) qs (more t ts) us v el p long = by (name_owed r.xml) (la
 -- what a group answers
 abbrev pub answer : Taken → Result Taken XmlReadError
 answer b = Ok b
-
-pub is_known : (b : Taken) → is_unknown b ≡ false → answer b ≡ Ok answers.Unknown → ⊥
-is_known answers.Read h e = absurd cc
-is_known answers.Unknown h e = absurd cc
-is_known answers.Second h e = absurd cc

@@ -1,6 +1,5 @@
 -- Records that stand in records of their own kind: they count their depth, and plain functions that call one another read them.
 use Rattle.std.proofs.Common.{◌≡◌, ℕ, suc, ◌+◌, ◌-◌, ◌≤◌, List, Result, Ok, Err, sym, ap, ◌∙◌, subst, arith}
-use Rattle.std.specs.Prelude.{if◌then◌else◌}
 use Rattle.cdx_events.specs.declared.name.OwnedName.{OwnedName}
 use Rattle.cdx_events.specs.declared.name.OwnedAttribute.{OwnedAttribute}
 use Rattle.cdx_events.specs.declared.name.Namespace.{Namespace}
@@ -15,10 +14,8 @@ use Rattle.cdx_schema.specs.Depth.{Depth}
 use Rattle.cdx_schema.specs.Kinds.{a_record}
 use Rattle.cdx_schema.specs.Table.{rows}
 use Rattle.cdx_schema.specs.Nodes.{places_of}
-use Rattle.cdx_schema.specs.XmlReading.{Plan, record_plan, attributes_read, in_force, xread, ended}
-use Rattle.cdx_leaf.specs.declared.taken.Taken.{Taken}
+use Rattle.cdx_schema.specs.XmlReading.{record_plan, attributes_read, in_force, xread, ended}
 use Rattle.cdx_leaf.specs.Attribute.{GivesAt}
-use Rattle.cdx_leaf.specs.Children.{TakesChild}
 use Rattle.cdx_leaf.specs.Each.{each_node, plan_step}
 use Rattle.cdx_leaf.specs.Fault.{FailsAt}
 use Rattle.cdx_leaf.specs.Reading.{Stands, Reads, behind_end}
@@ -26,10 +23,6 @@ use Rattle.cdx_leaf.proofs.Records.{first_fails}
 use Rattle.cdx_leaf.proofs.Whole.{so_far, finished, IsNested, start_is, begun_fails, finished_as, seen_whole}
 
 -- ---- children at one depth
-
--- what holds at every depth holds at this one
-pub at_depth : (d : Depth) (before now : Trees) (old new : Cursor) (v : SpecVersion) (plan : Plan) (n : OwnedName) (a : List OwnedAttribute) (r : Result Taken XmlReadError) → TakesChild before now old new v plan (λ d. d) n a r → TakesChild before now old new v plan (λ _. d) n a r
-at_depth d before now old new v plan n a r takes e ns p nodes rest st = takes d ns p nodes rest st
 
 -- ---- a record that counts its depth
 

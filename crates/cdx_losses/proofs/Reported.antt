@@ -9,7 +9,6 @@ use Rattle.serde_json.specs.Written.{has_float, items_have_float}
 use Rattle.cdx_models.specs.declared.bom.SpecVersion.{SpecVersion}
 use Rattle.cdx_models.specs.Path.{pointer}
 use Rattle.cdx_models.specs.Trees.{Tree}
-use Rattle.cdx_schema.proofs.Clear.{neither}
 use Rattle.cdx_schema.specs.Results.{◌>>=◌}
 use Rattle.cdx_schema.specs.Trips.{Hop}
 use Rattle.cdx_schema.specs.Roads.{Refusal, version_missing, denotes, fits_all}
@@ -38,6 +37,7 @@ use Rattle.cdx_losses.specs.Told.{told, all_told}
 use Rattle.cdx_losses.specs.declared.loss.Loss.{Loss}
 use Rattle.cdx_losses.specs.declared.loss.Reason.{Reason}
 use Rattle.cdx_losses.specs.declared.serving.Command.{Command}
+use Rattle.cdx_schema.proofs.Basics.{neither}
 
 -- ---- the answer
 

@@ -18,8 +18,8 @@ use Rattle.cdx_schema.specs.Laws.{HasBillShape, xml_count}
 use Rattle.cdx_schema.proofs.JsonBack.{and_true}
 use Rattle.cdx_schema.proofs.KeptOf.{IsField, of_there}
 use Rattle.cdx_schema.proofs.KeptTwice.{stays}
-use Rattle.cdx_schema.proofs.ReadOfXml.{some_same, none_some}
-use Rattle.cdx_schema.proofs.TrippedOf.{more_is, bare_of}
+use Rattle.cdx_schema.proofs.ReadOfXml.{none_some}
+use Rattle.cdx_schema.proofs.TrippedOf.{bare_of}
 use Rattle.cdx_schema.proofs.Commute.{bare_kept}
 use Rattle.cdx_schema.proofs.BareTwice.{bare_twice}
 use Rattle.cdx_schema.proofs.XmlLaw.{absent_is}
@@ -29,6 +29,7 @@ use Rattle.cdx_losses.specs.Losses.{reason_in, changed_by, is_tripped, is_skippe
 use Rattle.cdx_losses.specs.Laws.{StrikesRoads}
 use Rattle.cdx_losses.proofs.Members.{is_steady, steady_after}
 use Rattle.cdx_losses.proofs.Cut.{cut, items_cut, rows_cut, own_struck}
+use Rattle.cdx_schema.proofs.Basics.{more_is, some_same}
 
 -- ---- what trips leave, counted to two
 

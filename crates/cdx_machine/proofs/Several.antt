@@ -1,18 +1,12 @@
 -- Several machines in a row.
-use Rattle.std.proofs.Common.{◌≡◌, ℕ, zero, suc, ◌-◌, List, [], ◌∷◌, Option, Some, None, refl, ap, ◌∙◌, subst, arith}
+use Rattle.std.proofs.Common.{◌≡◌, ℕ, zero, suc, ◌-◌, List, [], ◌∷◌, Some, None, refl, ap, ◌∙◌, subst, arith}
 use Rattle.cdx_events.specs.declared.event.XmlEvent.{XmlEvent}
 use Rattle.cdx_models.specs.declared.bom.SpecVersion.{SpecVersion}
 use Rattle.cdx_schema.specs.Depth.{Depth}
 use Rattle.cdx_machine.specs.Begun.{Begun}
 use Rattle.cdx_machine.specs.Machines.{Holding, CanStep}
 use Rattle.cdx_machine.specs.Several.{at_position}
-
-pub some_same : {A : Type 0} {x y : A} → Some x ≡ Some y → x ≡ y
-some_same {A = A} {x = x} h = ap (λ (o : Option A). the o) h
-  where
-    the : Option A → A
-    the None = x
-    the (Some z) = z
+use Rattle.cdx_schema.proofs.Basics.{some_same}
 
 -- The first of a row stands at 0.
 pub first_is : {A : Type 0} (x y : A) (xs : List A) (i : ℕ) → i ≡ 0 → at_position (x ∷ xs) i ≡ Some y → x ≡ y

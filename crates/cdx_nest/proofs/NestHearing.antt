@@ -15,7 +15,6 @@ use Rattle.cdx_schema.specs.XmlReading.{xread}
 use Rattle.cdx_machine.specs.Heard.{Hears, OpensAs}
 use Rattle.cdx_machine.specs.Machines.{CanStep, CanYield, RefusesBefore, StepsAs}
 use Rattle.cdx_machine.proofs.Heard.{answers_open, opens_fail}
-use Rattle.cdx_machine.proofs.Several.{some_same}
 use Rattle.cdx_machine.proofs.Yielding.{ended_with, ends_with, can_yield}
 use Rattle.cdx_machine.specs.Begun.{Begun}
 use Rattle.cdx_machine.specs.declared.frame.Inside.{Inside}
@@ -29,6 +28,7 @@ use Rattle.cdx_push.specs.contracts.leaf.LeafLeaves.TheImpl.{ghosts}
 use Rattle.cdx_nest.specs.declared.frames.NestFrame.{NestFrame}
 use Rattle.cdx_nest.specs.declared.frames.NestKind.{NestKind}
 use Rattle.cdx_nest.specs.Frames.{nest_kind, frame_kind, frame_fields, reader_of}
+use Rattle.cdx_schema.proofs.Basics.{some_same}
 
 -- what the frames and the machine of a leaf kind keep of the events of an element that is read as this
 abbrev pub held : NestKind → List (Waiting NestFrame) → Open NestFrame → SpecVersion → Inside (LeafChild Leaf) → SpecVersion → ℕ → Depth → Begun → Type 0

@@ -19,7 +19,6 @@ use Rattle.cdx_machine.specs.Machines.{RefusesBefore, IsQuiet, Holding, CanStep,
 use Rattle.cdx_machine.specs.Frames.{OpensChild, EntersAt}
 use Rattle.cdx_machine.specs.Several.{at_position, kinds_of}
 use Rattle.cdx_machine.proofs.Names.{FindsAt}
-use Rattle.cdx_machine.proofs.Several.{some_same}
 use Rattle.cdx_machine.proofs.Frames.{enters_fault}
 use Rattle.cdx_nest_machine.specs.declared.nested.ChildReader.{ChildReader}
 use Rattle.cdx_nest_machine.specs.declared.nested.ChildReader.TheVariants.{Leaf}
@@ -27,6 +26,7 @@ use Rattle.cdx_nest_machine.specs.declared.stack.LeafChild.{LeafChild}
 use Rattle.cdx_nest_machine.specs.Children.{child_kind, ReadsEach}
 use Rattle.cdx_nest_machine.specs.Forms.{plan_of}
 use Rattle.cdx_nest_machine.specs.Frames.{leaf_keeps, leaf_holds}
+use Rattle.cdx_schema.proofs.Basics.{some_same}
 
 -- ---- kinds by position
 

@@ -7,10 +7,10 @@ use Rattle.cdx_schema.specs.XmlReading.{Child}
 use Rattle.cdx_schema.specs.declared.depth.Depth.{Depth as Counts}
 use Rattle.cdx_schema.specs.Depths.{depth_of}
 use Rattle.cdx_machine.specs.Several.{at_position, kinds_of}
-use Rattle.cdx_machine.proofs.Several.{some_same}
 use Rattle.cdx_nest_machine.specs.declared.nested.ChildReader.{ChildReader}
 use Rattle.cdx_nest_machine.specs.declared.nested.ChildReader.TheVariants.{Leaf, Nested}
 use Rattle.cdx_nest_machine.specs.Forms.{inner_of}
+use Rattle.cdx_schema.proofs.Basics.{some_same}
 
 -- the kind that is read
 abbrev pub child_kind : {L S : Type 0} → (L → Kind) → (S → Kind) → ChildReader L S → Kind

@@ -23,7 +23,8 @@ use Rattle.cdx_schema.specs.Roads.{Doc, of_json, of_xml, version_missing, denote
 use Rattle.cdx_request.specs.EventValues.{with_optional_text, with_name, attribute_value, with_attributes, event_value}
 use Rattle.cdx_request.specs.Replies.{doc_value}
 use Rattle.cdx_request.specs.Served.{NoFloats, NoFloatRefused}
-use Rattle.cdx_schema.proofs.Clear.{neither, spelling_clear}
+use Rattle.cdx_schema.proofs.Clear.{spelling_clear}
+use Rattle.cdx_schema.proofs.Basics.{neither}
 
 -- ---- events
 

@@ -13,8 +13,8 @@ use Rattle.cdx_schema.specs.Keeping.{kept, items_kept, rows_kept, kept_record, b
 use Rattle.cdx_schema.specs.Trips.{bare, items_bare, rows_bare, settled, items_settled, rows_settled, list_settled, is_hollow, is_passed_over, field_after, none_is_absent, no_child}
 use Rattle.cdx_schema.proofs.XmlLaw.{is_list_kind}
 use Rattle.cdx_schema.proofs.Sound.{sound_xml, all_sound, sound, sound_parts, whole_kind}
-use Rattle.cdx_schema.proofs.TrippedOf.{more_is}
 use Rattle.cdx_schema.proofs.Commute.{no_child_row, filled_whole}
+use Rattle.cdx_schema.proofs.Basics.{more_is}
 
 pub settled_more : (k : Kind) (t : Tree) (ts : Trees) → list_settled k (more t ts) ≡ items (more t ts)
 settled_more a_tools t ts = refl

@@ -13,8 +13,9 @@ use Rattle.cdx_schema.proofs.Sound.{sound_xml, all_sound, sound, sound_parts, wh
 use Rattle.cdx_schema.specs.Suppliers.{is_entity, is_entity_kind, is_supplier, unsupplied, items_unsupplied, rows_unsupplied}
 use Rattle.cdx_schema.proofs.XmlLaw.{same_either}
 use Rattle.cdx_schema.proofs.KeptOf.{IsField}
-use Rattle.cdx_schema.proofs.TrippedOf.{more_is, bare_of}
+use Rattle.cdx_schema.proofs.TrippedOf.{bare_of}
 use Rattle.cdx_schema.proofs.Commute.{no_child_row, filled_whole}
+use Rattle.cdx_schema.proofs.Basics.{more_is}
 
 bare_there : (t : Tree) → is_absent (bare t) ≡ is_absent t
 unfolding bare

@@ -16,9 +16,10 @@ use Rattle.cdx_schema.specs.Membership.{HasShape, FieldsHaveShape}
 use Rattle.cdx_schema.proofs.NoFloats.{no_float}
 use Rattle.cdx_schema.proofs.KeptTwice.{stays}
 use Rattle.cdx_schema.proofs.JsonBack.{Held}
-use Rattle.cdx_schema.proofs.HeldKept.{json_law, held_kept, fits_first, below}
+use Rattle.cdx_schema.proofs.HeldKept.{json_law, held_kept, fits_first}
 use Rattle.cdx_schema.proofs.XmlLaw.{tripped}
 use Rattle.cdx_schema.proofs.BillLaw.{bill_xback, IsSerial}
+use Rattle.cdx_schema.proofs.Basics.{lt_true}
 
 pub reads_json : (b : Tree) (w : SpecVersion) → HasShape b a_bill → fits w b a_bill ≡ true → is_shallow b top ≡ true
     → json_denotes (jspell (keep w b a_bill) w a_bill) w ≡ Ok (keep w b a_bill)
@@ -37,7 +38,7 @@ number_is : (t : Tree) → ((t ≡ absent) × (false ≡ true)) ⊎ HasShape t a
 number_is t (inl h) = absurd (true≢false (sym h.1))
 number_is absent (inr h) = absurd (true≢false h)
 number_is (text x) (inr h) = absurd (true≢false h)
-number_is (number x) (inr h) = (x, refl, below x (2 ^ 32) h)
+number_is (number x) (inr h) = (x, refl, lt_true x (2 ^ 32) h)
 number_is (boolean x) (inr h) = absurd (true≢false h)
 number_is (items x) (inr h) = absurd (true≢false h.0)
 number_is (fields n x) (inr h) = absurd (true≢false h.0)

@@ -1,5 +1,5 @@
 -- A value without a first float holds none, and so does no JSON spelling.
-use Rattle.std.proofs.Common.{◌≡◌, ℕ, suc, List, [], ◌∷◌, Bool, false, ◌||◌, Option, Some, None, refl, sym}
+use Rattle.std.proofs.Common.{◌≡◌, ℕ, suc, List, [], ◌∷◌, false, Option, Some, None, refl, sym}
 use Rattle.std.proofs.lemmas.Option.{none-some}
 use Rattle.serde_json.specs.Data.{unsigned, negative, float, Data, number, array, object, Items, no_items, item, Members, no_members, member}
 use Rattle.serde_json.specs.Written.{has_float, items_have_float, members_have_float}
@@ -9,9 +9,7 @@ use Rattle.cdx_schema.specs.JsonReading.{first_float, float_of_items, float_of_m
 use Rattle.cdx_schema.specs.JsonSpelling.{jspell}
 use Rattle.cdx_schema.specs.Laws.{SpellsNoFloat}
 use Rattle.cdx_schema.proofs.NoFloats.{no_float, or_none}
-
-pub neither : (a b : Bool) → a ≡ false → b ≡ false → (a || b) ≡ false
-neither a b p q = rw (p, q) refl
+use Rattle.cdx_schema.proofs.Basics.{neither}
 
 not_behind : (s : Step) (o : Option (List Step)) → behind s o ≡ None → o ≡ None
 not_behind s None h = refl

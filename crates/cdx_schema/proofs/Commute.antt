@@ -19,7 +19,7 @@ use Rattle.cdx_schema.proofs.Sound.{free_kind, sound_xml, all_sound, sound, soun
 use Rattle.std.specs.Prelude.{◌||◌}
 use Rattle.cdx_models.specs.Versions.{is_first}
 use Rattle.cdx_schema.proofs.KeptOf.{IsField, kept_of, absent_kept, and_alike}
-use Rattle.cdx_schema.proofs.TrippedOf.{more_is}
+use Rattle.cdx_schema.proofs.Basics.{more_is}
 
 -- ---- what a version keeps is hollow where the record was
 

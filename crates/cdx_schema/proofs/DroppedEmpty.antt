@@ -1,5 +1,5 @@
 -- Where each attached text, license id and license name stands in the spelling without empty texts, none is empty.
-use Rattle.std.specs.Prelude.{◌≡◌, refl, ℕ, suc, ◌+◌, List, [], ◌∷◌, ◌++◌, Bool, true, false, not, ◌&&◌, ◌||◌, if◌then◌else◌, ◌⊎◌, Option, Some, None, codes}
+use Rattle.std.specs.Prelude.{◌≡◌, refl, ℕ, suc, ◌+◌, List, [], ◌∷◌, Bool, true, false, not, ◌&&◌, ◌||◌, if◌then◌else◌, ◌⊎◌, Option, Some, None, codes}
 use Rattle.std.proofs.Common.{true≢false, inl, inr}
 use Rattle.std.specs.Str.{bytes_eq}
 use mathlib.Core.Path.{ap, sym, ◌∙◌, subst}
@@ -18,7 +18,7 @@ use Rattle.cdx_schema.specs.XmlReading.{Plan, find_child, record_plan, plan_of_l
 use Rattle.cdx_schema.specs.XmlSpelling.{nodes_of, items_nodes, fields_nodes, row_nodes, wrapped, lone, tag_of, each_under}
 use Rattle.cdx_events.specs.EmptyTexts.{lean, lean_nodes}
 use Rattle.cdx_schema.specs.Dropped.{earlier, record_hole, child_hole, node_hole, hole, holes, has_empty, have_empty, any_empty}
-use Rattle.cdx_schema.proofs.JsonBack.{if_true, and_true, both_false, same_name, Held, AllHeld, FieldsHeld, RowHeld}
+use Rattle.cdx_schema.proofs.JsonBack.{if_true, and_true, same_name, Held, AllHeld, FieldsHeld, RowHeld}
 use Rattle.cdx_schema.proofs.XmlBack.{row_written}
 use Rattle.cdx_schema.proofs.XmlLaw.{is_plain, tag_plain, optional_text}
 use Rattle.cdx_schema.proofs.JsonBack.{one_text_of}
@@ -35,6 +35,7 @@ use Rattle.cdx_schema.proofs.DroppedLaw.{EmptyHasOne, drops_texts}
 use Rattle.cdx_schema.proofs.DroppedFull.{both_none, lean_append, Found, RowFinds, RowsFind, record_finds, is_clear, clear_list, clear_need, held_or, one_row, ItemFinds, list_finds, tool_finds, tools_find, full_has_none}
 use Rattle.cdx_events.specs.Nodes.{Node, Nodes, no_nodes, node}
 use Rattle.cdx_schema.specs.Nodes.{places, ◌⊕◌}
+use Rattle.cdx_schema.proofs.Basics.{neither}
 
 -- ---- trees without texts that have to be there
 
@@ -115,16 +116,16 @@ rows_solid : (w : SpecVersion) (d : Depth) (ts : Trees) (rs : List Row) → Rows
 unfolding has_empty
 rows_solid w d none rs s h = refl
 rows_solid w d (more t ts) [] s h = absurd (true≢false h)
-rows_solid w d (more t ts) (r ∷ rs) s h = both_false (has_empty t) (have_empty ts) (row_solid w d t r h.0 (s.0 d t)) (rows_solid w d ts rs s.1 h.1)
+rows_solid w d (more t ts) (r ∷ rs) s h = neither (has_empty t) (have_empty ts) (row_solid w d t r h.0 (s.0 d t)) (rows_solid w d ts rs s.1 h.1)
 
 fields_solid : (w : SpecVersion) (d : Depth) (n : Name) (ts : Trees) → RowsSolid w (rows n) → no_one_text (rows n) ≡ true → FieldsHeld w d ts (rows n) → has_empty (fields n ts) ≡ false
 unfolding has_empty
-fields_solid w d n ts s c h = both_false (any_empty ts (rows n)) (have_empty ts) (any_none ts (rows n) c) (rows_solid w d ts (rows n) s h)
+fields_solid w d n ts s c h = neither (any_empty ts (rows n)) (have_empty ts) (any_none ts (rows n) c) (rows_solid w d ts (rows n) s h)
 
 all_solid : (w : SpecVersion) (k : Kind) → KindSolid w k → (d : Depth) (ts : Trees) → AllHeld w d ts k → have_empty ts ≡ false
 unfolding has_empty
 all_solid w k s d none h = refl
-all_solid w k s d (more t ts) h = both_false (has_empty t) (have_empty ts) (s d t h.0) (all_solid w k s d ts h.1)
+all_solid w k s d (more t ts) h = neither (has_empty t) (have_empty ts) (s d t h.0) (all_solid w k s d ts h.1)
 
 record_solid : (w : SpecVersion) (n : Name) → RowsSolid w (rows n) → no_one_text (rows n) ≡ true → KindSolid w (a_record n)
 record_solid w n s c d (items x) h = absurd (true≢false h.0)
@@ -195,7 +196,7 @@ hollow_rows w d (more t ts) [] c e h = absurd (true≢false h)
 hollow_rows w d (more t ts) (r ∷ rs) c e h =
     let a : ((is_child r.xml || is_bare r.kind) ≡ true) × (is_frame rs ≡ true) = and_true (is_child r.xml || is_bare r.kind) (is_frame rs) c in
     let b : ((not (is_child r.xml) || is_absent t) ≡ true) × (no_child ts rs ≡ true) = and_true (not (is_child r.xml) || is_absent t) (no_child ts rs) e in
-    both_false (has_empty t) (have_empty ts) (by (is_child r.xml) a.0 b.0) (hollow_rows w d ts rs a.1 b.1 h.1)
+    neither (has_empty t) (have_empty ts) (by (is_child r.xml) a.0 b.0) (hollow_rows w d ts rs a.1 b.1 h.1)
   where
     by : (z : Bool) → (z || is_bare r.kind) ≡ true → (not z || is_absent t) ≡ true → has_empty t ≡ false
     by true f g = absent_solid t g
@@ -209,7 +210,7 @@ hollow_solid : (w : SpecVersion) (d : Depth) (t : Tree) (k : Kind) → is_frame_
 unfolding has_empty is_hollow
 hollow_solid w d (fields n ts) (a_record m) c e h =
     let a : (is_frame (rows m) ≡ true) × (no_one_text (rows m) ≡ true) = and_true (is_frame (rows m)) (no_one_text (rows m)) c in
-    both_false (any_empty ts (rows n)) (have_empty ts) (any_none ts (rows n) (subst (λ (j : Name). no_one_text (rows j) ≡ true) (sym h.0) a.1))
+    neither (any_empty ts (rows n)) (have_empty ts) (any_none ts (rows n) (subst (λ (j : Name). no_one_text (rows j) ≡ true) (sym h.0) a.1))
     (hollow_rows w (inside n d) ts (rows n) (subst (λ (j : Name). is_frame (rows j) ≡ true) (sym h.0) a.0) e h.2)
 hollow_solid w d (fields n ts) _ c e h = absurd (true≢false (sym c))
 hollow_solid w d absent k c e h = absurd (true≢false h)
@@ -220,7 +221,7 @@ hollow_solid w d (items x) k c e h = absurd (true≢false (sym e))
 
 passed_solid : (w : SpecVersion) (d : Depth) (t : Tree) (k : Kind) → is_passed_over t ≡ true → Held w d t k → has_empty t ≡ false
 unfolding has_empty is_hollow rows
-passed_solid w d (fields contact ts) k e h = both_false (any_empty ts (rows contact)) (have_empty ts) (any_none ts (rows contact) refl) (hollow_rows w d ts (rows contact) refl e h.2)
+passed_solid w d (fields contact ts) k e h = neither (any_empty ts (rows contact)) (have_empty ts) (any_none ts (rows contact) refl) (hollow_rows w d ts (rows contact) refl e h.2)
 passed_solid w d _ k e h = absurd (true≢false (sym e))
 
 -- ---- the tree, from its element without a hole
@@ -378,7 +379,7 @@ RowsBack w n ts = (plan : Plan) (p : ℕ) → all_right (rows n) ≡ true → Ro
 
 full_of : (n : Name) (ts : Trees) → no_one_text (rows n) ≡ true → have_empty ts ≡ false → has_empty (fields n ts) ≡ false
 unfolding has_empty
-full_of n ts c h = both_false (any_empty ts (rows n)) (have_empty ts) (any_none ts (rows n) c) h
+full_of n ts c h = neither (any_empty ts (rows n)) (have_empty ts) (any_none ts (rows n) c) h
 
 record_back : (w : SpecVersion) (d : Depth) (n : Name) (ts : Trees) → FieldsHeld w d ts (rows n) → RowsBack w n ts → RecordBack w n ts
 unfolding rows list
@@ -455,7 +456,7 @@ mutual
   items_back w d none k tag plan p h i e = refl
   items_back w d (more t ts) k tag plan p h i e =
       let s : (holes (lean_nodes (if is_passed_over t then no_nodes else lone (wrapped t w tag k (nodes_of t w k)))) w p plan ≡ None) × ((q : ℕ) × (holes (lean_nodes (items_nodes ts w (each_under tag) k)) w q plan ≡ None)) = lean_split (if is_passed_over t then no_nodes else lone (wrapped t w tag k (nodes_of t w k))) (items_nodes ts w (each_under tag) k) w plan p e in
-      both_false (has_empty t) (have_empty ts) (item_back w d t k tag plan p (is_passed_over t) refl h.0 (i t h.0) (λ a b c. back w d t k h.0 a b c) s.0) (items_back w d ts k tag plan s.1.0 h.1 i s.1.1)
+      neither (has_empty t) (have_empty ts) (item_back w d t k tag plan p (is_passed_over t) refl h.0 (i t h.0) (λ a b c. back w d t k h.0 a b c) s.0) (items_back w d ts k tag plan s.1.0 h.1 i s.1.1)
 
   pub tree_items : (w : SpecVersion) (d : Depth) (t : Tree) → ItemsBack w d t
   tree_items w d (fields n s) l plan p h c i e = absurd (true≢false h.0)
@@ -468,7 +469,7 @@ mutual
   rows_back w d (more t ts) (r ∷ rs) plan p c h i e =
       let s : (holes (lean_nodes (row_written r t w)) w p plan ≡ None) × ((q : ℕ) × (holes (lean_nodes (fields_nodes ts w rs)) w q plan ≡ None)) = lean_split (row_written r t w) (fields_nodes ts w rs) w plan p e in
       let g : (is_right r ≡ true) × (all_right rs ≡ true) = and_true (is_right r) (all_right rs) c in
-      both_false (has_empty t) (have_empty ts) (written_back w d plan t r p g.0 i.0 h.0 (λ j a b z. back w d t r.kind j a b z) (tree_items w d t) s.0) (rows_back w d ts rs plan s.1.0 g.1 h.1 i.1 s.1.1)
+      neither (has_empty t) (have_empty ts) (written_back w d plan t r p g.0 i.0 h.0 (λ j a b z. back w d t r.kind j a b z) (tree_items w d t) s.0) (rows_back w d ts rs plan s.1.0 g.1 h.1 i.1 s.1.1)
 
 pub empty_has_one : EmptyHasOne
 unfolding hole rows

@@ -19,7 +19,7 @@ use Rattle.cdx_schema.specs.XmlSpelling.{nodes_of, items_nodes, fields_nodes, ro
 use Rattle.cdx_events.specs.EmptyTexts.{lean, lean_nodes}
 use Rattle.cdx_schema.specs.Dropped.{earlier, record_hole, child_hole, node_hole, hole, holes, has_empty, have_empty, any_empty}
 use Rattle.cdx_schema.proofs.JsonBack.{is_in, distinct, same_itself, or_false, apart_first, is_in_first, and_true, same_name, Held, AllHeld, FieldsHeld, RowHeld}
-use Rattle.cdx_schema.proofs.XmlBack.{child_names, all_child_names, find_row, finds_first, passes_first, plan_of, append_lists, names_append, row_written, child_names_distinct}
+use Rattle.cdx_schema.proofs.XmlBack.{child_names, all_child_names, find_row, finds_first, passes_first, plan_of, names_append, row_written, child_names_distinct}
 use Rattle.cdx_schema.proofs.XmlLaw.{is_plain, tag_plain, finds_list, finds_tool, not_false, optional_text}
 use Rattle.cdx_schema.proofs.JsonBack.{one_text_of, IsTextHeld, IsNumberHeld}
 use Rattle.cdx_schema.proofs.HeldKept.{held_kept, fits_first}
@@ -32,6 +32,7 @@ use Rattle.cdx_schema.specs.Kinds.{components, services}
 use Rattle.cdx_schema.proofs.DroppedLaw.{FullHasNone}
 use Rattle.cdx_events.specs.Nodes.{Node, Nodes, cdata, characters, element, no_nodes, node}
 use Rattle.cdx_schema.specs.Nodes.{places, ◌⊕◌}
+use Rattle.cdx_schema.proofs.Basics.{append_lists}
 
 -- ---- nodes without a hole
 

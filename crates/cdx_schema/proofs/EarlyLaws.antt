@@ -15,7 +15,8 @@ use Rattle.cdx_schema.specs.Early.{IsFrontFault, short, place_of, unbalanced, th
 use Rattle.cdx_schema.proofs.Local.{stands_inside}
 use Rattle.cdx_schema.proofs.FaultPlaces.{refuses_by_faults}
 use Rattle.cdx_schema.proofs.EarlyBalance.{goes_or_not, balanced_or_not, all_go, balanced_goes, ends_broken, breaks_at, breaks_there, one_place}
-use Rattle.cdx_schema.proofs.EarlyFaults.{lt_true, lt_false, Inside, inside_of, front_inside, inside_front, front_there, front_clean, front_one, inside_longer}
+use Rattle.cdx_schema.proofs.EarlyFaults.{lt_false, Inside, inside_of, front_inside, inside_front, front_there, front_clean, front_one, inside_longer}
+use Rattle.cdx_schema.proofs.Basics.{lt_true}
 
 -- ---- places
 

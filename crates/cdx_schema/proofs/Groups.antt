@@ -29,6 +29,7 @@ use Rattle.cdx_events.specs.declared.name.Namespace.{Namespace}
 use Rattle.cdx_events.specs.Nodes.{Node, Nodes, no_nodes, node}
 use Rattle.cdx_schema.specs.Nodes.{places, places_of, ◌⊕◌}
 use Rattle.cdx_schema.proofs.JsonBack.{same_name, other_name}
+use Rattle.cdx_schema.proofs.Basics.{append_lists}
 
 -- how many fields
 abbrev pub count : Trees → ℕ
@@ -74,17 +75,13 @@ kept_in_groups w l none us (r ∷ rs) ss h = grind arith
 kept_in_groups w l (more t ts) us [] ss h = grind arith
 kept_in_groups w l (more t ts) us (r ∷ rs) ss h = ap (more (if knows r.since w then kept w l t r.kind else absent)) (kept_in_groups w l ts us rs ss (suc_inj h))
 
-append_attributes : {A : Type 0} (x a b : List A) → x ++ (a ++ b) ≡ (x ++ a) ++ b
-append_attributes [] a b = refl
-append_attributes (e ∷ es) a b = ap (e ∷◌) (append_attributes es a b)
-
 -- The attributes and the children of a front and a back stand one after the other.
 pub attributes_in_groups : (ts us : Trees) (rs ss : List Row) (w : SpecVersion) → count ts ≡ length rs
     → attributes_in (ts ⧺ us) (rs ++ ss) w ≡ attributes_in ts rs w ++ attributes_in us ss w
 attributes_in_groups none us [] ss w h = refl
 attributes_in_groups none us (r ∷ rs) ss w h = grind arith
 attributes_in_groups (more t ts) us [] ss w h = grind arith
-attributes_in_groups (more t ts) us (r ∷ rs) ss w h = rw (attributes_in_groups ts us rs ss w (suc_inj h)) (append_attributes _ (attributes_in ts rs w) (attributes_in us ss w))
+attributes_in_groups (more t ts) us (r ∷ rs) ss w h = rw (attributes_in_groups ts us rs ss w (suc_inj h)) (append_lists _ (attributes_in ts rs w) (attributes_in us ss w))
 
 pub append_nodes : (x a b : Nodes) → x ⊕ (a ⊕ b) ≡ (x ⊕ a) ⊕ b
 append_nodes no_nodes a b = refl

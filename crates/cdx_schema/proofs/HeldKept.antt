@@ -1,8 +1,7 @@
 -- What a version keeps of a bill that fits it, the version holds; so it is read back.
-use Rattle.std.specs.Prelude.{◌≡◌, refl, ℕ, ◌<◌, ◌^◌, List, [], ◌∷◌, Bool, true, false, not, ◌&&◌, nat_lt, if◌then◌else◌, ◌⊎◌, Ok}
+use Rattle.std.specs.Prelude.{◌≡◌, refl, ℕ, ◌^◌, List, [], ◌∷◌, Bool, true, false, not, ◌&&◌, if◌then◌else◌, ◌⊎◌, Ok}
 use Rattle.std.proofs.Common.{true≢false, inl, inr}
 use mathlib.Core.Path.{ap, sym, ◌∙◌, subst}
-use native.Mathlib.Omega.{arith}
 use Rattle.cdx_models.specs.declared.bom.SpecVersion.{SpecVersion}
 use Rattle.cdx_models.specs.declared.bom.SpecVersion.TheVariants.{V1_3, V1_4, V1_5}
 use Rattle.cdx_models.specs.Versions.{knows, is_label, is_first, label}
@@ -18,6 +17,7 @@ use Rattle.cdx_schema.specs.Keeping.{kept, items_kept, rows_kept, kept_text, kep
 use Rattle.cdx_schema.specs.Membership.{HasShape, HaveShape, FieldsHaveShape, IsTextOf, AnyText, IsNumberOf, IsRecordOf, may_lack}
 use Rattle.cdx_schema.proofs.KeptTwice.{stays}
 use Rattle.cdx_schema.proofs.JsonBack.{required_held, IsNumberHeld, Held, AllHeld, FieldsHeld, RowHeld, json_back, and_true, not_true}
+use Rattle.cdx_schema.proofs.Basics.{lt_true}
 
 pub label_is : (v : SpecVersion) → is_label (label v) ≡ true
 label_is V1_3 = refl
@@ -30,11 +30,8 @@ text_held w l d a_reference s h = tt
 text_held w l d a_version s h = label_is l
 text_held w l d _ s h = absurd (true≢false h)
 
-pub below : (n m : ℕ) → n < m → nat_lt n m ≡ true
-below n m h = grind arith
-
 pub number_held : (k : Kind) (n : ℕ) → IsNumberOf k n → IsNumberHeld k n
-number_held a_number n h = below n (2 ^ 32) h
+number_held a_number n h = lt_true n (2 ^ 32) h
 number_held _ n h = absurd (true≢false h)
 
 pub held_there : (w : SpecVersion) (d : Depth) (x : Tree) (k : Kind) → Held w d x k → is_absent x ≡ false

@@ -27,6 +27,7 @@ use Rattle.cdx_schema.specs.RowLaws.{old_names}
 use Rattle.cdx_schema.specs.Membership.{Never, IsRecordOf, IsBooleanOf, IsListKind}
 use Rattle.cdx_models.specs.Entries.{is_flow, entry_of}
 use Rattle.cdx_schema.specs.Held.{held_kind}
+use Rattle.cdx_schema.proofs.Basics.{more_is, neither}
 
 -- ---- what an object has under a name
 
@@ -101,15 +102,12 @@ pub not_true : (a : Bool) → not a ≡ true → a ≡ false
 not_true true h = absurd (true≢false (sym h))
 not_true false h = refl
 
-pub both_false : (a b : Bool) → a ≡ false → b ≡ false → (a || b) ≡ false
-both_false a b p q = rw (p, q) refl
-
 pub not_in_append : (q : List ℕ) (xs ys : List (List ℕ)) → is_in q (xs ++ ys) ≡ false → (is_in q xs ≡ false) × (is_in q ys ≡ false)
 not_in_append q [] ys h = (refl, h)
 not_in_append q (x ∷ xs) ys h =
     let p : (bytes_eq q x ≡ false) × (is_in q (xs ++ ys) ≡ false) = or_false (bytes_eq q x) (is_in q (xs ++ ys)) h in
     let r : (is_in q xs ≡ false) × (is_in q ys ≡ false) = not_in_append q xs ys p.1 in
-    (both_false (bytes_eq q x) (is_in q xs) p.0 r.0, r.1)
+    (neither (bytes_eq q x) (is_in q xs) p.0 r.0, r.1)
 
 -- What stands in one part of a list of distinct names doesn't stand in the other.
 pub apart_at : (b : Bool) (q x : List ℕ) (xs ys : List (List ℕ)) → bytes_eq q x ≡ b → distinct ((x ∷ xs) ++ ys) ≡ true → (b || is_in q xs) ≡ true → (is_in q xs ≡ true → is_in q ys ≡ false) → is_in q ys ≡ false
@@ -151,7 +149,7 @@ abbrev mutual
 -- the names of a record are among those of the kind that it is of
 pub own_name : (q : List ℕ) (k : Kind) (n : Name) → IsOwnRecord k n → is_in q (own_names k) ≡ false → is_in q (names (rows n)) ≡ false
 unfolding rows
-own_name q a_license_identifier n (inl e) h = subst (λ (m : Name). is_in q (names (rows m)) ≡ false) (sym e) (both_false (bytes_eq q (codes "id")) false (or_false (bytes_eq q (codes "id")) _ h).0 refl)
+own_name q a_license_identifier n (inl e) h = subst (λ (m : Name). is_in q (names (rows m)) ≡ false) (sym e) (neither (bytes_eq q (codes "id")) false (or_false (bytes_eq q (codes "id")) _ h).0 refl)
 own_name q a_license_identifier n (inr e) h = subst (λ (m : Name). is_in q (names (rows m)) ≡ false) (sym e) (or_false (bytes_eq q (codes "id")) _ h).1
 own_name q (a_record m) n e h = subst (λ (l : Name). is_in q (names (rows l)) ≡ false) (sym e.0) (ap (is_in q) (sym e.1) ∙ h)
 own_name q _ n e h = absurd (true≢false e)
@@ -598,9 +596,6 @@ own_back_license w d d' (more b (more i us)) h owns =
 
 -- ---- a flow's classification
 
-pub more_same : {t u : Tree} {ts us : Trees} → t ≡ u → ts ≡ us → more t ts ≡ more u us
-more_same p q = rw (p, q) refl
-
 pub fields_same : {n m : Name} {ts us : Trees} → n ≡ m → ts ≡ us → fields n ts ≡ fields m us
 fields_same p q = rw (p, q) refl
 
@@ -610,7 +605,7 @@ two_texts_of w d none r s a b c a' b' c' h = absurd (true≢false h)
 two_texts_of w d (more t us) r s a b c a' b' c' h =
     let e : (f : List ℕ) × (t ≡ text f) = held_text w d t (subst (λ (k : Kind). Held w d t k) c (required_held w d t r a b h.0)) in
     let f : (g : List ℕ) × (us ≡ one (text g)) = one_text_of w d us s a' b' c' h.1 in
-    (e.0, f.0, more_same e.1 f.1)
+    (e.0, f.0, more_is e.1 f.1)
 
 pub class_of : (w : SpecVersion) (d : Depth) (t : Tree) → Held w d t (a_record classification) → (f : List ℕ) × (g : List ℕ) × (t ≡ fields classification (two (text f) (text g)))
 unfolding rows

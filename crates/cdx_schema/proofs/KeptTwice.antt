@@ -6,12 +6,12 @@ use Rattle.cdx_models.specs.declared.bom.SpecVersion.{SpecVersion}
 use Rattle.cdx_models.specs.declared.bom.SpecVersion.TheVariants.{V1_3, V1_4, V1_5}
 use Rattle.cdx_models.specs.Versions.{knows, lowest}
 use Rattle.cdx_models.specs.Trees.{Name, classification, service_data, tools_object, Tree, absent, text, number, boolean, items, fields, Trees, none, more, field}
-use Rattle.cdx_schema.proofs.JsonBack.{more_same}
 use Rattle.cdx_schema.specs.Kinds.{Kind, a_version, a_record, a_license_choice, a_license_identifier, a_tools, an_entry, a_signature, a_bill, Row}
 use Rattle.cdx_schema.specs.Held.{held_kind}
 use Rattle.cdx_schema.specs.Table.{rows}
 use Rattle.cdx_schema.specs.Keeping.{kept, items_kept, rows_kept, kept_record, kept_text, before_1_5}
 use Rattle.cdx_schema.specs.Membership.{HasShape, HaveShape, FieldsHaveShape, IsRecordOf}
+use Rattle.cdx_schema.proofs.Basics.{more_is}
 
 -- The lower of two versions knows what both know.
 knows-lowest : (s v w : SpecVersion) → knows s (lowest v w) ≡ knows s v && knows s w
@@ -163,11 +163,11 @@ mutual
 
   pub items_twice : (v w l m : SpecVersion) (ts : Trees) (k : Kind) → HaveShape ts k → items_kept v m (items_kept w l ts k) k ≡ items_kept (lowest v w) m ts k
   items_twice v w l m none k h = refl
-  items_twice v w l m (more t ts) k h = more_same (kept_twice v w l m t k h.0) (items_twice v w l m ts k h.1)
+  items_twice v w l m (more t ts) k h = more_is (kept_twice v w l m t k h.0) (items_twice v w l m ts k h.1)
 
   pub rows_twice : (v w l m : SpecVersion) (ts : Trees) (rs : List Row) → FieldsHaveShape ts rs → rows_kept v m (rows_kept w l ts rs) rs ≡ rows_kept (lowest v w) m ts rs
   rows_twice v w l m none rs h = refl
   rows_twice v w l m (more t ts) [] h = refl
-  rows_twice v w l m (more t ts) (r ∷ rs) h = more_same
+  rows_twice v w l m (more t ts) (r ∷ rs) h = more_is
       (field_twice v w l m r (knows r.since v) (knows r.since w) _ t (knows-lowest r.since v w) (elim h.0 [ inl e ↦ absent_twice v w l m r t e.0 | inr e ↦ kept_twice v w l m t r.kind e ]))
       (rows_twice v w l m ts rs h.1)

@@ -1,3 +1,4 @@
+pub mod Basics
 pub mod Literals
 mod JsonRows
 mod TextRows

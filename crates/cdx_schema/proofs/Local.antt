@@ -25,6 +25,7 @@ use Rattle.cdx_events.specs.declared.name.Namespace.{Namespace}
 use Rattle.cdx_events.specs.declared.event.XmlEvent.TheVariants.{CData, Characters, EndDocument, EndElement, StartElement}
 use Rattle.cdx_events.specs.Nodes.{Node, Nodes, cdata, characters, document, element, events_of, events_of_all, no_nodes, node}
 use Rattle.cdx_schema.specs.Nodes.{places, places_of}
+use Rattle.cdx_schema.proofs.Basics.{choose, true_le}
 
 -- ---- documents whose events are the same through a place
 
@@ -171,13 +172,6 @@ node_agree (cdata t) (element m bs e ys) q read read' plan around v d p ts f b a
 node_agree (element n as' c xs) (characters u) q read read' plan around v d p ts f b a g h = absurd (true≢false a)
 node_agree (element n as' c xs) (cdata u) q read read' plan around v d p ts f b a g h = absurd (true≢false a)
 
-choose : {A : Type 0} (b : Bool) → (b ≡ true → A) → (b ≡ false → A) → A
-choose true f g = f refl
-choose false f g = g refl
-
-is_le : (m n : ℕ) → nat_le m n ≡ true → m ≤ n
-is_le m n h = grind arith
-
 is_more : (m n : ℕ) → nat_le m n ≡ false → n < m
 is_more m n h = grind arith
 
@@ -196,7 +190,7 @@ mutual
   xread_agree (cdata t) (cdata u) p v k s d f b l a h = h
   xread_agree (element n as' c xs) (element m bs e ys) p v k s d f b l a h =
       choose (nat_le (suc (s + places_of xs)) p)
-      (λ i. subst (λ (y : Node). Fails y v k s d f) (element_same {xs = xs} {ys = ys} a.0 a.1 a.2 (nodes_whole xs ys p (suc s) (omega (arith, is_le (suc (s + places_of xs)) p i)) a.3)) h)
+      (λ i. subst (λ (y : Node). Fails y v k s d f) (element_same {xs = xs} {ys = ys} a.0 a.1 a.2 (nodes_whole xs ys p (suc s) (omega (arith, true_le (suc (s + places_of xs)) p i)) a.3)) h)
       (λ i. subst (λ (y : Node). Fails y v k s d f) (element_same {xs = ys} {ys = ys} a.0 a.1 a.2 refl)
       (kind_out true Never f n.local_name as' c.default s xs ys (λ plan w e' ts. nodes_read xs plan n.local_name w e' (suc s) ts) (λ plan w e' ts. nodes_read ys plan n.local_name w e' (suc s) ts) (
         λ plan w e' ts g z. nodes_agree xs ys plan n.local_name p w e' (suc s) ts f g l a.3 z,
@@ -251,7 +245,7 @@ local_nodes (characters t) (characters u) v f h a = h
 local_nodes (cdata t) (cdata u) v f h a = h
 local_nodes (element n as' c xs) (element m bs e ys) v f h a =
     choose (nat_le (suc (1 + places_of xs)) (fault_place f))
-    (λ i. subst (λ (y : Node). Fails y v a_bill 1 top f) (element_same {xs = xs} {ys = ys} a.0 a.1 a.2 (nodes_whole xs ys (fault_place f) 2 (omega (arith, is_le (suc (1 + places_of xs)) (fault_place f) i)) a.3)) h)
+    (λ i. subst (λ (y : Node). Fails y v a_bill 1 top f) (element_same {xs = xs} {ys = ys} a.0 a.1 a.2 (nodes_whole xs ys (fault_place f) 2 (omega (arith, true_le (suc (1 + places_of xs)) (fault_place f) i)) a.3)) h)
     (λ i. subst (λ (y : Node). Fails y v a_bill 1 top f) (element_same {xs = ys} {ys = ys} a.0 a.1 a.2 refl)
     (root_agree n as' c xs ys (fault_place f) v f (le_self (fault_place f)) a.3 (is_more (suc (1 + places_of xs)) (fault_place f) i) h))
 local_nodes (characters t) (cdata u) v f h a = absurd (true≢false a)

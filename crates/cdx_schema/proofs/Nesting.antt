@@ -16,6 +16,7 @@ use Rattle.cdx_schema.specs.Keeping.{is_shallow, are_shallow}
 use Rattle.cdx_schema.specs.Membership.{HasShape, HaveShape, FieldsHaveShape, IsRecordOf, IsListKind, may_lack}
 use Rattle.cdx_schema.specs.JsonSpelling.{jspell, items_spelled, members_spelled, own_members, is_spelled, set_member, heading, in_choice}
 use Rattle.cdx_schema.proofs.JsonBack.{and_true, not_true}
+use Rattle.cdx_schema.proofs.Basics.{true_le}
 
 -- ---- heights: a number, or so much above a component or a service at the same depth
 
@@ -50,17 +51,14 @@ lower (above_service m) (at_most n) = nat_le (68 + m) n
 lower (above_component m) (above_service n) = false
 lower (above_service m) (above_component n) = false
 
-le_of : (m n : ℕ) → nat_le m n ≡ true → m ≤ n
-le_of m n h = grind arith
-
 lower_than : (x y : Height) (d : Depth) → lower x y ≡ true → value x d ≤ value y d
-lower_than (at_most m) (at_most n) d h = omega (arith, le_of m n h)
-lower_than (at_most m) (above_component n) d h = omega (arith, le_of m (4 + n) h)
-lower_than (at_most m) (above_service n) d h = omega (arith, le_of m (4 + n) h)
-lower_than (above_component m) (above_component n) d h = omega (arith, le_of m n h)
-lower_than (above_service m) (above_service n) d h = omega (arith, le_of m n h)
-lower_than (above_component m) (at_most n) d h = omega (arith, le_of (100 + m) n h)
-lower_than (above_service m) (at_most n) d h = omega (arith, le_of (68 + m) n h)
+lower_than (at_most m) (at_most n) d h = omega (arith, true_le m n h)
+lower_than (at_most m) (above_component n) d h = omega (arith, true_le m (4 + n) h)
+lower_than (at_most m) (above_service n) d h = omega (arith, true_le m (4 + n) h)
+lower_than (above_component m) (above_component n) d h = omega (arith, true_le m n h)
+lower_than (above_service m) (above_service n) d h = omega (arith, true_le m n h)
+lower_than (above_component m) (at_most n) d h = omega (arith, true_le (100 + m) n h)
+lower_than (above_service m) (at_most n) d h = omega (arith, true_le (68 + m) n h)
 lower_than (above_component m) (above_service n) d h = absurd (true≢false (sym h))
 lower_than (above_service m) (above_component n) d h = absurd (true≢false (sym h))
 

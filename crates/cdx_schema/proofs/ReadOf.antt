@@ -1,10 +1,9 @@
 -- What is read of a JSON value as a kind is of that kind, and shallow. Q is what is asked of a text.
-use Rattle.std.specs.Prelude.{◌≡◌, refl, ℕ, suc, ◌<◌, ◌^◌, List, [], ◌∷◌, Bool, true, false, not, ◌&&◌, nat_lt, if◌then◌else◌, ◌⊎◌, Option, Some, None, Result, Ok, Err, codes}
+use Rattle.std.specs.Prelude.{◌≡◌, refl, ℕ, suc, ◌^◌, List, [], ◌∷◌, Bool, true, false, not, ◌&&◌, nat_lt, if◌then◌else◌, ◌⊎◌, Option, Some, None, Result, Ok, Err, codes}
 use Rattle.std.proofs.Common.{true≢false, inl, inr, Ordering, Less, Equal, Greater}
 use Rattle.std.specs.Ordering.{nat_cmp, match_ordering}
 use Rattle.std.specs.Cmp.Lexicographic.{slice_cmp}
 use mathlib.Core.Path.{ap, sym, ◌∙◌, subst}
-use native.Mathlib.Omega.{arith}
 use Rattle.serde_json.specs.Data.{Num, unsigned, negative, float, Data, Items, no_items, item, Members, no_members}
 use Rattle.serde_json.specs.Data as json
 use Rattle.cdx_models.specs.declared.bom.SpecVersion.{SpecVersion}
@@ -26,6 +25,7 @@ use Rattle.cdx_schema.proofs.JsonBack.{and_true, err_ok}
 use Rattle.cdx_schema.proofs.XmlLaw.{is_list_kind}
 use Rattle.cdx_schema.proofs.Sound.{both, sound_since}
 use Rattle.cdx_schema.proofs.KeptOf.{class_entry, third_of, lacks_since}
+use Rattle.cdx_schema.proofs.Basics.{true_lt}
 
 -- ---- results
 
@@ -75,7 +75,7 @@ abbrev is_else : Need → Kind → Bool
 is_else else_empty k = is_list_kind k
 is_else _ k = true
 
-empty_list : (Q : List ℕ → Type 0) (k : Kind) (d : Depth) → is_list_kind k ≡ true → IsReadOf Q k d (items none)
+pub empty_list : (Q : List ℕ → Type 0) (k : Kind) (d : Depth) → is_list_kind k ≡ true → IsReadOf Q k d (items none)
 unfolding is_shallow
 empty_list Q (a_list l) d h = ((tt, tt), refl)
 empty_list Q _ d h = absurd (true≢false (sym h))
@@ -327,15 +327,12 @@ unfolding is_shallow
 boolean_good Q b a_boolean d t e = subst (λ (x : Tree). IsReadOf Q a_boolean d x) (ok_same e) (tt, refl)
 boolean_good Q b _ d t e = absurd (err_ok e)
 
-pub above : (n m : ℕ) → nat_lt n m ≡ true → n < m
-above n m h = grind arith
-
 number_good : (Q : List ℕ → Type 0) (n : Num) (d : Depth) (t : Tree) → number_read n ≡ Ok t → IsReadOf Q a_number d t
 unfolding is_shallow
 number_good Q (unsigned n) d t e = by (nat_lt n (2 ^ 32)) refl e
   where
     by : (b : Bool) → nat_lt n (2 ^ 32) ≡ b → (if b then Ok (number n) else here out_of_range) ≡ Ok t → IsReadOf Q a_number d t
-    by true h f = subst (λ (x : Tree). IsReadOf Q a_number d x) (ok_same f) (above n (2 ^ 32) h, refl)
+    by true h f = subst (λ (x : Tree). IsReadOf Q a_number d x) (ok_same f) (true_lt n (2 ^ 32) h, refl)
     by false h f = absurd (err_ok f)
 number_good Q (negative z) d t e = absurd (err_ok e)
 number_good Q (float x) d t e = absurd (err_ok e)

@@ -28,7 +28,7 @@ use Rattle.cdx_schema.proofs.HeldKept.{label_is}
 use Rattle.cdx_schema.proofs.XmlLaw.{is_list_kind}
 use Rattle.cdx_schema.proofs.Sound.{both}
 use Rattle.cdx_schema.proofs.KeptOf.{class_entry, of_there, IsFieldAll}
-use Rattle.cdx_schema.proofs.ReadOf.{ok_same, bind_ok, above, IsReadOf, AreRead, IsRecordRead, flat_is, flow_entry}
+use Rattle.cdx_schema.proofs.ReadOf.{empty_list, ok_same, bind_ok, IsReadOf, AreRead, IsRecordRead, flat_is, flow_entry}
 use Rattle.std.specs.Prelude.{is_some}
 use native.Mathlib.Omega.{arith}
 use Rattle.cdx_schema.proofs.Sound.{sound_since}
@@ -37,6 +37,7 @@ use Rattle.cdx_events.specs.declared.event.EventKind.TheVariants as kinds
 use Rattle.cdx_events.specs.declared.name.OwnedAttribute.{OwnedAttribute}
 use Rattle.cdx_events.specs.Nodes.{Node, Nodes, cdata, characters, element, no_nodes, node}
 use Rattle.cdx_schema.specs.Nodes.{places}
+use Rattle.cdx_schema.proofs.Basics.{some_same, true_lt}
 
 -- ---- fields that are being read: each absent or of its kind
 
@@ -240,14 +241,6 @@ exact_good Q xs around p t u e = text_in_good Q (Err (unexpected p around kinds.
 
 -- ---- leaves
 
-some_or : {A : Type 0} → A → Option A → A
-some_or a None = a
-some_or a (Some b) = b
-
-pub some_same : {A : Type 0} {x y : A} → Some x ≡ Some y → x ≡ y
-unfolding some_or
-some_same {x = x} h = ap (some_or x) h
-
 pub none_some : {A B : Type 0} {y : A} → None ≡ Some y → B
 none_some h = absurd (true≢false (sym (ap is_some h)))
 
@@ -256,7 +249,7 @@ below_is None n h = none_some h
 below_is (Some m) n h = by (nat_lt m (2 ^ 32)) refl h
   where
     by : (b : Bool) → nat_lt m (2 ^ 32) ≡ b → (if b then Some m else None) ≡ Some n → n < 2 ^ 32
-    by true f g = subst (λ (i : ℕ). i < 2 ^ 32) (some_same g) (above m (2 ^ 32) f)
+    by true f g = subst (λ (i : ℕ). i < 2 ^ 32) (some_same g) (true_lt m (2 ^ 32) f)
     by false f g = none_some g
 
 number_below : (s : List ℕ) (n : ℕ) → number_of s ≡ Some n → n < 2 ^ 32
@@ -375,7 +368,7 @@ attribute_good Q (Some s) q r v around p d t u l e = read_attributed Q r.kind d 
 
 number_default : (Q : List ℕ → Type 0) (k : Kind) (m : ℕ) (d : Depth) (t : Tree) → nat_lt m (2 ^ 32) ≡ true → is_number_kind k ≡ true → number m ≡ t → IsReadOf Q k d t
 unfolding is_shallow
-number_default Q a_number m d t lt h e = subst (λ (x : Tree). IsReadOf Q a_number d x) e (above m (2 ^ 32) lt, refl)
+number_default Q a_number m d t lt h e = subst (λ (x : Tree). IsReadOf Q a_number d x) e (true_lt m (2 ^ 32) lt, refl)
 number_default Q _ m d t lt h e = absurd (true≢false (sym h))
 
 number_kind_leaf : (k : Kind) → is_number_kind k ≡ true → is_leaf k ≡ true
@@ -490,17 +483,12 @@ filled_there r t h = by r.xml r.need t h
 abbrev Ended : (Q : List ℕ → Type 0) → Row → Depth → Tree → Type 0
 Ended Q r d t = IsFieldAll Q t r × (is_shallow t d ≡ true)
 
-empty_filled : (Q : List ℕ → Type 0) (k : Kind) (d : Depth) → is_list_kind k ≡ true → IsReadOf Q k d (items none)
-unfolding is_shallow
-empty_filled Q (a_list l) d h = ((tt, tt), refl)
-empty_filled Q _ d h = absurd (true≢false (sym h))
-
 children_ended : (Q : List ℕ → Type 0) (n : Need) (q : List ℕ) (r : Row) (d : Depth) → is_list_kind r.kind ≡ true → (((filled (record r { xml = children q; need = n }) absent ≡ absent) × (may_lack n ≡ true)) ⊎ IsOfAll Q (filled (record r { xml = children q; need = n }) absent) r.kind) × (is_shallow (filled (record r { xml = children q; need = n }) absent) d ≡ true)
 unfolding is_shallow
 children_ended Q optional q r d l = (inl (refl, refl), refl)
 children_ended Q required_first q r d l = (inl (refl, refl), refl)
-children_ended Q required q r d l = (inr (empty_filled Q r.kind d l).0, (empty_filled Q r.kind d l).1)
-children_ended Q else_empty q r d l = (inr (empty_filled Q r.kind d l).0, (empty_filled Q r.kind d l).1)
+children_ended Q required q r d l = (inr (empty_list Q r.kind d l).0, (empty_list Q r.kind d l).1)
+children_ended Q else_empty q r d l = (inr (empty_list Q r.kind d l).0, (empty_list Q r.kind d l).1)
 
 absent_ended : (Q : List ℕ → Type 0) (r : Row) (v : SpecVersion) (d : Depth) → sound_since r.since r.need r.kind ≡ true → reads_xml r.xml r.need r.kind ≡ true → lacks (name_owed r.xml) r absent v ≡ false
     → (last_flag_by (knows r.since v) r.xml r.need v ≡ true → true ≡ false) → Ended Q r d (filled r absent)

@@ -23,7 +23,8 @@ use Rattle.cdx_schema.proofs.Commute.{bare_kept}
 use Rattle.cdx_schema.proofs.Alike.{kept_alike, bare_alike}
 use Rattle.cdx_schema.proofs.BareTwice.{bare_thrice}
 use Rattle.cdx_schema.proofs.BillRead.{reads_json, reads_xml}
-use Rattle.cdx_schema.proofs.ReadOfXml.{some_same, none_some}
+use Rattle.cdx_schema.proofs.ReadOfXml.{none_some}
+use Rattle.cdx_schema.proofs.Basics.{some_same}
 
 -- ---- the bill after one hop more
 
@@ -163,7 +164,7 @@ as_many b before [] (x ∷ xs) a = absurd (true≢false a)
 as_many b before (h ∷ hs) [] a = absurd (true≢false a)
 as_many b before (h ∷ hs) (x ∷ xs) a = ap suc (as_many b (before ++ (h ∷ [])) hs xs a.1)
 
-one_more : (before : List Hop) (h : Hop) (hs : List Hop) → (before ++ (h ∷ [])) ++ hs ≡ before ++ (h ∷ hs)
+pub one_more : (before : List Hop) (h : Hop) (hs : List Hop) → (before ++ (h ∷ [])) ++ hs ≡ before ++ (h ∷ hs)
 one_more [] h hs = refl
 one_more (x ∷ before) h hs = ap (x ∷◌) (one_more before h hs)
 

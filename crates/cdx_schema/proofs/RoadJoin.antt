@@ -12,6 +12,7 @@ use Rattle.cdx_schema.specs.Laws.{HasBillShape, IsShallow, end_doc, DenotesShape
 use Rattle.cdx_schema.proofs.JsonBack.{and_true, err_ok}
 use Rattle.cdx_schema.proofs.ReadOf.{ok_same}
 use Rattle.cdx_schema.proofs.RoadAfter.{IsNext, hop, fits_all_alike}
+use Rattle.cdx_schema.proofs.Basics.{choose}
 
 fits_append : (g h : List Hop) (b : Tree) → fits_all (g ++ h) b ≡ (fits_all g b && fits_all h b)
 fits_append [] h b = refl
@@ -60,10 +61,6 @@ known bills x v = by (denotes x v) refl
     by : (r : Result Tree Refusal) → denotes x v ≡ r → Known x v
     by (Ok b) e = let p : HasBillShape b × IsShallow b = bills x v b e in inr (b, e, p.0, p.1)
     by (Err f) e = inl (f, e)
-
-pub choose : {A : Type 0} (b : Bool) → (b ≡ true → A) → (b ≡ false → A) → A
-choose true f g = f refl
-choose false f g = g refl
 
 -- A road that isn't refused, and the bill at its end.
 abbrev Open : Doc → SpecVersion → List Hop → Tree → List Doc → Tree → Type 0

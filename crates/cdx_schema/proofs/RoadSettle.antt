@@ -24,8 +24,9 @@ use Rattle.cdx_schema.proofs.Alike.{kept_alike}
 use Rattle.cdx_schema.proofs.BareTwice.{bare_twice}
 use Rattle.cdx_schema.proofs.Written.{is_low, kept_low, root_alike}
 use Rattle.cdx_schema.proofs.Unwritten.{root_unsupplied}
-use Rattle.cdx_schema.proofs.RoadAfter.{lowest_sym, lowest_more, kept_trips, after_more, IsNext, hop, fits_all_alike}
-use Rattle.cdx_schema.proofs.RoadJoin.{Known, known, choose, refuted, road_fails, road_lacks, road_leads}
+use Rattle.cdx_schema.proofs.RoadAfter.{one_more, lowest_sym, lowest_more, kept_trips, after_more, IsNext, hop, fits_all_alike}
+use Rattle.cdx_schema.proofs.RoadJoin.{Known, known, refuted, road_fails, road_lacks, road_leads}
+use Rattle.cdx_schema.proofs.Basics.{choose}
 
 -- ---- counts
 
@@ -174,10 +175,6 @@ nothing_more : (hs : List Hop) → hs ++ [] ≡ hs
 nothing_more [] = refl
 nothing_more (h ∷ hs) = ap (h ∷◌) (nothing_more hs)
 
-one_by_one : (hs : List Hop) (h : Hop) (gs : List Hop) → (hs ++ (h ∷ [])) ++ gs ≡ hs ++ (h ∷ gs)
-one_by_one [] h gs = refl
-one_by_one (x ∷ hs) h gs = ap (x ∷◌) (one_by_one hs h gs)
-
 abbrev IsSpot : Tree → List Hop → Hop → Doc → Type 0
 IsSpot b before a y = (c : Tree) × (y ≡ document_of a.form a.version (keep a.version c a_bill)) × (settled c a_bill ≡ settled (after_all b before) a_bill)
 
@@ -204,7 +201,7 @@ spot b ob (h ∷ g) before a g' x v c z docs is of s f e o =
     let same : settled n.0 a_bill ≡ settled (after_all b (before ++ (h ∷ []))) a_bill =
     n.1.4 ∙ (Rattle.cdx_schema.proofs.RoadAfter.taken_alike h.form (keep w c a_bill) (keep w (after_all b before) a_bill) (kept_alike w w c (after_all b before) a_bill e) ∙ ap (λ t. settled t a_bill) (after_more b before h ob)) in
     let r : IsSpot b ((before ++ (h ∷ [])) ++ g) a (doc_after g p.0 z) = spot b ob g (before ++ (h ∷ [])) a g' y w n.0 z p.0 n.1.0 n.1.1 n.1.2 (fits_all_alike (g ++ (a ∷ g')) c n.0 n.1.3 ∙ q.1) same p.1 in
-    (r.0, sym (ap (λ ds. doc_after (h ∷ g) ds z) p.2) ∙ r.1, r.2 ∙ ap (λ hs. settled (after_all b hs) a_bill) (one_by_one before h g))
+    (r.0, sym (ap (λ ds. doc_after (h ∷ g) ds z) p.2) ∙ r.1, r.2 ∙ ap (λ hs. settled (after_all b hs) a_bill) (one_more before h g))
 
 road_spot : (x : Doc) (v : SpecVersion) (g : List Hop) (a : Hop) (g' : List Hop) (docs : List Doc) → Known x v → road x v (g ++ (a ∷ g')) ≡ Ok docs → (b : Tree) × (denotes x v ≡ Ok b) × HasBillShape b × IsSpot b g a (doc_after g docs x)
 road_spot x v g a g' docs (inl e) o = refuted o (road_fails (g ++ (a ∷ g')) x v e.0 e.1)

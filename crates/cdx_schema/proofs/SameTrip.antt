@@ -9,8 +9,9 @@ use Rattle.cdx_schema.specs.Kinds.{Kind, a_list, a_tools, Need, optional, requir
 use Rattle.cdx_schema.specs.Table.{rows}
 use Rattle.cdx_schema.specs.Held.{held_kind}
 use Rattle.cdx_schema.specs.Trips.{bare, items_bare, rows_bare, settled, items_settled, rows_settled, list_settled, is_hollow, is_passed_over, field_after, none_is_absent}
-use Rattle.cdx_schema.proofs.JsonBack.{and_true, more_same}
+use Rattle.cdx_schema.proofs.JsonBack.{and_true}
 use Rattle.cdx_schema.proofs.XmlLaw.{tripped, items_tripped, rows_tripped, list_after, is_list_kind}
+use Rattle.cdx_schema.proofs.Basics.{more_is}
 
 abbrev is_none : Trees → Bool
 is_none none = true
@@ -83,7 +84,7 @@ field_alike w t r l e = by r.xml l
 item_alike : (b : Bool) (t u : Tree) (ts us : Trees) (k : Kind) → settled t k ≡ settled u k → items_settled ts k ≡ items_settled us k → items_settled (if b then ts else more t ts) k ≡ items_settled (if b then us else more u us) k
 unfolding settled
 item_alike true t u ts us k p q = q
-item_alike false t u ts us k p q = more_same p q
+item_alike false t u ts us k p q = more_is p q
 
 mutual
   unfolding tripped bare settled
@@ -102,4 +103,4 @@ mutual
   rows_same w (more t ts) [] l = refl
   rows_same w (more t ts) (r ∷ rs) l =
       let p : (is_listed_row r.xml r.kind ≡ true) × (all_listed rs ≡ true) = and_true (is_listed_row r.xml r.kind) (all_listed rs) l in
-      more_same (field_alike w t r p.0 (trip_same w t r.kind)) (rows_same w ts rs p.1)
+      more_is (field_alike w t r p.0 (trip_same w t r.kind)) (rows_same w ts rs p.1)

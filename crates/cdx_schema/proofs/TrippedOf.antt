@@ -17,15 +17,13 @@ use Rattle.cdx_schema.proofs.JsonBack.{and_true}
 use Rattle.cdx_schema.proofs.XmlLaw.{tripped, items_tripped, rows_tripped, list_after}
 use Rattle.cdx_schema.proofs.Sound.{both, free_kind, free_need, free_rows, sound_xml, all_sound, sound, sound_parts, whole_kind}
 use Rattle.cdx_schema.proofs.KeptOf.{IsFieldAll, IsField, there_alike, dropped_versions, and_alike}
+use Rattle.cdx_schema.proofs.Basics.{more_is}
 
 -- ---- a trip takes as much in each version
 
 list_first : (k : Kind) (us : Trees) → list_after k V1_3 us ≡ items us
 list_first a_tools us = refl
 list_first _ us = refl
-
-pub more_is : {t u : Tree} {ts us : Trees} → t ≡ u → ts ≡ us → more t ts ≡ more u us
-more_is p q = rw (p, q) refl
 
 if_more : (b : Bool) {t u : Tree} {ts us : Trees} → t ≡ u → ts ≡ us → (if b then ts else more t ts) ≡ (if b then us else more u us)
 if_more b p q = rw (p, q) refl

@@ -130,10 +130,6 @@ either_same : (b : Bool) (x : Nodes) → x ≡ no_nodes → no_nodes ≡ (if b t
 either_same true x h = sym h
 either_same false x h = refl
 
-gone : (b : Bool) → (if b && not (is_absent absent) then no_nodes else no_nodes) ≡ no_nodes
-gone true = refl
-gone false = refl
-
 row_gone : (r : Row) (w : SpecVersion) → RowNodes r w absent ≡ no_nodes
 row_gone r w = by (knows r.since w)
   where

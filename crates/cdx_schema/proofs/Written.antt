@@ -17,11 +17,11 @@ use Rattle.std.specs.Prelude.{codes}
 use Rattle.cdx_schema.specs.Kinds.{classifications}
 use Rattle.cdx_schema.specs.XmlTexts.{text_of}
 use Rattle.cdx_schema.specs.XmlSpelling.{nodes_of, items_nodes, fields_nodes, row_nodes, wrapped, flow_of, item_node, ItemSpelling, items_of, any_flow, attributes_of, attributes_in, row_attributes, attribute_of, tag_of, ordered, signed_in, lone, root, plain_element, each_under, as_flows}
-use Rattle.cdx_schema.proofs.TrippedOf.{more_is}
 use Rattle.cdx_schema.proofs.Commute.{filled_whole}
 use Rattle.cdx_schema.proofs.Alike.{settled_more, settled_there, passed_settled, hollow_settled}
 use Rattle.cdx_events.specs.Nodes.{Node, Nodes, cdata, no_nodes}
 use Rattle.cdx_schema.specs.Nodes.{◌⊕◌}
+use Rattle.cdx_schema.proofs.Basics.{more_is}
 
 -- ---- below 1.5 a version keeps exactly the same of the same
 

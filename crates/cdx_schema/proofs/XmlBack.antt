@@ -21,6 +21,7 @@ use Rattle.cdx_events.specs.declared.name.OwnedName.{OwnedName}
 use Rattle.cdx_events.specs.declared.name.Namespace.{Namespace}
 use Rattle.cdx_events.specs.Nodes.{Node, Nodes, element, no_nodes, node}
 use Rattle.cdx_schema.specs.Nodes.{places, places_of}
+use Rattle.cdx_schema.proofs.Basics.{append_lists}
 
 -- ---- the child of a name
 
@@ -70,10 +71,6 @@ find_none w q i [] h = refl
 find_none w q i (r ∷ rs) h =
     let e : (is_in q (child_names r.xml) ≡ false) × (is_in q (all_child_names rs) ≡ false) = not_in_append q (child_names r.xml) (all_child_names rs) h in
     find_append w q (row_children i r) (children_from (suc i) rs) (find_none_row w q i r e.0) ∙ find_none w q (suc i) rs e.1
-
-pub append_lists : {A : Type 0} (x a b : List A) → x ++ (a ++ b) ≡ (x ++ a) ++ b
-append_lists [] a b = refl
-append_lists (e ∷ es) a b = ap (e ∷◌) (append_lists es a b)
 
 pub children_append : (i : ℕ) (front rs : List Row) → children_from i (front ++ rs) ≡ children_from i front ++ children_from (i + length front) rs
 children_append i [] rs = ap (λ j. children_from j rs) (omega arith)

@@ -5,7 +5,6 @@ use Rattle.cdx_models.specs.declared.errors.XmlReadError.{XmlReadError}
 use Rattle.cdx_schema.specs.Depth.{top}
 use Rattle.cdx_machine.specs.Machines.{CanStep, CanYield, ProceedsAs, YieldsAs, StepsAs}
 use Rattle.cdx_machine.proofs.Hearing.{listener_can, listener_answers, listener_heard}
-use Rattle.cdx_machine.proofs.Several.{some_same}
 use Rattle.cdx_machine.proofs.Yielding.{waits, fails, ends_with, ended_with, can_yield}
 use Rattle.cdx_push.specs.Leaf.{kind_of, leaf_kind, value_tree}
 use Rattle.cdx_push.specs.declared.kinds.LeafKind.{LeafKind}
@@ -13,6 +12,7 @@ use Rattle.cdx_push.specs.declared.kinds.LeafValue.{LeafValue}
 use Rattle.cdx_push.specs.declared.leaf.Leaf.{Leaf}
 use Rattle.cdx_push.specs.contracts.leaf.LeafLeaves.TheImpl.{ghosts}
 use Rattle.cdx_push.proofs.machine.LeafMachine.step.Goals as goal
+use Rattle.cdx_schema.proofs.Basics.{some_same}
 
 -- The machine that is finished is the one that the step left.
 module _ (old new ended : Leaf) (is : Some ended ≡ Some new) (place : ℕ) (event : XmlEvent) (b : Bool) (ends : b ≡ true) (proceeds : ProceedsAs ghosts.holds (kind_of (leaf_kind old)) old new place event (Ok b)) where
