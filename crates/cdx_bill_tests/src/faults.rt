@@ -13,6 +13,7 @@ fn of_bom(alloc: Global, fault: &BomError) -> Result<String, AllocError> {
     format!(in alloc; "version missing in {}", version.as_str())
 }
 
+/// Why a bill wasn't written as JSON, as a row has it.
 pub fn of_json_writing(alloc: Global, fault: &JsonWriteError) -> Result<String, AllocError> {
     match fault {
         JsonWriteError::JsonElementWriteError { written } => format!(in alloc; "written {written}"),
@@ -21,6 +22,7 @@ pub fn of_json_writing(alloc: Global, fault: &JsonWriteError) -> Result<String, 
     }
 }
 
+/// Why a bill wasn't written as XML, as a row has it.
 pub fn of_xml_writing(alloc: Global, fault: &XmlWriteError) -> Result<String, AllocError> {
     match fault {
         XmlWriteError::XmlElementWriteError { put } => format!(in alloc; "put {put}"),
@@ -29,6 +31,7 @@ pub fn of_xml_writing(alloc: Global, fault: &XmlWriteError) -> Result<String, Al
     }
 }
 
+/// Why a road made no documents, as a row has it.
 pub fn of_road(alloc: Global, fault: &RoadError) -> Result<String, AllocError> {
     match fault {
         RoadError::Json(error) => json_fault_line(alloc, error),

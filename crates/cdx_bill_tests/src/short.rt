@@ -41,6 +41,7 @@ pub fn hop_of(short: &str) -> Option<Hop> {
     Some(Hop { form, version })
 }
 
+/// The bill of a JSON value, by the version's own call.
 pub fn parse_json(
     alloc: Global,
     value: &Value,
@@ -53,6 +54,7 @@ pub fn parse_json(
     }
 }
 
+/// The bill of a document of events, by the version's own call.
 pub fn parse_xml(
     alloc: Global,
     events: &Events,

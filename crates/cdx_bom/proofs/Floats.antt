@@ -1,5 +1,5 @@
 -- The search for a floating-point number, one part of a value after the other.
-use Rattle.std.proofs.Common.{◌≡◌, ℕ, suc, ◌+◌, ◌<◌, ◌≤◌, Bool, true, false, List, [], ◌∷◌, length, drop, get_or, Option, Some, None, Result, Ok, Err, IfOk, string_bytes, refl, sym, ap, ◌∙◌, subst, arith}
+use Rattle.std.proofs.Common.{◌≡◌, ℕ, suc, ◌+◌, ◌<◌, ◌≤◌, Bool, true, false, List, [], ◌∷◌, length, drop, get_or, Option, Some, None, Result, Ok, Err, IfOk, string_bytes, refl, sym, ap, ◌∙◌, subst}
 use Rattle.std.proofs.lemmas.List.{at_drop_more, at_drop_all}
 use Rattle.serde_json.specs.Data.{Num, unsigned, negative, float, Data, number}
 use Rattle.serde_json.specs.Find.{is_float as is_float_number}
@@ -21,6 +21,7 @@ use Rattle.cdx_schema.specs.JsonReading.{first_float, float_of_items, float_of_m
 use Rattle.cdx_json.specs.Gives.{Fails, Gives, IsFaultAt, IsWithin, fault}
 use Rattle.cdx_json.proofs.Rows.{fails_here, within_fails}
 use Rattle.cdx_bom.specs.Floats.{unless_float}
+use Rattle.cdx_machine.proofs.Places.{one_on}
 
 -- ---- a part's answer, seen from the value around it
 
@@ -67,16 +68,13 @@ number_float e n b is t at = fails_here e Float (unless_float (float_in n)) at (
 
 -- ---- the items of an array
 
-suc_is : (i : ℕ) → suc i ≡ i + 1
-suc_is i = omega arith
-
 item_step : (vs : List Value) (i : ℕ) (v : Value) → i < length vs → v ≡ get_or vs i v
     → float_of_items i (items_view (drop i vs)) ≡ or_else (behind (Item i) (first_float (view v))) (float_of_items (i + 1) (items_view (drop (i + 1) vs)))
 unfolding first_float
 item_step vs i v h is =
     at_drop_more (λ ws. float_of_items i (items_view ws)) vs i v h
     ∙ ap (λ y. or_else (behind (Item i) (first_float (view y))) (float_of_items (suc i) (items_view (drop (i + 1) vs)))) (sym is)
-    ∙ ap (λ j. or_else (behind (Item i) (first_float (view v))) (float_of_items j (items_view (drop (i + 1) vs)))) (suc_is i)
+    ∙ ap (λ j. or_else (behind (Item i) (first_float (view v))) (float_of_items j (items_view (drop (i + 1) vs)))) (one_on i)
 
 pub items_go : (vs : List Value) (i : ℕ) (v : Value) (whole : Option (List Step)) → i < length vs → v ≡ get_or vs i v → unless_float (first_float (view v)) ≡ Ok tt
     → float_of_items i (items_view (drop i vs)) ≡ whole → float_of_items (i + 1) (items_view (drop (i + 1) vs)) ≡ whole

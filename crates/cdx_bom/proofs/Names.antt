@@ -1,5 +1,5 @@
 -- Trees without records of certain names: what then holds of depths, versions and empty tool lists.
-use Rattle.std.proofs.Common.{◌≡◌, Bool, true, false, not, ◌&&◌, List, [], ◌∷◌, if◌then◌else◌, refl, ap, ◌∙◌}
+use Rattle.std.proofs.Common.{◌≡◌, Bool, true, false, not, ◌&&◌, List, [], ◌∷◌, refl, ap, ◌∙◌}
 use Rattle.std.proofs.lemmas.Bool.{false≢true}
 use Rattle.cdx_models.specs.Trees.{Name, tool, component, service, metadata, bill, Tree, absent, text, number, boolean, items, fields, Trees, none, more, ◌⧺◌}
 use Rattle.cdx_schema.specs.Kinds.{Lists, hashes, components, services, Kind, a_list, a_tools, Need, optional, required, required_first, else_empty, Row}
@@ -8,6 +8,8 @@ use Rattle.cdx_schema.specs.Held.{held_kind}
 use Rattle.cdx_schema.specs.Depth.{Depth, inside, name_too_deep}
 use Rattle.cdx_schema.specs.Keeping.{has_versions, items_have_versions, rows_have_versions, is_there, is_shallow, are_shallow}
 use Rattle.cdx_schema.specs.Trips.{settled, items_settled, rows_settled, list_settled}
+use Rattle.cdx_schema.proofs.JsonBack.{and_true, not_true}
+use Rattle.cdx_schema.proofs.Sound.{both}
 
 abbrev pub no_more : Trees → List Row → Bool
 no_more none rs = true
@@ -30,31 +32,20 @@ unfoldable mutual
 
 -- ---- tests of two parts
 
-pub both : (a b : Bool) → (a && b) ≡ true → (a ≡ true) × (b ≡ true)
-both true b e = (refl, e)
-both false b e = absurd (false≢true e)
-
-pub both_hold : (a b : Bool) → a ≡ true → b ≡ true → (a && b) ≡ true
-both_hold a b p q = rw (p, q) refl
-
-pub not_true : (b : Bool) → not b ≡ true → b ≡ false
-not_true true e = absurd (false≢true e)
-not_true false e = refl
-
 -- what a record lacks, its fields lack
 pub fields_lack : (Q : Name → Bool) (n : Name) (ts : Trees) → lacks Q (fields n ts) ≡ true → (Q n ≡ false) × (no_more ts (rows n) ≡ true) × (all_lack Q ts ≡ true)
 unfolding lacks
 fields_lack Q n ts h =
-    let p = both (not (Q n)) (no_more ts (rows n) && all_lack Q ts) h in
-    let q = both (no_more ts (rows n)) (all_lack Q ts) p.1 in
+    let p = and_true (not (Q n)) (no_more ts (rows n) && all_lack Q ts) h in
+    let q = and_true (no_more ts (rows n)) (all_lack Q ts) p.1 in
     (not_true (Q n) p.0, q.0, q.1)
 
 pub appended_lack : (Q : Name → Bool) (ts us : Trees) → all_lack Q ts ≡ true → all_lack Q us ≡ true → all_lack Q (ts ⧺ us) ≡ true
 unfolding lacks
 appended_lack Q none us h k = k
 appended_lack Q (more t ts) us h k =
-    let p = both (lacks Q t) (all_lack Q ts) h in
-    both_hold (lacks Q t) (all_lack Q (ts ⧺ us)) p.0 (appended_lack Q ts us p.1 k)
+    let p = and_true (lacks Q t) (all_lack Q ts) h in
+    both (lacks Q t) (all_lack Q (ts ⧺ us)) p.0 (appended_lack Q ts us p.1 k)
 
 -- ---- names
 
@@ -116,13 +107,13 @@ mutual
   is_level (items ts) d h = are_level ts d h
   is_level (fields n ts) d h =
       let p = fields_lack is_counted n ts h in
-      both_hold (not (name_too_deep n d)) (are_shallow ts (inside n d)) (uncounted n d p.0) (are_level ts (inside n d) p.2)
+      both (not (name_too_deep n d)) (are_shallow ts (inside n d)) (uncounted n d p.0) (are_level ts (inside n d) p.2)
 
   pub are_level : (ts : Trees) (d : Depth) → all_lack is_counted ts ≡ true → are_shallow ts d ≡ true
   are_level none d h = refl
   are_level (more t ts) d h =
-      let p = both (lacks is_counted t) (all_lack is_counted ts) h in
-      both_hold (is_shallow t d) (are_shallow ts d) (is_level t d p.0) (are_level ts d p.1)
+      let p = and_true (lacks is_counted t) (all_lack is_counted ts) h in
+      both (is_shallow t d) (are_shallow ts d) (is_level t d p.0) (are_level ts d p.1)
 
 -- ---- versions
 
@@ -170,16 +161,16 @@ mutual
   items_fit_all : (ts : Trees) (k : Kind) → all_lack is_component ts ≡ true → items_have_versions ts k ≡ true
   items_fit_all none k h = refl
   items_fit_all (more t ts) k h =
-      let p = both (lacks is_component t) (all_lack is_component ts) h in
-      both_hold (has_versions t k) (items_have_versions ts k) (fits_all t k p.0) (items_fit_all ts k p.1)
+      let p = and_true (lacks is_component t) (all_lack is_component ts) h in
+      both (has_versions t k) (items_have_versions ts k) (fits_all t k p.0) (items_fit_all ts k p.1)
 
   rows_fit_all : (ts : Trees) (rs : List Row) → all_ever rs ≡ true → all_lack is_component ts ≡ true → rows_have_versions ts rs ≡ true
   rows_fit_all none rs e h = refl
   rows_fit_all (more t ts) [] e h = refl
   rows_fit_all (more t ts) (r ∷ rs) e h =
-      let p = both (lacks is_component t) (all_lack is_component ts) h in
-      let q = both (is_ever r.need) (all_ever rs) e in
-      both_hold (is_there r.need t && has_versions t r.kind) (rows_have_versions ts rs) (both_hold (is_there r.need t) (has_versions t r.kind) (ever_there r.need t q.0) (fits_all t r.kind p.0))
+      let p = and_true (lacks is_component t) (all_lack is_component ts) h in
+      let q = and_true (is_ever r.need) (all_ever rs) e in
+      both (is_there r.need t && has_versions t r.kind) (rows_have_versions ts rs) (both (is_there r.need t) (has_versions t r.kind) (ever_there r.need t q.0) (fits_all t r.kind p.0))
       (rows_fit_all ts rs q.1 p.1)
 
 -- ---- empty tool lists
@@ -229,13 +220,13 @@ mutual
   pub items_settled_as_is : (ts : Trees) (k : Kind) → is_tools k ≡ false → all_lack is_metadata ts ≡ true → items_settled ts k ≡ ts
   items_settled_as_is none k e h = refl
   items_settled_as_is (more t ts) k e h =
-      let p = both (lacks is_metadata t) (all_lack is_metadata ts) h in
+      let p = and_true (lacks is_metadata t) (all_lack is_metadata ts) h in
       rw (settled_as_is t k e p.0, items_settled_as_is ts k e p.1) refl
 
   pub rows_settled_as_is : (ts : Trees) (rs : List Row) → no_tools rs ≡ true → no_more ts rs ≡ true → all_lack is_metadata ts ≡ true → rows_settled ts rs ≡ ts
   rows_settled_as_is none rs e m h = refl
   rows_settled_as_is (more t ts) [] e m h = absurd (false≢true m)
   rows_settled_as_is (more t ts) (r ∷ rs) e m h =
-      let p = both (lacks is_metadata t) (all_lack is_metadata ts) h in
-      let q = both (not (is_tools r.kind)) (no_tools rs) e in
+      let p = and_true (lacks is_metadata t) (all_lack is_metadata ts) h in
+      let q = and_true (not (is_tools r.kind)) (no_tools rs) e in
       rw (settled_as_is t r.kind (not_true (is_tools r.kind) q.0) p.0, rows_settled_as_is ts rs q.1 m p.1) refl

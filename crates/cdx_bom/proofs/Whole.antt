@@ -1,5 +1,5 @@
 -- Whole components and services: which names they lack.
-use Rattle.std.proofs.Common.{◌≡◌, Bool, true, false, not, ◌&&◌, List, [], ◌∷◌, map, Option, Some, None, refl, ap, ◌∙◌, subst}
+use Rattle.std.proofs.Common.{◌≡◌, Bool, true, false, not, List, [], ◌∷◌, map, Option, Some, None, refl, ap, ◌∙◌, subst}
 use Rattle.cdx_models.specs.Trees.{Name, component, pedigree, service, Tree, items, fields, ◌⧺◌, trees, present}
 use Rattle.cdx_models.specs.Records.{references_tree, properties_tree}
 use Rattle.cdx_signature.specs.Records.{signature_tree}
@@ -8,9 +8,10 @@ use Rattle.cdx_patch.specs.Records.{patches_tree}
 use Rattle.cdx_component_parts.specs.Records.{evidence_tree}
 use Rattle.cdx_schema.specs.Table.{rows}
 use Rattle.cdx_nest.specs.Nested.{Component, Component-F, Pedigree-F, ind-Component, fold-roll-Components, former-Component-pedigree, former-Component-components, Components, Pedigree, origin, naming, marks, component_contents, component_tree, components_tree, pedigree_tree, component_step, components_step, pedigree_step, component_fields, pedigree_fields, component_items, component_tree-roll, components_tree-out, pedigree_tree-roll, Service, Service-F, ind-Service, fold-roll-Services, former-Service-services, Services, service_naming, service_access, service_contents, service_tree, services_tree, service_step, services_step, service_fields, service_items, service_tree-roll, services_tree-out}
-use Rattle.cdx_bom.proofs.Names.{lacks, all_lack, SparesLeaves, both_hold, appended_lack}
+use Rattle.cdx_bom.proofs.Names.{lacks, all_lack, SparesLeaves, appended_lack}
 use Rattle.cdx_bom.proofs.Leaves.{texts_lack, row_lacks, list_lacks, references_lack, properties_lack, evidence_lacks, signature_lacks, commits_lack, patches_lack}
 use Rattle.cdx_bom.proofs.Nested.{origin_lack, naming_lack, marks_lack, service_naming_lack, service_access_lack}
+use Rattle.cdx_schema.proofs.Sound.{both}
 
 contents_lack : {C L P : Type 0} (Q : Name → Bool) → SparesLeaves Q → (l : L → Tree) (p : P → Tree) (c : Component-F C L P) → lacks Q (present p c.pedigree) ≡ true → lacks Q (present l c.components) ≡ true → all_lack Q (component_contents l p c) ≡ true
 unfolding lacks
@@ -23,13 +24,13 @@ unfolding lacks rows
 component_fields_lack Q h q l p c i j =
     let rest = appended_lack Q (marks c) (component_contents l p c) (marks_lack Q h c) (contents_lack Q h l p c i j) in
     let named = appended_lack Q (naming c) (marks c ⧺ component_contents l p c) (naming_lack Q h c) rest in
-    both_hold (not (Q component)) (all_lack Q (component_fields l p c)) (ap not q) (appended_lack Q (origin c) (naming c ⧺ (marks c ⧺ component_contents l p c)) (origin_lack Q h c) named)
+    both (not (Q component)) (all_lack Q (component_fields l p c)) (ap not q) (appended_lack Q (origin c) (naming c ⧺ (marks c ⧺ component_contents l p c)) (origin_lack Q h c) named)
 
 services_fields_lack : {S L : Type 0} (Q : Name → Bool) → SparesLeaves Q → Q service ≡ false → (l : L → Tree) (s : Service-F S L) → lacks Q (present l s.services) ≡ true → lacks Q (fields service (service_fields l s)) ≡ true
 unfolding lacks rows
 services_fields_lack Q h q l s j =
     let rest : all_lack Q (service_contents l s) ≡ true = rw (row_lacks Q properties_tree (properties_lack Q h) s.properties, j, row_lacks Q signature_tree (signature_lacks Q h) s.signature, texts_lack Q s.trust_zone) refl in
-    both_hold (not (Q service)) (all_lack Q (service_fields l s)) (ap not q)
+    both (not (Q service)) (all_lack Q (service_fields l s)) (ap not q)
     (appended_lack Q (service_naming s) (service_access s ⧺ service_contents l s) (service_naming_lack Q h s) (appended_lack Q (service_access s) (service_contents l s) (service_access_lack Q h s) rest))
 
 pedigree_fields_lack : {C L P : Type 0} (Q : Name → Bool) → SparesLeaves Q → (l : L → Tree) (p : Pedigree-F C L P) → lacks Q (present l p.ancestors) ≡ true → lacks Q (present l p.descendants) ≡ true → lacks Q (present l p.variants) ≡ true

@@ -1,5 +1,5 @@
-//! Whole bills: their type and tree, copies, `==`, the versions that they fit, JSON and XML; a reader of bills that is fed events
-//! as they arrive; documents and the laws of roads and of documents without their empty texts; texts into sinks.
+//! Whole bills: their type and tree, copies, `==`, the versions that they fit, JSON and XML; a reader of bills that is fed
+//! events as they arrive; documents and the laws of roads and of documents without their empty texts; texts into sinks.
 #![tactic(auto)]
 
 pub mod bom;

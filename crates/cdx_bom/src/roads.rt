@@ -183,7 +183,9 @@ pub fn into_road(
     carry(alloc, bill, hops)
 }
 
-/// The road of one hop.
+/// The road of one hop: the document that it makes of `doc`, which stands in `version`. Refused as `road` is: for the
+/// document's first fault, and where the hop is in 1.3 for a component without a version. Want of memory comes only as
+/// `Memory`.
 pub fn recode(
     alloc: Global,
     doc: &Doc,

@@ -15,10 +15,11 @@ use Rattle.cdx_schema.specs.Trips.{settled}
 use Rattle.cdx_schema.specs.JsonSpelling.{jspell}
 use Rattle.cdx_schema.specs.Membership.{Never, HasShape, HaveShape, FieldsHaveShape, IsRecordOf, may_lack}
 use Rattle.cdx_schema.specs.Laws.{HasBillShape}
-use Rattle.cdx_schema.proofs.JsonBack.{and_true}
-use Rattle.cdx_bom.proofs.Names.{no_more, lacks, all_lack, fields_lack, both_hold}
+use Rattle.cdx_schema.proofs.JsonBack.{and_true, not_true}
+use Rattle.cdx_bom.proofs.Names.{no_more, lacks, all_lack, fields_lack}
 use Rattle.cdx_canon.specs.Canon.{labelled, KeepsText}
 use Rattle.cdx_schema.proofs.Basics.{more_is}
+use Rattle.cdx_schema.proofs.Sound.{both}
 
 -- ---- trees that hold no bill
 
@@ -123,12 +124,8 @@ labelled_whole v l (fields n ts) h =
 name_inner : (n m : Name) → n ≡ m → is_bill m ≡ false → is_bill n ≡ false
 name_inner n m e h = ap is_bill e ∙ h
 
-named_inner : (b : Bool) → not b ≡ true → b ≡ false
-named_inner true h = absurd (true≢false (sym h))
-named_inner false h = refl
-
 record_inner : (k : Kind) (n : Name) (ts : Trees) → IsRecordOf k n ts → is_inner k ≡ true → is_bill n ≡ false
-record_inner (a_record m) n ts is h = name_inner n m is (named_inner (is_bill m) h)
+record_inner (a_record m) n ts is h = name_inner n m is (not_true (is_bill m) h)
 record_inner a_license_choice n ts is h = elim is [ inl e ↦ name_inner n license e refl | inr e ↦ name_inner n expression e refl ]
 record_inner a_license_identifier n ts is h = elim is [ inl e ↦ name_inner n spdx_id e refl | inr e ↦ name_inner n license_name e refl ]
 record_inner a_tools n ts is h = name_inner n tools_object is refl
@@ -163,19 +160,19 @@ mutual
   shaped_lacks (items ts) k h f = shaped_items ts (held_kind k) h.1 (held_inner k)
   shaped_lacks (fields n ts) k h f =
       let inner : is_bill n ≡ false = record_inner k n ts h.0 f in
-      both_hold (not (is_bill n)) (no_more ts (rows n) && all_lack is_bill ts) (ap not inner)
-      (both_hold (no_more ts (rows n)) (all_lack is_bill ts) (no_more_shaped ts (rows n) h.1) (shaped_rows ts (rows n) h.1 (rows_inner n inner)))
+      both (not (is_bill n)) (no_more ts (rows n) && all_lack is_bill ts) (ap not inner)
+      (both (no_more ts (rows n)) (all_lack is_bill ts) (no_more_shaped ts (rows n) h.1) (shaped_rows ts (rows n) h.1 (rows_inner n inner)))
 
   shaped_items : (ts : Trees) (k : Kind) → HaveShape ts k → is_inner k ≡ true → all_lack is_bill ts ≡ true
   shaped_items none k h f = refl
-  shaped_items (more t ts) k h f = both_hold (lacks is_bill t) (all_lack is_bill ts) (shaped_lacks t k h.0 f) (shaped_items ts k h.1 f)
+  shaped_items (more t ts) k h f = both (lacks is_bill t) (all_lack is_bill ts) (shaped_lacks t k h.0 f) (shaped_items ts k h.1 f)
 
   shaped_rows : (ts : Trees) (rs : List Row) → FieldsHaveShape ts rs → all_inner rs ≡ true → all_lack is_bill ts ≡ true
   shaped_rows none rs h f = refl
   shaped_rows (more t ts) [] h f = absurd (true≢false h)
   shaped_rows (more t ts) (r ∷ rs) h f =
       let q : (is_inner r.kind ≡ true) × (all_inner rs ≡ true) = and_true (is_inner r.kind) (all_inner rs) f in
-      both_hold (lacks is_bill t) (all_lack is_bill ts) (field_lacks t r h.0 (λ g. shaped_lacks t r.kind g q.0)) (shaped_rows ts rs h.1 q.1)
+      both (lacks is_bill t) (all_lack is_bill ts) (field_lacks t r h.0 (λ g. shaped_lacks t r.kind g q.0)) (shaped_rows ts rs h.1 q.1)
 
 label_lacks : (t : Tree) (b : Bool) → ((t ≡ absent) × (b ≡ true)) ⊎ HasShape t a_version → lacks is_bill t ≡ true
 unfolding lacks
@@ -191,7 +188,7 @@ label_lacks (fields n ts) b (inr h) = absurd (true≢false h.0)
 fields_whole : (ts : Trees) → FieldsHaveShape ts (rows bill) → all_lack is_bill ts ≡ true
 unfolding lacks rows
 fields_whole none h = refl
-fields_whole (more t ts) h = both_hold (lacks is_bill t) (all_lack is_bill ts) (label_lacks t false h.0) (shaped_rows ts _ h.1 refl)
+fields_whole (more t ts) h = both (lacks is_bill t) (all_lack is_bill ts) (label_lacks t false h.0) (shaped_rows ts _ h.1 refl)
 
 pub shaped_whole : (b : Tree) → HasBillShape b → IsWhole b
 shaped_whole absent h = tt

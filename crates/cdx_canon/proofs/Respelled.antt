@@ -11,12 +11,10 @@ use Rattle.cdx_models.specs.declared.bom.SpecVersion.{SpecVersion}
 use Rattle.cdx_models.specs.Trees.{Tree, Trees, none, more, with_field}
 use Rattle.cdx_schema.specs.Kinds.{Kind, a_text, Member, member, merged, Row}
 use Rattle.cdx_schema.specs.JsonSpelling.{jspell, members_spelled, own_members, is_spelled, set_member}
-use Rattle.cdx_schema.proofs.JsonBack.{and_true}
+use Rattle.cdx_schema.proofs.JsonBack.{and_true, not_true}
+use Rattle.cdx_ordered.proofs.ReadBack.{turned}
 
 -- ---- putting twice
-
-turned : (k l : List ℕ) (o : Ordering) → slice_cmp nat_cmp k l ≡ o → slice_cmp nat_cmp l k ≡ ordering_reverse o
-turned k l o h = nat_list_cmp_total.antisymm l k ∙ ap ordering_reverse h
 
 itself : (k : List ℕ) → slice_cmp nat_cmp k k ≡ Equal
 itself k = tied_itself nat_list_cmp_total k
@@ -78,14 +76,10 @@ abbrev pub are_other : List ℕ → List Row → Bool
 are_other q [] = true
 are_other q (r ∷ rs) = is_other q r.json && are_other q rs
 
-not_so : (b : Bool) → not b ≡ true → b ≡ false
-not_so true h = absurd (true≢false (sym h))
-not_so false h = refl
-
 row_past : (b : Bool) (m : Member) (v : Data) (own : Members → Members) (q : List ℕ) (y : Data) (ms : Members) → is_other q m ≡ true
     → (if b then set_member m v own (put q y ms) else put q y ms) ≡ put q y (if b then set_member m v own ms else ms)
 row_past false m v own q y ms h = refl
-row_past true (member p) v own q y ms h = put_in_turn p q v y ms (not_so (bytes_eq p q) h)
+row_past true (member p) v own q y ms h = put_in_turn p q v y ms (not_true (bytes_eq p q) h)
 row_past true merged v own q y ms h = absurd (true≢false (sym h))
 
 past : (ts : Trees) (w : SpecVersion) (rs : List Row) (q : List ℕ) (y : Data) (ms : Members) → are_other q rs ≡ true → members_spelled ts w rs (put q y ms) ≡ put q y (members_spelled ts w rs ms)

@@ -11,6 +11,7 @@ use Rattle.cdx_gate.specs.Lines.{ended_lines, unended, lines, replies}
 use Rattle.cdx_gate.specs.Gate.{answered, no_words, PutsFront, HasServed, AnsweringStops, ServingEnds}
 use Rattle.cdx_gate.proofs.LineLaws.{ended_on, lines_on}
 use Rattle.cdx_gate.proofs.Served.{stops_more}
+use Rattle.cdx_tool.proofs.Settling.{some_told, all_told}
 
 -- So many bytes may still come, and of what was taken this stands.
 abbrev pub TakenSoFar : ℕ → ℕ → Option (List ℕ) → Option (List ℕ) → Option (List ℕ) → Option (List ℕ) → List ℕ → Type 0
@@ -26,11 +27,6 @@ told_front : (o n : Option (List ℕ)) (taken : List ℕ) → Consumes o n taken
 told_front None n taken h = (taken, [], tt, sym (append-nil taken))
 told_front (Some told) None taken h = absurd h
 told_front (Some told) (Some rest) taken h = (told, rest, refl, h)
-
-told_whole : (o n : Option (List ℕ)) (taken : List ℕ) → Consumes o n taken → IsAtEnd n → Tells o taken
-told_whole None n taken h e = tt
-told_whole (Some told) None taken h e = absurd h
-told_whole (Some told) (Some rest) taken h e = sym (h ∙ (ap (λ x. taken ++ x) e ∙ append-nil taken))
 
 -- ---- which lines are answered
 
@@ -77,7 +73,7 @@ pub end_ends : (limit left : ℕ) (o n m a b c : Option (List ℕ)) (held buf : 
     → EndsOf limit o status a c
 end_ends limit left o n m a b c held buf count status none x q at_end last =
     let taken = x.0 in
-    let all = told_whole o m taken (took_none o n m taken buf count none x.1 q) at_end in
+    let all = all_told o m taken (took_none o n m taken buf count none x.1 q) at_end in
     let fits : length taken ≤ limit = omega (arith, x.2) in (
       taken,
       all,
@@ -145,10 +141,6 @@ goes_on limit left o n m a b c held held_now buf back count within is all le x q
     )
 
 -- ---- words
-
-some_told : (o : Option (List ℕ)) → (bytes : List ℕ) × Tells o bytes
-some_told None = ([], tt)
-some_told (Some told) = (told, refl)
 
 pub words_end : {K : Type 0} (written : K → Option (List ℕ)) (words : List (String Global)) (limit status : ℕ) (o : Option (List ℕ)) (old new : K) (Flushed Sound Cause : Type 0) → 0 < length words
     → ((status ≡ 2) × Appends (written old) (written new) no_words.text × Flushed × Sound) ⊎ (((status ≡ 4) × PutsFront (written old) (written new) no_words.text × Cause) ⊎ ((status ≡ 5) × (new ≡ old)))

@@ -21,6 +21,7 @@ use Rattle.cdx_ways.proofs.Names.{is_row, is_named, IsRow, IsNamed, is_new, name
 use Rattle.cdx_inventory.specs.Listing.{is_component, itself, listed_in, items_listed, rows_listed, listed, IsPartOf, IsInOne, ListsPaths, ListsAll}
 use Rattle.cdx_inventory.proofs.Unlisted.{record_unlisted}
 use Rattle.cdx_inventory.proofs.Counted.{counts_all}
+use Rattle.cdx_schema.proofs.Basics.{some_same}
 
 -- ---- every listed component is one, and every component is listed
 
@@ -147,18 +148,11 @@ abbrev is_there : {A : Type 0} → Option A → Bool
 is_there None = false
 is_there (Some x) = true
 
-abbrev there_or : {A : Type 0} → A → Option A → A
-there_or d None = d
-there_or d (Some x) = x
-
 none_is : {A B : Type 0} (x : A) → None ≡ Some x → B
 none_is x e = absurd (true≢false (ap is_there (sym e)))
 
-some_is : {A : Type 0} (x y : A) → Some x ≡ Some y → x ≡ y
-some_is x y e = ap (there_or x) e
-
 whole_is : (t : Tree) (p : List Step) (c : Tree) → whole t p ≡ Some c → (p ≡ []) × (t ≡ c)
-whole_is t [] c h = (refl, some_is t c h)
+whole_is t [] c h = (refl, some_same h)
 whole_is t (s ∷ p) c h = none_is c h
 
 or_either : {A : Type 0} (o o' : Option A) (x : A) → or_else o o' ≡ Some x → (o ≡ Some x) ⊎ (o' ≡ Some x)
@@ -171,12 +165,12 @@ then_is f (Some x) y h = (x, refl, h)
 
 row_in : (m : kinds.Member) (p q : List Step) (c : Tree) (xs : List (At Tree)) → after_row m p ≡ Some q → In (q, c) xs → In (p, c) (behind_row m xs)
 row_in (kinds.member name) p q c xs e h = subst (λ (z : List Step). In (z, c) (behind_step (to_member name) xs)) (sym (after_is (to_member name) p q e)) (behind_in (to_member name) q c xs h)
-row_in kinds.merged p q c xs e h = subst (λ (z : List Step). In (z, c) xs) (sym (some_is p q e)) h
+row_in kinds.merged p q c xs e h = subst (λ (z : List Step). In (z, c) xs) (sym (some_same e)) h
 
 choice_in : (k : Kind) (n : Name) (p q : List Step) (c : Tree) (xs : List (At Tree)) → after_choice k n p ≡ Some q → In (q, c) xs → In (p, c) (behind_choice k n xs)
 choice_in a_license_choice license p q c xs e h = subst (λ (z : List Step). In (z, c) (behind_step (to_member (codes "license")) xs)) (sym (after_is (to_member (codes "license")) p q e)) (behind_in (to_member (codes "license")) q c xs h)
-choice_in a_license_choice n p q c xs e h = subst (λ (z : List Step). In (z, c) xs) (sym (some_is p q e)) h
-choice_in _ n p q c xs e h = subst (λ (z : List Step). In (z, c) xs) (sym (some_is p q e)) h
+choice_in a_license_choice n p q c xs e h = subst (λ (z : List Step). In (z, c) xs) (sym (some_same e)) h
+choice_in _ n p q c xs e h = subst (λ (z : List Step). In (z, c) xs) (sym (some_same e)) h
 
 mutual
   unfolding listed_in found
@@ -304,7 +298,7 @@ item_passed : (i : ℕ) (p : List Step) → StartsIn (IsFrom (suc i)) p → afte
 item_passed i [] h = refl
 item_passed i (s ∷ p) h = after_other (to_item i) s p (not_next i s h)
 
-bool_cases : (b : Bool) → (b ≡ true) ⊎ (b ≡ false)
+pub bool_cases : (b : Bool) → (b ≡ true) ⊎ (b ≡ false)
 bool_cases true = inl refl
 bool_cases false = inr refl
 

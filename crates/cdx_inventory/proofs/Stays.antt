@@ -25,6 +25,7 @@ use Rattle.cdx_ways.specs.Ways.{At, behind_step, behind_row, is_step, begins, af
 use Rattle.cdx_ways.proofs.Lists.{own_step, step_is}
 use Rattle.cdx_inventory.specs.Listing.{itself, listed_in, items_listed, rows_listed, listed, text_itself, text_if_there, Remained, remained, is_outside, the_tools, outside_tools, ListsKept}
 use Rattle.cdx_inventory.proofs.Unlisted.{lists_none, unlisted, items_unlisted}
+use Rattle.cdx_inventory.proofs.Listed.{bool_cases}
 
 -- ---- what is known of the same
 
@@ -348,10 +349,6 @@ fields_alike w l a_bill n ts is e h =
     (ap (λ z. way w (a_record z)) is ∙ bill_way w) (record_alike w l n ts (h (ap free_name is)))
 fields_alike w l (a_list x) n ts is e h = absurd (true≢false is)
 fields_alike w l _ n ts is e h = absurd (true≢false e)
-
-bool_cases : (b : Bool) → (b ≡ true) ⊎ (b ≡ false)
-bool_cases true = inl refl
-bool_cases false = inr refl
 
 or_shape : {A B C : Type 0} → (A × B) ⊎ C → A ⊎ C
 or_shape (inl x) = inl x.0

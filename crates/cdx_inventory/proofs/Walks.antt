@@ -1,8 +1,7 @@
 -- What is listed of each record that the walk goes over, and how its steps add up.
-use Rattle.std.specs.Prelude.{◌≡◌, refl, ℕ, suc, ◌+◌, ◌<◌, ◌≤◌, List, [], ◌∷◌, ◌++◌, map, length, take, drop, Bool, true, false, ◌&&◌, if◌then◌else◌, filter, Option, Some, None, codes}
+use Rattle.std.specs.Prelude.{◌≡◌, refl, ℕ, suc, ◌+◌, ◌<◌, ◌≤◌, List, [], ◌∷◌, ◌++◌, map, length, take, drop, Bool, true, false, if◌then◌else◌, filter, Option, Some, None, codes}
 use Rattle.std.proofs.Common.{true≢false, get_or}
 use Rattle.std.proofs.lemmas.List.{map-append, append-nil, append_assoc, at_drop_more, at_drop_all}
-use Rattle.std.proofs.Math.Seq.{take-append_seam}
 use mathlib.Core.Path.{ap, sym, ◌∙◌, subst}
 use native.Mathlib.Omega.{arith}
 use Rattle.cdx_models.specs.declared.errors.Step.{Step}
@@ -34,7 +33,7 @@ use Rattle.cdx_models.specs.declared.tool.Tool.{Tool}
 use Rattle.cdx_bom.specs.declared.bom.Bom.{Bom}
 use Rattle.cdx_bom.specs.Trees.{bom_tree}
 use Rattle.cdx_bom.proofs.Names as names
-use Rattle.cdx_bom.proofs.Names.{lacks, all_lack, both, fields_lack, components_spare}
+use Rattle.cdx_bom.proofs.Names.{lacks, all_lack, fields_lack, components_spare}
 use Rattle.cdx_bom.proofs.Leaves.{text_lacks, boolean_lacks, row_lacks, list_lacks, urn_lacks, mime_type_lacks, cpe_lacks, entity_lacks, contact_lacks, hashes_lack, licenses_lack, swid_lacks, references_lack, properties_lack, evidence_lacks, signature_lacks, commits_lack, patches_lack, tool_lacks, dependencies_lack, compositions_lack}
 use Rattle.cdx_bom.proofs.Whole.{services_lack}
 use Rattle.cdx_ways.specs.Ways.{At, behind_step, behind_row, behind_choice}
@@ -43,6 +42,8 @@ use Rattle.cdx_inventory.specs.Listing.{itself, listed_in, items_listed, rows_li
 use Rattle.cdx_inventory.specs.Entries.{Told, entry, told, all_told, has_license, inventory}
 use Rattle.cdx_inventory.specs.Walks.{entries_below, AddsEntries}
 use Rattle.cdx_inventory.proofs.Unlisted.{append_none, behind_none, choice_none}
+use Rattle.cdx_schema.proofs.JsonBack.{and_true}
+use Rattle.cdx_ways.proofs.Lists.{cut_back}
 
 -- ---- trees without components list nothing
 
@@ -66,14 +67,14 @@ mutual
   nothing_in_items : (ts : Trees) (k : Kind) (i : ℕ) → all_lack names.is_component ts ≡ true → items_listed ts k i ≡ []
   nothing_in_items none k i h = refl
   nothing_in_items (more t ts) k i h =
-      let p = both (lacks names.is_component t) (all_lack names.is_component ts) h in
+      let p = and_true (lacks names.is_component t) (all_lack names.is_component ts) h in
       append_none (behind_step (to_item i) (listed_in t k)) (items_listed ts k (suc i)) (ap (behind_step (to_item i)) (nothing_in t k p.0)) (nothing_in_items ts k (suc i) p.1)
 
   nothing_in_rows : (ts : Trees) (rs : List Row) → all_lack names.is_component ts ≡ true → rows_listed ts rs ≡ []
   nothing_in_rows none rs h = refl
   nothing_in_rows (more t ts) [] h = refl
   nothing_in_rows (more t ts) (r ∷ rs) h =
-      let p = both (lacks names.is_component t) (all_lack names.is_component ts) h in
+      let p = and_true (lacks names.is_component t) (all_lack names.is_component ts) h in
       append_none (behind_row r.json (listed_in t r.kind)) (rows_listed ts rs) (ap (behind_row r.json) (nothing_in t r.kind p.0) ∙ behind_none r.json) (nothing_in_rows ts rs p.1)
 
 leaf : {A : Type 0} (f : A → Tree) (k : Kind) → ((x : A) → lacks names.is_component (f x) ≡ true) → (o : Option A) → listed_in (present f o) k ≡ []
@@ -213,10 +214,6 @@ adds_end xs p q e f a = adds_same xs (xs ++ []) p q e f (append-nil xs) a
 -- a row in which nothing stands
 pub adds_absent : {A : Type 0} (f : A → Tree) (k : Kind) (s : Step) (o : Option A) (p : List Step) (e : List Entry) → o ≡ None → AddsEntries (behind_step s (listed_in (present f o) k)) p p e e
 adds_absent f k s o p e is = adds_same [] (behind_step s (listed_in (present f o) k)) p p e e (ap (λ z. behind_step s (listed_in (present f z) k)) is ∙ ap (behind_step s) (nothing_present f k)) (adds_none p e)
-
--- a path that went on by a step and is cut back
-pub cut_back : (p q r t : List Step) (s : Step) (n : ℕ) → q ≡ p ++ s ∷ [] → r ≡ q → n ≡ length p → t ≡ take n r → t ≡ p
-cut_back p q r t s n is same long cut = cut ∙ (ap (λ m. take m r) long ∙ (ap (take (length p)) (same ∙ is) ∙ take-append_seam p (s ∷ [])))
 
 -- a row in which something stands, where the path went on by the row's name and is cut back
 pub adds_row : {A : Type 0} (f : A → Tree) (k : Kind) (s : Step) (x : A) (o : Option A) (p q r t : List Step) (n : ℕ) (e g : List Entry) → o ≡ Some x → q ≡ p ++ s ∷ [] → n ≡ length p → t ≡ take n r

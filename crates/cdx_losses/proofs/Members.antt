@@ -182,7 +182,7 @@ untripped (suc (suc n)) r t s h = rw (steady_supplier r.xml r.kind s) (by (is_ab
     by true e = e
     by false e = e
 
-first_known : (v w : SpecVersion) → is_first v ≡ true → knows v w ≡ true
+pub first_known : (v w : SpecVersion) → is_first v ≡ true → knows v w ≡ true
 first_known V1_3 w h = refl
 first_known _ w h = absurd (true≢false (sym h))
 

@@ -15,12 +15,13 @@ use Rattle.cdx_schema.specs.JsonReading.{or_else}
 use Rattle.cdx_schema.specs.Trips.{bare, field_after, none_is_absent, is_passed_over}
 use Rattle.cdx_schema.specs.Suppliers.{is_supplier}
 use Rattle.cdx_schema.proofs.XmlLaw.{absent_is}
-use Rattle.cdx_bom.proofs.Names.{lacks, all_lack, both, fields_lack}
+use Rattle.cdx_bom.proofs.Names.{lacks, all_lack, fields_lack}
 use Rattle.cdx_ways.specs.Ways.{At, behind_step, behind_row, behind_choice}
 use Rattle.cdx_losses.specs.declared.loss.Reason.{Reason}
 use Rattle.cdx_losses.specs.declared.loss.Reason.TheVariants.{Version, Xml}
 use Rattle.cdx_losses.specs.Losses.{reason_before_1_5, reason_in, changed_by, is_tripped, is_skipped, if_so, field_reason, item_reason, entry_or, lost, items_lost, rows_lost}
-use Rattle.cdx_losses.proofs.Members.{bare_there}
+use Rattle.cdx_losses.proofs.Members.{bare_there, first_known}
+use Rattle.cdx_schema.proofs.JsonBack.{and_true}
 
 -- ---- records and rows
 
@@ -122,10 +123,6 @@ pub or_none : (o : Option Reason) → or_else o None ≡ o
 or_none None = refl
 or_none (Some w) = refl
 
-pub first_known : (v w : SpecVersion) → is_first v ≡ true → knows v w ≡ true
-first_known V1_3 w h = refl
-first_known _ w h = absurd (true≢false (sym h))
-
 -- What no version changes and no trip takes is taken where the version doesn't know it.
 pub version_reason : (u : SpecVersion) (n : ℕ) (r : Row) (t : Tree) → is_lasting r.xml r.need ≡ true → changed_by u r.kind t ≡ None → is_absent t ≡ false → field_reason u n r t ≡ if_so (not (knows r.since u)) Version
 version_reason u n r t s c h =
@@ -142,7 +139,7 @@ no_field_reason u n r t a c = by (is_absent t) refl
     by : (b : Bool) → is_absent t ≡ b → field_reason u n r t ≡ None
     by true e = ap (field_reason u n r) (absent_is t e)
     by false e =
-        let p = both (is_first r.since) (is_lasting r.xml r.need) a in
+        let p = and_true (is_first r.since) (is_lasting r.xml r.need) a in
         version_reason u n r t p.1 c e ∙ ap (λ b. if_so (not b) Version) (first_known r.since u p.0)
 
 pub not_skipped : (n : ℕ) (t : Tree) → is_passed_over t ≡ false → is_skipped n t ≡ false
@@ -226,7 +223,7 @@ mutual
   pub nothing_of_items : (u : SpecVersion) (n : ℕ) (ts : Trees) (k : Kind) (i : ℕ) → all_lack is_losing ts ≡ true → items_lost u n ts k i ≡ []
   nothing_of_items u n none k i h = refl
   nothing_of_items u n (more t ts) k i h =
-      let p = both (lacks is_losing t) (all_lack is_losing ts) h in
+      let p = and_true (lacks is_losing t) (all_lack is_losing ts) h in
       nothing_joined (behind_step (to_item i) (entry_or (item_reason u n k t) (lost u n t k))) (items_lost u n ts k (suc i))
       (ap (behind_step (to_item i)) (nothing_entered (item_reason u n k t) (lost u n t k) (no_item_reason u n k t (spared_unchanged u k t p.0) (spared_written t p.0)) (nothing_lost u n t k p.0)))
       (nothing_of_items u n ts k (suc i) p.1)
@@ -235,8 +232,8 @@ mutual
   nothing_of_rows u n none rs a h = refl
   nothing_of_rows u n (more t ts) [] a h = refl
   nothing_of_rows u n (more t ts) (r ∷ rs) a h =
-      let p = both (lacks is_losing t) (all_lack is_losing ts) h in
-      let q = both (is_always r) (all_always rs) a in
+      let p = and_true (lacks is_losing t) (all_lack is_losing ts) h in
+      let q = and_true (is_always r) (all_always rs) a in
       nothing_joined (row_lost u n r t) (rows_lost u n ts rs) (nothing_of_row u n r t q.0 p.0 (nothing_lost u n t r.kind p.0)) (nothing_of_rows u n ts rs q.1 p.1)
 
 -- ---- rows of which nothing is taken
@@ -284,10 +281,10 @@ unfolding lost
 rows_spared u n none rs h = refl
 rows_spared u n (more t ts) [] h = refl
 rows_spared u n (more t ts) (r ∷ rs) h =
-    let p = both (if is_spared_row r then lacks is_losing t else true) (are_spared ts rs) h in
+    let p = and_true (if is_spared_row r then lacks is_losing t else true) (are_spared ts rs) h in
     by (is_spared_row r) refl p.0 (rows_spared u n ts rs p.1)
   where
     by : (b : Bool) → is_spared_row r ≡ b → (if b then lacks is_losing t else true) ≡ true → rows_lost u n ts rs ≡ rows_left u n ts rs
         → row_lost u n r t ++ rows_lost u n ts rs ≡ (if b then rows_left u n ts rs else row_lost u n r t ++ rows_left u n ts rs)
-    by true e l f = ap (λ xs. xs ++ rows_lost u n ts rs) (nothing_of_row u n r t (both (is_always r) (is_spared_kind r.kind) e).0 l (nothing_lost u n t r.kind l)) ∙ f
+    by true e l f = ap (λ xs. xs ++ rows_lost u n ts rs) (nothing_of_row u n r t (and_true (is_always r) (is_spared_kind r.kind) e).0 l (nothing_lost u n t r.kind l)) ∙ f
     by false e l f = ap (λ xs. row_lost u n r t ++ xs) f

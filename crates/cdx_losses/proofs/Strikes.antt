@@ -30,6 +30,7 @@ use Rattle.cdx_losses.specs.Laws.{StrikesRoads}
 use Rattle.cdx_losses.proofs.Members.{is_steady, steady_after}
 use Rattle.cdx_losses.proofs.Cut.{cut, items_cut, rows_cut, own_struck}
 use Rattle.cdx_schema.proofs.Basics.{more_is, some_same}
+use Rattle.cdx_losses.proofs.Spared.{reason_there, not_skipped}
 
 -- ---- what trips leave, counted to two
 
@@ -285,10 +286,6 @@ third_stays u l (suc (suc n)) (more a (more b (more c ts))) h = class_stays u l 
 abbrev Changed : SpecVersion → SpecVersion → ℕ → Tree → Kind → Reason → Type 0
 Changed u l n t k why = ((c : Tree) → field_struck (Some why) t c ≡ kept u l (left n t) k) × ((c : Tree) (us : Trees) → item_struck (Some why) t c us ≡ more (kept u l (left n t) k) us) × (is_skipped n t ≡ false) × (is_changing k ≡ true)
 
-not_skipped : (n : ℕ) (t : Tree) → is_passed_over t ≡ false → is_skipped n t ≡ false
-not_skipped zero t h = refl
-not_skipped (suc n) t h = h
-
 changed_tools : (u l : SpecVersion) (n : ℕ) (ts : Trees) → items none ≡ kept u l (left n (fields tools_object ts)) a_tools → Changed u l n (fields tools_object ts) a_tools Tools
 changed_tools u l n ts e = (λ c. e, λ c us. more_is e refl, not_skipped n (fields tools_object ts) refl, refl)
 
@@ -408,14 +405,6 @@ record_alike u l n _ m ts is h e f = absurd (true≢false is)
 
 -- ---- fields and items
 
-reason_is : (u : SpecVersion) (n : ℕ) (r : Row) (t : Tree) → is_absent t ≡ false → field_reason u n r t ≡ or_else (if_so (not (knows r.since u)) Version) (or_else (changed_by u r.kind t) (if_so (is_tripped n r t) Xml))
-reason_is u n r absent h = absurd (true≢false h)
-reason_is u n r (text s) h = refl
-reason_is u n r (number m) h = refl
-reason_is u n r (boolean b) h = refl
-reason_is u n r (items ts) h = refl
-reason_is u n r (fields m ts) h = refl
-
 firm_steady : (r : Row) → is_firm r ≡ true → is_changing r.kind ≡ true → is_steady r.xml ≡ true
 firm_steady r f c = sym (ap (λ b. if b then is_steady r.xml else true) c) ∙ f
 
@@ -445,7 +434,7 @@ field_alike : (u l : SpecVersion) (n : ℕ) (t : Tree) (r : Row) → is_firm r �
     → settled (field_struck (field_reason u n r t) t (cut u n l t r.kind)) r.kind ≡ settled (if knows r.since u then kept u l (field_left n r t) r.kind else absent) r.kind
 field_alike u l n t r firm (inl h) f = subst (λ (x : Tree). settled (field_struck (field_reason u n r x) x (cut u n l x r.kind)) r.kind ≡ settled (if knows r.since u then kept u l (field_left n r x) r.kind else absent) r.kind) (sym h.0) (absent_alike u l n r)
 field_alike u l n t r firm (inr h) f =
-    ap (λ o. settled (field_struck o t (cut u n l t r.kind)) r.kind) (reason_is u n r t (of_there AnyText t r.kind h))
+    ap (λ o. settled (field_struck o t (cut u n l t r.kind)) r.kind) (reason_there u n r t (of_there AnyText t r.kind h))
     ∙ there_alike u l n t r firm h f (knows r.since u) (changed_by u r.kind t) (is_tripped n r t) refl refl
 
 item_alike : (u l : SpecVersion) (n : ℕ) (t : Tree) (ts : Trees) (k : Kind) → HasShape t k → IfUnchanged u l n t k → items_settled (items_cut u n l ts k) k ≡ items_settled (items_kept u l (items_left n ts) k) k

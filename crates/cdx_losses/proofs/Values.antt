@@ -16,13 +16,11 @@ use Rattle.cdx_service_data.specs.declared.service.Data.{Data}
 use Rattle.cdx_service_data.specs.declared.service.Data.TheVariants as data_of
 use Rattle.cdx_service_data.specs.declared.service.ServiceData.{ServiceData}
 use Rattle.cdx_component.specs.declared.component.Components.{Components}
-use Rattle.cdx_component.specs.declared.component.Component.{Component}
-use Rattle.cdx_component.specs.Trees.{component_tree, components_tree}
-use Rattle.cdx_component.specs.Laws.{component_tree-out, components_tree-out}
+use Rattle.cdx_component.specs.Trees.{components_tree}
+use Rattle.cdx_component.specs.Laws.{components_tree-out}
 use Rattle.cdx_service.specs.declared.service.Services.{Services}
-use Rattle.cdx_service.specs.declared.service.Service.{Service}
-use Rattle.cdx_service.specs.Trees.{service_tree, services_tree}
-use Rattle.cdx_service.specs.Laws.{service_tree-out, services_tree-out}
+use Rattle.cdx_service.specs.Trees.{services_tree}
+use Rattle.cdx_service.specs.Laws.{services_tree-out}
 use Rattle.cdx_nest.specs.Trees.{tools_tree}
 use Rattle.cdx_nest.specs.declared.tools.Tools.{Tools}
 use Rattle.cdx_nest.specs.declared.tools.Tools.TheVariants as variant
@@ -170,9 +168,6 @@ no_flow_value road x h =
 
 -- ---- what isn't passed over
 
-pub component_written : (x : Component) → is_passed_over (component_tree x) ≡ false
-component_written x = ap is_passed_over (component_tree-out x)
-
 pub components_written : (x : Components) → is_passed_over (components_tree x) ≡ false
 components_written x = ap is_passed_over (components_tree-out x)
 
@@ -182,9 +177,6 @@ services_written x = ap is_passed_over (services_tree-out x)
 pub tools_written : (x : Tools) → is_passed_over (tools_tree x) ≡ false
 tools_written (variant.List ts) = refl
 tools_written (variant.Object ss cs) = refl
-
-pub service_written : (x : Service) → is_passed_over (service_tree x) ≡ false
-service_written x = ap is_passed_over (service_tree-out x)
 
 pub data_written : (x : Data) → is_passed_over (data_tree x) ≡ false
 data_written (data_of.Classification xs) = refl

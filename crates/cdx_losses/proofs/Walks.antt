@@ -3,7 +3,6 @@ use Rattle.std.specs.Prelude.{◌≡◌, refl, ℕ, suc, ◌+◌, ◌<◌, ◌�
 use Rattle.std.proofs.Common.{get_or}
 use Rattle.std.proofs.lemmas.List.{map-append, append-nil, append_assoc, at_drop_more, at_drop_all}
 use Rattle.std.proofs.lemmas.Result.{IfOk-weaker}
-use Rattle.std.proofs.Math.Seq.{take-append_seam}
 use mathlib.Core.Path.{ap, sym, ◌∙◌, subst}
 use native.Mathlib.Omega.{arith}
 use Rattle.cdx_models.specs.declared.errors.Step.{Step}
@@ -16,7 +15,6 @@ use Rattle.cdx_schema.specs.Faults.{to_member, to_item}
 use Rattle.cdx_schema.specs.JsonReading.{or_else}
 use Rattle.cdx_schema.specs.Trips.{is_passed_over}
 use Rattle.cdx_schema.proofs.XmlLaw.{absent_is}
-use Rattle.cdx_bom.proofs.Names.{both}
 use Rattle.cdx_ways.specs.Ways.{At, behind_step, behind_row}
 use Rattle.cdx_losses.specs.declared.loss.Loss.{Loss}
 use Rattle.cdx_losses.specs.declared.loss.Reason.{Reason}
@@ -26,8 +24,11 @@ use Rattle.cdx_losses.specs.declared.walk.Walk.{Walk}
 use Rattle.cdx_losses.specs.Losses.{changed_by, is_tripped, if_so, field_reason, item_reason, entry_or, lost, items_lost}
 use Rattle.cdx_losses.specs.Told.{told, all_told}
 use Rattle.cdx_losses.specs.Walks.{below, AddsLosses, value_lost}
-use Rattle.cdx_losses.proofs.Spared.{is_lasting, is_always, row_lost, reason_there, first_known, lasting_stays, version_reason, no_field_reason, no_item_reason, not_skipped, spared_unchanged, nothing_lost}
+use Rattle.cdx_losses.proofs.Spared.{is_lasting, is_always, row_lost, reason_there, lasting_stays, version_reason, no_field_reason, no_item_reason, not_skipped, spared_unchanged, nothing_lost}
 use Rattle.cdx_losses.proofs.Levels.{Spared}
+use Rattle.cdx_schema.proofs.JsonBack.{and_true}
+use Rattle.cdx_losses.proofs.Members.{first_known}
+use Rattle.cdx_ways.proofs.Lists.{cut_back}
 
 abbrev Entries : Type 0
 Entries = List (At Reason)
@@ -60,10 +61,6 @@ adds_end xs a b e = adds_same xs (xs ++ []) a b (append-nil xs) e
 
 pub adds_one : (why : Reason) (a b : Walk) (x : Loss) → b.path.items ≡ a.path.items → b.losses ≡ a.losses ++ x ∷ [] → told x ≡ (a.path.items, why) → AddsLosses (([], why) ∷ []) a b
 adds_one why a b x same is h = (same, ap all_told is ∙ (map-append told a.losses (x ∷ []) ∙ ap (λ z. all_told a.losses ++ z ∷ []) (h ∙ ap (λ q. (q, why)) (sym (append-nil a.path.items)))))
-
--- a path that went on by a step and is cut back
-cut_back : (p q r t : List Step) (s : Step) (n : ℕ) → q ≡ p ++ s ∷ [] → r ≡ q → n ≡ length p → t ≡ take n r → t ≡ p
-cut_back p q r t s n is same long cut = cut ∙ (ap (λ m. take m r) long ∙ (ap (take (length p)) (same ∙ is) ∙ take-append_seam p (s ∷ [])))
 
 -- What is added between a step and the way back is added behind the step: a enters at b, adds up to c, and goes back to d.
 pub adds_behind : (s : Step) (xs : Entries) (a b c d : Walk) (n : ℕ) → b.path.items ≡ a.path.items ++ s ∷ [] → b.losses ≡ a.losses → AddsLosses xs b c
@@ -126,7 +123,7 @@ value_row u n r t a p = by (is_absent t) refl
     by : (b : Bool) → is_absent t ≡ b → field_reason u n r t ≡ item_reason u n r.kind t
     by true e = ap (field_reason u n r) (absent_is t e) ∙ sym (no_item_reason u n r.kind t (ap (changed_by u r.kind) (absent_is t e)) p)
     by false e =
-        let q = both (is_first r.since) (is_lasting r.xml r.need) a in
+        let q = and_true (is_first r.since) (is_lasting r.xml r.need) a in
         reason_there u n r t e
         ∙ (ap (λ b. or_else (if_so (not b) Version) (or_else (changed_by u r.kind t) (if_so (is_tripped n r t) Xml))) (first_known r.since u q.0)
         ∙ (ap (λ b. or_else (changed_by u r.kind t) (if_so b Xml)) (lasting_stays n r t q.1 e)

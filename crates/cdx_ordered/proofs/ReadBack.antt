@@ -23,7 +23,7 @@ below_through : (k l : List ℕ) (ms : Members) → slice_cmp nat_cmp k l ≡ Le
 below_through k l no_members h b = tt
 below_through k l (member m d ms) h b = (nat_list_cmp_total.trans k l m h b.0, below_through k l ms h b.1)
 
-turned : (k l : List ℕ) (o : Ordering) → slice_cmp nat_cmp k l ≡ o → slice_cmp nat_cmp l k ≡ ordering_reverse o
+pub turned : (k l : List ℕ) (o : Ordering) → slice_cmp nat_cmp k l ≡ o → slice_cmp nat_cmp l k ≡ ordering_reverse o
 turned k l o h = nat_list_cmp_total.antisymm l k ∙ ap ordering_reverse h
 
 below_put : (k l : List ℕ) (d : Data) (ms : Members) → slice_cmp nat_cmp k l ≡ Less → IsBelow k ms → IsBelow k (put l d ms)

@@ -12,10 +12,13 @@ use serde_json::Value;
 use std::alloc::{AllocError, Global};
 use std::test::Fail;
 
+/// Version 1.3.
 pub const V3: SpecVersion = SpecVersion::V1_3;
 
+/// Version 1.4.
 pub const V4: SpecVersion = SpecVersion::V1_4;
 
+/// Version 1.5.
 pub const V5: SpecVersion = SpecVersion::V1_5;
 
 fn repeated(alloc: Global, piece: &str, times: usize) -> Result<String, AllocError> {

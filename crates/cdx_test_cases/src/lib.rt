@@ -1,7 +1,9 @@
-//! For tests: the rows of tables, documents as lines, faults as texts, and what a text or a document comes to.
+//! For tests: the rows of tables, documents as lines, faults as texts, what a program is run with, and what a text or a
+//! document comes to.
 #![tactic(auto)]
 
 pub mod documents;
 pub mod faults;
 pub mod forms;
+pub mod inputs;
 pub mod rows;

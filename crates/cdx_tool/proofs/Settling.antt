@@ -1,5 +1,5 @@
 -- How a program of the frame ends.
-use Rattle.std.proofs.Common.{◌≡◌, ℕ, ◌≤◌, ◌<◌, List, [], ◌++◌, length, codes, Option, Some, None, ◌⊎◌, inl, inr, refl, sym, ap, subst, ◌∙◌, arith}
+use Rattle.std.proofs.Common.{◌≡◌, ℕ, ◌<◌, List, [], ◌++◌, length, codes, Option, Some, None, ◌⊎◌, inl, inr, refl, sym, ap, subst, ◌∙◌, arith}
 use Rattle.std.specs.Io.KnownBytes.{Keeps, Consumes, IsAtEnd}
 use Rattle.std.proofs.lemmas.Bool.{lt-ltb}
 use Rattle.std.proofs.lemmas.List.{length-append, append-nil}
@@ -21,7 +21,7 @@ pub owed_to_long : {C : Type 0} (owed : C → List ℕ → Reply) (c : C) (o n :
 owed_to_long owed c o n taken r h lt e = let t = long_told o n taken h lt in (t.0, t.1, e ∙ too_long_by owed c t.0 t.2)
 
 -- all that was left was taken
-all_told : (o n : Option (List ℕ)) (taken : List ℕ) → Consumes o n taken → IsAtEnd n → Tells o taken
+pub all_told : (o n : Option (List ℕ)) (taken : List ℕ) → Consumes o n taken → IsAtEnd n → Tells o taken
 all_told None n taken h end = tt
 all_told (Some told) None taken h end = absurd h
 all_told (Some told) (Some rest) taken h end = sym (h ∙ ap (λ bs. taken ++ bs) end ∙ append-nil taken)

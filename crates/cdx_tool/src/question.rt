@@ -65,7 +65,7 @@ impl From<RoadError> for NoBill {
 /// document by `read_doc`. The value is taken, so that no JSON is copied.
 ///
 /// `Shape` comes exactly where the value is no such object, and else `Unbalanced` exactly where the document's events
-/// aren't balanced.
+/// aren't balanced. Want of memory comes only as `Memory`.
 pub fn read_question(alloc: Global, value: Value) -> Result<Question, RequestError>
     ensures { ReadsOwed IsQuestion (inquiry_of (view value)) result }
 {

@@ -1,6 +1,7 @@
 -- Lists of paths: which begin with what, which differ, and what stands at them.
-use Rattle.std.specs.Prelude.{◌≡◌, ◌≢◌, refl, zero, suc, List, [], ◌∷◌, ◌++◌, Bool, true, false, if◌then◌else◌, Option, Some, None, AllPairs, All, Contains, ◌⊎◌}
-use Rattle.std.proofs.Common.{true≢false, inl, inr, eq-eqb, eqb-true}
+use Rattle.std.specs.Prelude.{◌≡◌, ◌≢◌, refl, ℕ, zero, suc, length, take, List, [], ◌∷◌, ◌++◌, Bool, true, false, if◌then◌else◌, Option, Some, None, AllPairs, All, Contains, ◌⊎◌}
+use Rattle.std.proofs.Math.Seq.{take-append_seam}
+use Rattle.std.proofs.Common.{◌∙◌, true≢false, inl, inr, eq-eqb, eqb-true}
 use Rattle.std.proofs.lemmas.Slice.Eq.{bytes_eq-Decides}
 use Rattle.std.proofs.lemmas.List.Elements.{All-nil, All-cons}
 use Rattle.std.proofs.lemmas.List.Kept.{AllPairs-cons}
@@ -10,12 +11,17 @@ use Rattle.cdx_models.specs.declared.errors.Step.{Step}
 use Rattle.cdx_models.specs.declared.errors.Step.TheVariants.{Member, Item}
 use Rattle.cdx_schema.specs.Membership.{Never}
 use Rattle.cdx_ways.specs.Ways.{At, behind_step, is_step, after_step}
+use Rattle.cdx_schema.proofs.Basics.{some_same}
 
 -- ---- steps
 
 pub own_step : (s : Step) → is_step s s ≡ true
 own_step (Member n) = (bytes_eq-Decides n n).1 refl
 own_step (Item i) = eq-eqb i i refl
+
+-- a path that went on by a step and is cut back
+pub cut_back : (p q r t : List Step) (s : Step) (n : ℕ) → q ≡ p ++ s ∷ [] → r ≡ q → n ≡ length p → t ≡ take n r → t ≡ p
+cut_back p q r t s n is same long cut = cut ∙ (ap (λ m. take m r) long ∙ (ap (take (length p)) (same ∙ is) ∙ take-append_seam p (s ∷ [])))
 
 pub step_is : (s s' : Step) → is_step s s' ≡ true → s ≡ s'
 step_is (Member m) (Member n) h = ap Member ((bytes_eq-Decides m n).0 h)
@@ -28,14 +34,6 @@ after_own s p = ap (λ b. if b then Some p else None) (own_step s)
 
 pub after_other : (s s' : Step) (p : List Step) → is_step s s' ≡ false → after_step s (s' ∷ p) ≡ None
 after_other s s' p h = ap (λ b. if b then Some p else None) h
-
-tail_or : List Step → Option (List Step) → List Step
-tail_or p None = p
-tail_or p (Some q) = q
-
-some_is : {p q : List Step} → Some p ≡ Some q → p ≡ q
-unfolding tail_or
-some_is {p} e = ap (tail_or p) e
 
 none_some : {p : List Step} → {B : Type 0} → None ≡ Some p → B
 none_some e = absurd (true≢false (ap is_there (sym e)))
@@ -50,7 +48,7 @@ after_is s [] q h = none_some h
 after_is s (s' ∷ p) q h = by (is_step s s') refl h
   where
     by : (b : Bool) → is_step s s' ≡ b → (if b then Some p else None) ≡ Some q → s' ∷ p ≡ s ∷ q
-    by true e h = rw (sym (step_is s s' e), some_is h) refl
+    by true e h = rw (sym (step_is s s' e), some_same h) refl
     by false e h = none_some h
 
 -- ---- what is listed

@@ -1,8 +1,6 @@
 -- The entries of a service's data, and the label of a bill.
 use Rattle.std.proofs.Common.{◌≡◌, Bool, true, false, if◌then◌else◌, inl, inr, refl}
-use Rattle.cdx_models.specs.declared.bom.SpecVersion.{SpecVersion}
-use Rattle.cdx_models.specs.declared.bom.SpecVersion.TheVariants.{V1_3, V1_4, V1_5}
-use Rattle.cdx_models.specs.Versions.{label, is_label}
+use Rattle.cdx_models.specs.Versions.{label}
 use Rattle.cdx_models.specs.Trees.{classification, service_data, fields_of, field}
 use Rattle.cdx_models.specs.Entries.{is_flow}
 use Rattle.cdx_schema.specs.Kinds.{a_record, an_entry, required}
@@ -28,8 +26,3 @@ by_flow x false e h = within x.classification h.1.1.0
 
 pub data_entry : (x : ServiceData) → IsOf (service_data_tree x) (a_record service_data) → IsOf (service_entry x) an_entry
 data_entry x h = by_flow x (is_flow service_data (fields_of (service_data_tree x))) refl h.1
-
-pub label_is : (v : SpecVersion) → is_label (label v) ≡ true
-label_is V1_3 = refl
-label_is V1_4 = refl
-label_is V1_5 = refl

@@ -1,8 +1,9 @@
 //! The program's calls one by one: bytes taken in and put out, documents and events read and written.
 
-use crate::tests::expect::{bytes_of, holds, text_is};
+use crate::tests::expect::{holds, text_is};
 use cdx_bom::Doc;
 use cdx_events::{Events, List, MemorySink, SoundSource, Text};
+use cdx_test_cases::inputs::bytes_of;
 use cdx_tool::{
     InputError, PutError, RequestError, events_from_json, events_to_json, put_answer, read_doc,
     take_input,

@@ -2,6 +2,7 @@
 //! comments are passed over. And what ends a test: a call here takes far less to prove than an assertion in its place.
 
 use cdx_events::{List, MemorySink, SoundSource};
+use cdx_test_cases::inputs::bytes_of;
 use cdx_tool::{answer_bytes, run};
 use std::alloc::{AllocError, Global};
 use std::process::Abort;
@@ -42,17 +43,12 @@ pub fn row_holds(rt: &impl Abort, row: &str, is_so: bool) {
 }
 
 /// The words that the program is called with, each after a `|`.
-pub fn words_of(alloc: Global, asked: &str) -> Result<Vec<String>, AllocError> {
+pub fn words_in(alloc: Global, asked: &str) -> Result<Vec<String>, AllocError> {
     let mut words = Vec::new(alloc);
     for word in asked.split('|').skip(1) {
         words.push(String::from_str(alloc, word)?)?;
     }
     Ok(words)
-}
-
-/// The bytes of a text.
-pub fn bytes_of(alloc: Global, text: &str) -> Result<List<u8>, AllocError> {
-    Ok(List::from_vec(text.as_bytes().to_vec(alloc)?))
 }
 
 /// Compares the status and the text that answer each request of the table.
@@ -78,7 +74,7 @@ pub fn ended(
 ) -> Result<(), AllocError> {
     for line in rows.lines() {
         if let Some((asked, text)) = row(line) {
-            let words = words_of(alloc, asked)?;
+            let words = words_in(alloc, asked)?;
             let mut source = SoundSource::new(bytes_of(alloc, input)?);
             let mut sink = MemorySink::new(alloc, 4096, 10, List::new(alloc))?;
             let found = run(alloc, words.as_slice(), &mut source, &mut sink);

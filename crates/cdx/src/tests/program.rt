@@ -1,7 +1,8 @@
 //! The program by its words.
 
-use crate::tests::expect::{bytes_of, ended, holds, words_of};
+use crate::tests::expect::{ended, holds, words_in};
 use cdx_events::{List, MemorySink, MemorySource, SoundSource};
+use cdx_test_cases::inputs::bytes_of;
 use cdx_tool::run;
 use std::test::Fail;
 
@@ -49,7 +50,7 @@ fn largest_bill_made(rt: HostRuntime) -> Result<(), Fail> {
 #[test]
 fn one_byte_too_many(rt: HostRuntime) -> Result<(), Fail> {
     let alloc = rt.alloc();
-    let words = words_of(alloc, "|road")?;
+    let words = words_in(alloc, "|road")?;
     let spaces = vec![in alloc; b' '; 67_108_865]?;
     let mut source = SoundSource::new(List::from_vec(spaces));
     let mut sink = MemorySink::new(alloc, 64, 64, List::new(alloc))?;
@@ -68,7 +69,7 @@ fn one_byte_too_many(rt: HostRuntime) -> Result<(), Fail> {
 #[test]
 fn failing_ends(rt: HostRuntime) -> Result<(), Fail> {
     let alloc = rt.alloc();
-    let words = words_of(alloc, "|road")?;
+    let words = words_in(alloc, "|road")?;
     let answer = "{\"documents\":[]}\n".as_bytes();
     for (source_fails, sink_fails, status, written) in [
         (2u64, 99u64, 3u8, 0usize),

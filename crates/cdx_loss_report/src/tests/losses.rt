@@ -3,9 +3,10 @@
 //! A table is a text of one row per line, with ` -> ` between what is asked and its answer. Blank lines and comments are
 //! passed over.
 
-use crate::tests::expect::{bytes_of, holds, row_holds, words_of};
+use crate::tests::expect::{holds, row_holds};
 use cdx_events::{List, MemorySink, MemorySource, SoundSource};
 use cdx_losses::report;
+use cdx_test_cases::inputs::{bytes_of, words_of};
 use cdx_test_cases::rows::row;
 use std::alloc::{AllocError, Global};
 use std::process::Abort;

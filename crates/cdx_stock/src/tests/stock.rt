@@ -1,8 +1,9 @@
 //! The components of bills as the program answers them.
 
-use crate::tests::expect::{bytes_of, holds, row_holds, words_of};
+use crate::tests::expect::{holds, row_holds};
 use cdx_events::{List, MemorySink, MemorySource, SoundSource};
 use cdx_inventory::stock;
+use cdx_test_cases::inputs::{bytes_of, words_of};
 use std::alloc::{AllocError, Global};
 use std::process::Abort;
 use std::test::Fail;

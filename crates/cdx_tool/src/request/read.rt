@@ -111,7 +111,7 @@ fn settle(alloc: Global, sent: Sent) -> Result<Doc, RequestError>
 /// objects by `events_to_json`, where an empty array of attributes is accepted too.
 ///
 /// `Shape` comes exactly where the value is no such object, and else `Unbalanced` exactly where the events aren't
-/// balanced.
+/// balanced. Want of memory comes only as `Memory`.
 pub fn read_doc(alloc: Global, value: &Value) -> Result<Doc, RequestError>
     ensures { ReadsOwed IsDoc (doc_in (view value.now)) result }
 {
@@ -133,7 +133,7 @@ pub fn take_doc(alloc: Global, value: Value) -> Result<Doc, RequestError>
 
 /// The events of an array of event objects, by `events_to_json`; an empty array of attributes is accepted too. `Shape`
 /// comes exactly where the value is no such array. It doesn't matter whether the events are balanced, so `Unbalanced`
-/// never comes.
+/// never comes. Want of memory comes only as `Memory`.
 pub fn events_from_json(alloc: Global, value: &Value) -> Result<List<XmlEvent>, RequestError>
     ensures { ReadsIf (events_in (view value.now)) result }
 {
@@ -221,7 +221,7 @@ pub fn take_request(alloc: Global, value: Value) -> Result<Request, RequestError
 /// by `read_doc`, and `hops`, an array of objects with exactly `form` (`"json"` or `"xml"`) and `version`.
 ///
 /// `Shape` comes exactly where the value is no such object, and else `Unbalanced` exactly where the document's events
-/// aren't balanced.
+/// aren't balanced. Want of memory comes only as `Memory`.
 pub fn read_request(alloc: Global, value: &Value) -> Result<Request, RequestError>
     ensures { ReadsOwed IsRequest (request_of (view value.now)) result }
 {

@@ -8,8 +8,9 @@ use Rattle.cdx_ways.specs.Ways.{behind_step}
 use Rattle.cdx_inventory.specs.Listing.{listed_in, items_listed}
 use Rattle.cdx_inventory.specs.Entries.{entry, all_told}
 use Rattle.cdx_inventory.specs.Walks.{entries_below}
-use Rattle.cdx_inventory.proofs.Walks.{component_listed, pedigree_listed, components_listed, adds_same, adds_both, adds_one, adds_end, adds_absent, adds_row, cut_back, remains_next, remains_none}
+use Rattle.cdx_inventory.proofs.Walks.{component_listed, pedigree_listed, components_listed, adds_same, adds_both, adds_one, adds_end, adds_absent, adds_row, remains_next, remains_none}
 use Rattle.cdx_inventory.proofs.listing.+listing.Goals as goal
+use Rattle.cdx_ways.proofs.Lists.{cut_back}
 
 pub list_component-returns : goal.list_component-returns
 list_component-returns t c =

@@ -17,9 +17,10 @@ use Rattle.cdx_losses.specs.Told.{all_told}
 use Rattle.cdx_losses.proofs.Spared.{row_lost}
 use Rattle.cdx_losses.proofs.Levels.{signature_spared, licenses_row, component_lost, pedigree_lost, components_lost}
 use Rattle.cdx_losses.proofs.Walks.{nothing_there, adds_row, adds_same, adds_both, adds_end, adds_absent, adds_unknown, adds_value, adds_inside, adds_or, round, round_first, rounds_done}
-use Rattle.cdx_losses.proofs.Values.{row_written, value_inside, component_written}
+use Rattle.cdx_losses.proofs.Values.{row_written, value_inside}
 use Rattle.cdx_losses.proofs.Gone.{unchanged}
 use Rattle.cdx_losses.proofs.nested.+components.Goals as goal
+use Rattle.cdx_component.proofs.Written.{component_counts}
 
 pub lose_component-returns : goal.lose_component-returns
 lose_component-returns t c =
@@ -89,7 +90,7 @@ pub lose_components-loop-i-preserved : goal.lose_components-loop-i-preserved
 lose_components-loop-i-preserved t c =
     round component_tree (a_record component) c.args.road c.as_slice-item-items.result.now c.loop-i.i c.item-item.result c.args.walk.now c.loop-i.walk c.enter_item.new.self c.lose_component.new.walk c.leave.new.self c.depth-depth.result (all_told c.args.walk.now.losses ++ below c.args.walk.now.path.items (lost c.args.road.version c.args.road.trips (components_tree c.args.held.now) (a_list components))) c.loop-i-test.true c.item-item.is c.loop-i.invariant
     c.in_ok-enter_item.ensures.path c.enter_item.ensures.losses
-    (adds_same (lost c.args.road.version c.args.road.trips (component_tree c.item-item.result) (a_record component)) (value_lost c.args.road (component_tree c.item-item.result) (a_record component)) c.enter_item.new.self c.lose_component.new.walk (value_inside c.args.road (component_tree c.item-item.result) (a_record component) refl (component_written c.item-item.result)) c.in_ok-lose_component.ensures)
+    (adds_same (lost c.args.road.version c.args.road.trips (component_tree c.item-item.result) (a_record component)) (value_lost c.args.road (component_tree c.item-item.result) (a_record component)) c.enter_item.new.self c.lose_component.new.walk (value_inside c.args.road (component_tree c.item-item.result) (a_record component) refl (component_counts c.item-item.result)) c.in_ok-lose_component.ensures)
     c.depth-depth.ensures c.leave.ensures.path c.leave.ensures.losses
 
 pub lose_components-returns : goal.lose_components-returns

@@ -15,9 +15,10 @@ use Rattle.cdx_losses.specs.Told.{all_told}
 use Rattle.cdx_losses.proofs.Spared.{row_lost}
 use Rattle.cdx_losses.proofs.Levels.{text_spared, signature_spared, zone_row, licenses_row, service_lost, services_lost}
 use Rattle.cdx_losses.proofs.Walks.{nothing_there, adds_row, adds_same, adds_both, adds_end, adds_absent, adds_unknown, adds_value, adds_inside, round, round_first, rounds_done}
-use Rattle.cdx_losses.proofs.Values.{data_written, service_written, row_written, value_inside}
+use Rattle.cdx_losses.proofs.Values.{data_written, row_written, value_inside}
 use Rattle.cdx_losses.proofs.Gone.{unchanged}
 use Rattle.cdx_losses.proofs.nested.+services.Goals as goal
+use Rattle.cdx_service.proofs.Written.{service_counts}
 
 pub lose_service-returns : goal.lose_service-returns
 lose_service-returns t c =
@@ -61,7 +62,7 @@ pub lose_services-loop-i-preserved : goal.lose_services-loop-i-preserved
 lose_services-loop-i-preserved t c =
     round service_tree (a_record service) c.args.road c.as_slice-item-items.result.now c.loop-i.i c.item-item.result c.args.walk.now c.loop-i.walk c.enter_item.new.self c.lose_service.new.walk c.leave.new.self c.depth-depth.result (all_told c.args.walk.now.losses ++ below c.args.walk.now.path.items (lost c.args.road.version c.args.road.trips (services_tree c.args.held.now) (a_list services))) c.loop-i-test.true c.item-item.is c.loop-i.invariant
     c.in_ok-enter_item.ensures.path c.enter_item.ensures.losses
-    (adds_same (lost c.args.road.version c.args.road.trips (service_tree c.item-item.result) (a_record service)) (value_lost c.args.road (service_tree c.item-item.result) (a_record service)) c.enter_item.new.self c.lose_service.new.walk (value_inside c.args.road (service_tree c.item-item.result) (a_record service) refl (service_written c.item-item.result)) c.in_ok-lose_service.ensures)
+    (adds_same (lost c.args.road.version c.args.road.trips (service_tree c.item-item.result) (a_record service)) (value_lost c.args.road (service_tree c.item-item.result) (a_record service)) c.enter_item.new.self c.lose_service.new.walk (value_inside c.args.road (service_tree c.item-item.result) (a_record service) refl (service_counts c.item-item.result)) c.in_ok-lose_service.ensures)
     c.depth-depth.ensures c.leave.ensures.path c.leave.ensures.losses
 
 pub lose_services-returns : goal.lose_services-returns

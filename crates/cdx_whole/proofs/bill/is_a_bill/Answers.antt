@@ -2,8 +2,8 @@ use Rattle.std.proofs.Common.{inr, refl}
 use Rattle.cdx_schema.specs.Table.{rows}
 use Rattle.cdx_schema.specs.Laws.{IsBill}
 use Rattle.cdx_bom.specs.Trees.{bom_tree}
-use Rattle.cdx_whole.proofs.Entries.{label_is}
 use Rattle.cdx_whole.proofs.bill.is_a_bill.Goals as goal
+use Rattle.cdx_schema.proofs.HeldKept.{label_is}
 
 pub returns : goal.returns
 unfolding rows

@@ -10,8 +10,9 @@ use Rattle.cdx_losses.specs.Walks.{value_lost}
 use Rattle.cdx_losses.proofs.Spared.{row_lost}
 use Rattle.cdx_losses.proofs.Levels.{licenses_row, metadata_lost}
 use Rattle.cdx_losses.proofs.Walks.{adds_same, adds_both, adds_end, adds_value}
-use Rattle.cdx_losses.proofs.Values.{row_written, value_inside, component_written, tools_written}
+use Rattle.cdx_losses.proofs.Values.{row_written, value_inside, tools_written}
 use Rattle.cdx_losses.proofs.walking.MetadataLosing.lose.Goals as goal
+use Rattle.cdx_component.proofs.Written.{component_counts}
 
 pub returns : goal.returns
 returns c =
@@ -31,7 +32,7 @@ returns c =
     adds_same (r1 ++ (r2 ++ (r3 ++ (r4 ++ (r5 ++ (r6 ++ [])))))) (value_lost c.args.road (metadata_tree c.args.self.now) (a_record metadata)) a w6 (value_inside c.args.road (metadata_tree c.args.self.now) (a_record metadata) refl refl ∙ metadata_lost c.args.road.version c.args.road.trips c.args.self.now)
     (adds_both r1 (r2 ++ (r3 ++ (r4 ++ (r5 ++ (r6 ++ []))))) a w1 w6 (adds_value c.args.road (of a_tools "tools") (codes "tools") (present tools_tree c.args.self.now.tools) a w1 refl (row_written tools_tree tools_written c.args.self.now.tools) refl c.in_ok-lose_row.ensures)
     (adds_both r2 (r3 ++ (r4 ++ (r5 ++ (r6 ++ [])))) w1 w2 w6 (adds_value c.args.road (of (a_list authors) "authors") (codes "authors") (present (list_tree contact_tree) c.args.self.now.authors) w1 w2 refl (row_written (list_tree contact_tree) (λ y. refl) c.args.self.now.authors) refl c.in_ok-lose_row-2.ensures)
-    (adds_both r3 (r4 ++ (r5 ++ (r6 ++ []))) w2 w3 w6 (adds_value c.args.road (of (a_record component) "component") (codes "component") (present component_tree c.args.self.now.component) w2 w3 refl (row_written component_tree component_written c.args.self.now.component) refl c.in_ok-lose_row-3.ensures)
+    (adds_both r3 (r4 ++ (r5 ++ (r6 ++ []))) w2 w3 w6 (adds_value c.args.road (of (a_record component) "component") (codes "component") (present component_tree c.args.self.now.component) w2 w3 refl (row_written component_tree component_counts c.args.self.now.component) refl c.in_ok-lose_row-3.ensures)
     (adds_both r4 (r5 ++ (r6 ++ [])) w3 w4 w6 (adds_value c.args.road (of (a_record entity) "manufacture") (codes "manufacture") (present entity_tree c.args.self.now.manufacture) w3 w4 refl (row_written entity_tree (λ y. refl) c.args.self.now.manufacture) refl c.in_ok-lose_row-4.ensures)
     (adds_both r5 (r6 ++ []) w4 w5 w6 (adds_value c.args.road (of (a_record entity) "supplier") (codes "supplier") (present entity_tree c.args.self.now.supplier) w4 w5 refl (row_written entity_tree (λ y. refl) c.args.self.now.supplier) refl c.in_ok-lose_row-5.ensures)
     (adds_end r6 w5 w6 (adds_value c.args.road licenses_row (codes "licenses") (present licenses_tree c.args.self.now.licenses) w5 w6 refl (row_written licenses_tree (λ y. refl) c.args.self.now.licenses) refl c.in_ok-lose_row-6.ensures)))))))
