@@ -1,5 +1,5 @@
 -- Which versions bills fit.
-use Rattle.std.proofs.Common.{◌≡◌, Bool, true, ◌&&◌, ◌||◌, Option, None, refl, ◌∙◌}
+use Rattle.std.proofs.Common.{◌≡◌, true, ◌&&◌, Option, None, refl}
 use mathlib.Core.Bool.{and-true}
 use Rattle.cdx_models.specs.declared.bom.SpecVersion.{SpecVersion}
 use Rattle.cdx_models.specs.declared.bom.SpecVersion.TheVariants.{V1_3, V1_4, V1_5}

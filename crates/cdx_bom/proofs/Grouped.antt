@@ -1,5 +1,5 @@
 -- Bills, read, kept and written group by group.
-use Rattle.std.proofs.Common.{◌≡◌, [], ◌∷◌, ◌++◌, length, Some, None, Result, Global, BTreeMap, String, refl, sym, ap, ◌∙◌, subst}
+use Rattle.std.proofs.Common.{◌≡◌, [], ◌++◌, length, Some, None, Result, Global, BTreeMap, String, refl, sym, ap, ◌∙◌, subst}
 use Rattle.serde_json.specs.Data.{Data, Members, object}
 use Rattle.serde_json.specs.Data as json
 use Rattle.serde_json.specs.Find.{as_object}

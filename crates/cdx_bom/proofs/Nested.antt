@@ -1,5 +1,5 @@
 -- Components, services and metadata, one level at a time: how deep they nest, and which names they lack.
-use Rattle.std.proofs.Common.{◌≡◌, ℕ, ◌+◌, ◌<◌, ◌≤◌, Bool, true, false, not, ◌&&◌, List, [], ◌∷◌, drop, get_or, length, Option, refl, sym, ap, ◌∙◌, arith}
+use Rattle.std.proofs.Common.{◌≡◌, ℕ, ◌+◌, ◌<◌, ◌≤◌, Bool, true, false, not, ◌&&◌, List, drop, get_or, length, Option, refl, sym, ap, ◌∙◌, arith}
 use mathlib.Core.Bool.{and-true}
 use Rattle.std.proofs.lemmas.List.{at_drop_more, at_drop_all}
 use Rattle.cdx_models.specs.Trees.{Name, component, pedigree, service, metadata, Tree, text, boolean, Trees, none, more, ◌⧺◌, each, present, list_tree}

@@ -1,5 +1,5 @@
 -- The laws of roads, carried over to the documents that calls answer.
-use Rattle.std.proofs.Common.{◌≡◌, refl, sym, ap, subst, ◌∙◌, ℕ, List, [], ◌∷◌, ◌++◌, length, slice_get, ◌⊎◌, ◌↔◌, false, Some, Result, Ok, Err}
+use Rattle.std.proofs.Common.{◌≡◌, refl, sym, ap, subst, ◌∙◌, List, [], ◌∷◌, ◌++◌, length, slice_get, ◌⊎◌, ◌↔◌, false, Some, Result, Ok, Err}
 use mathlib.Core.Logic.{inl, inr}
 use Rattle.serde_json.specs.Data.{Data}
 use Rattle.cdx_events.specs.Nodes.{Node, document}
@@ -7,7 +7,6 @@ use Rattle.cdx_models.specs.declared.bom.SpecVersion.{SpecVersion}
 use Rattle.cdx_models.specs.declared.bom.SpecVersion.TheVariants.{V1_5}
 use Rattle.cdx_schema.specs.Kinds.{a_bill}
 use Rattle.cdx_schema.specs.JsonSpelling.{jspell}
-use Rattle.cdx_schema.specs.Trips as trips
 use Rattle.cdx_schema.specs.Laws as schema
 use Rattle.cdx_schema.specs.Roads as roads
 use Rattle.cdx_schema.specs.Roads.{Refusal, version_missing, road}

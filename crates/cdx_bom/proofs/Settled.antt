@@ -1,5 +1,5 @@
 -- Bills once an empty tool list counts as a tools object without parts.
-use Rattle.std.proofs.Common.{◌≡◌, ◌↔◌, ℕ, Bool, true, false, not, ◌&&◌, List, [], ◌∷◌, length, Option, Some, None, is_some, is_none, refl, sym, ap, ◌∙◌, arith}
+use Rattle.std.proofs.Common.{◌≡◌, ◌↔◌, Bool, true, false, not, ◌&&◌, List, [], ◌∷◌, length, Option, Some, None, is_some, is_none, refl, sym, ap, ◌∙◌, arith}
 use Rattle.cdx_models.specs.Trees.{component, entity, tools_object, metadata, bill, Tree, absent, text, number, boolean, items, fields, Trees, two, ◌⧺◌, trees, each, present, list_tree, is_absent}
 use Rattle.cdx_models.specs.Equal.{equal, equal_each}
 use Rattle.cdx_models.specs.EqualLaws.{equal-Decides, equal_laws}

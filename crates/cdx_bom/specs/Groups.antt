@@ -1,5 +1,5 @@
 -- A bill, read in groups of six rows after its format.
-use Rattle.std.specs.Prelude.{◌*◌, codes, Result}
+use Rattle.std.specs.Prelude.{codes, Result}
 use Rattle.cdx_models.specs.declared.bom.SpecVersion.{SpecVersion}
 use Rattle.cdx_models.specs.Trees.{bill, Tree, text, ◌⧺◌}
 use Rattle.cdx_schema.specs.Table.{rows}

@@ -6,7 +6,6 @@ use Rattle.serde_json.specs.Written.{compact_text}
 use Rattle.cdx_events.specs.Causes.{Rose}
 use Rattle.cdx_models.specs.declared.bom.SpecVersion.{SpecVersion}
 use Rattle.cdx_models.specs.declared.bom.SpecVersion.TheVariants.{V1_3}
-use Rattle.cdx_models.specs.declared.errors.Lack.{Lack}
 use Rattle.cdx_models.specs.declared.errors.Lack.TheVariants.{VersionMissing}
 use Rattle.cdx_models.specs.declared.errors.BomError.{BomError}
 use Rattle.cdx_models.specs.declared.errors.BomError.TheVariants.{JsonSerializationError, XmlSerializationError, BomSerializationError, UnsupportedSpecVersion, Memory as bom_memory}

@@ -1,5 +1,5 @@
 -- A bill that a program holds: what 1.5 keeps of it, and the spelling of its plain bill.
-use Rattle.std.proofs.Common.{◌≡◌, refl, sym, ap, ◌∙◌, ℕ, List, [], ◌∷◌, true, false, ◌&&◌, codes, Option, Some, None, true≢false}
+use Rattle.std.proofs.Common.{◌≡◌, refl, sym, ap, ◌∙◌, List, [], ◌∷◌, true, false, codes, Option, Some, None, true≢false}
 use Rattle.serde_json.specs.Data.{Data, no_members}
 use Rattle.serde_json.specs.Data as json
 use Rattle.cdx_models.specs.declared.bom.SpecVersion.TheVariants.{V1_5}

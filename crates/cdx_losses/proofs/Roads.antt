@@ -1,5 +1,5 @@
 -- What counts of a road: the lowest version of its hops, and their trips through XML, counted to two.
-use Rattle.std.specs.Prelude.{◌≡◌, ℕ, zero, suc, ◌+◌, ◌<◌, ◌≤◌, List, [], ◌∷◌, drop}
+use Rattle.std.specs.Prelude.{◌≡◌, ℕ, zero, suc, List, ◌∷◌, drop}
 use mathlib.Core.Path.{ap, sym, ◌∙◌}
 use Rattle.cdx_models.specs.declared.bom.SpecVersion.{SpecVersion}
 use Rattle.cdx_models.specs.Trees.{Tree}

@@ -1,4 +1,4 @@
-use Rattle.std.proofs.Common.{rules, arith, ◌≡◌, sym, subst, ◌∙◌, drop, List, [], ◌∷◌, ◌++◌, ℕ, ◌+◌, slice_index_or}
+use Rattle.std.proofs.Common.{rules, arith, ◌≡◌, sym, subst, drop, [], ◌∷◌, ◌+◌, slice_index_or}
 use Rattle.std.proofs.lemmas.List.{drop_more, drop_all}
 use Rattle.cdx_models.specs.declared.bom.SpecVersion.TheVariants.{V1_3}
 use Rattle.cdx_bom.specs.declared.doc.Form.TheVariants.{Json}

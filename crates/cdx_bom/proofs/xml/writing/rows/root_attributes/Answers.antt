@@ -1,4 +1,3 @@
-use Rattle.std.proofs.Common.{◌∙◌}
 use Rattle.cdx_bom.proofs.BillWritten.{root_attributes_are}
 use Rattle.cdx_bom.proofs.xml.writing.rows.root_attributes.Goals as goal
 
