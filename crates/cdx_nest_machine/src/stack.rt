@@ -174,36 +174,23 @@ impl<F: Nested> StackMachine<F> {
         ensures { ProceedsStack ⟦<StackMachine<F> as HoldsBegun>⟧.holds F.as_kind self.old self.new
             place event.now result }
     {
+        let opened = Start {
+            alloc: self.alloc,
+            place,
+            version: self.version,
+            element: name,
+            attributes,
+        };
         match self.top.part.find(self.version, name) {
             FoundChild::At(position) => match self.top.part.child(position) {
                 ChildReader::Leaf(sort) => {
-                    let started = F::Leaf::start(
-                        sort,
-                        &Start {
-                            alloc: self.alloc,
-                            place,
-                            version: self.version,
-                            element: name,
-                            attributes,
-                        },
-                    )?;
+                    let started = F::Leaf::start(sort, &opened)?;
                     let machine = boxed(self.alloc, started)?;
                     self.inside = Inside::Read(LeafChild { machine, position });
                     Ok(false)
                 }
                 ChildReader::Nested(sort) => {
-                    let inner = self.top.depth;
-                    let open = open_at::<F>(
-                        sort,
-                        inner,
-                        &Start {
-                            alloc: self.alloc,
-                            place,
-                            version: self.version,
-                            element: name,
-                            attributes,
-                        },
-                    )?;
+                    let open = open_at::<F>(sort, self.top.depth, &opened)?;
                     let open = replace(&mut self.top, open);
                     push_below(&mut self.below, Waiting { open, position })?;
                     Ok(false)
