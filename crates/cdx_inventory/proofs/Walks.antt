@@ -179,9 +179,6 @@ nothing_present f k = refl
 
 -- ---- how steps add up
 
-moved : List Step → At Tree → Told
-moved p x = entry (p ++ x.0, x.1)
-
 below_append : (p : List Step) (xs ys : List (At Tree)) → entries_below p (xs ++ ys) ≡ entries_below p xs ++ entries_below p ys
 below_append p xs ys = map-append (λ x. entry (p ++ x.0, x.1)) xs ys
 

@@ -34,7 +34,7 @@ use Rattle.cdx_schema.specs.JsonReading.{or_else}
 use Rattle.cdx_schema.specs.Trips.{is_hollow, is_passed_over}
 use Rattle.cdx_ways.specs.Ways.{At, behind_step}
 use Rattle.cdx_losses.specs.declared.loss.Reason.{Reason}
-use Rattle.cdx_losses.specs.declared.loss.Reason.TheVariants.{Flow, Xml}
+use Rattle.cdx_losses.specs.declared.loss.Reason.TheVariants.{Xml}
 use Rattle.cdx_losses.specs.declared.road.Road.{Road}
 use Rattle.cdx_losses.specs.Losses.{is_skipped, if_so, item_reason, entry_or, lost, items_lost}
 use Rattle.cdx_losses.specs.LeftOut.{after_a_trip}
@@ -146,11 +146,6 @@ entry_is x b e = ap (λ z. if z then service_data_tree x else classification_tre
 flow_inside : (u : SpecVersion) (n : ℕ) (x : ServiceData) → lost u n (service_data_tree x) an_entry ≡ []
 unfolding lost lacks rows
 flow_inside u n x = rows_spared u n (trees (present text x.name ∷ present text x.description ∷ classification_tree x.classification ∷ [])) (rows service_data) (rw (line x.name, line x.description, classification_spared x.classification) refl)
-
-flow_taken : (u : SpecVersion) (n : ℕ) (x : ServiceData) → knows V1_5 u ≡ false → item_reason u n an_entry (service_data_tree x) ≡ Some Flow
-flow_taken V1_3 n x h = refl
-flow_taken V1_4 n x h = refl
-flow_taken V1_5 n x h = absurd (true≢false h)
 
 flow_kept : (u : SpecVersion) (n : ℕ) (x : ServiceData) → knows V1_5 u ≡ true → item_reason u n an_entry (service_data_tree x) ≡ None
 flow_kept V1_3 n x h = absurd (true≢false (sym h))
