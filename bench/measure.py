@@ -63,9 +63,10 @@ def dependency(i):
     return {"ref": reference(i), "dependsOn": [reference(k) for k in {i // 2, i // 3} if k != i]}
 
 
-def request(doc, form, version="1.5"):
-    """A request to carry a document along one hop."""
-    text = json.dumps({"from": "1.5", "doc": doc, "hops": [{"form": form, "version": version}]}, separators=(",", ":"))
+def request(doc, *forms, version="1.5"):
+    """A request to carry a document along a hop of each form."""
+    hops = [{"form": form, "version": version} for form in forms]
+    text = json.dumps({"from": "1.5", "doc": doc, "hops": hops}, separators=(",", ":"))
     return text.encode()
 
 
