@@ -17,7 +17,7 @@ use Rattle.cdx_bom.specs.declared.doc.Hop.{Hop}
 use Rattle.cdx_bom.specs.declared.doc.RoadError.{RoadError}
 use Rattle.cdx_bom.specs.declared.doc.RoadError.TheVariants as error
 use Rattle.cdx_bom.specs.Docs.{IsDoc, AreDocs, hop_of, hops_of, form_of, Refuses, AnswersRoad}
-use Rattle.cdx_bom.specs.Laws.{AreAlike, end_doc, end_version, version_is_missing, Misses, is_memory, RoadsSettle}
+use Rattle.cdx_bom.specs.Laws.{AreAlike, end_doc, end_version, unfit_error, Misses, is_memory, RoadsSettle}
 use Rattle.cdx_bom.proofs.Documents.{same_doc}
 
 hops_append : (g h : List Hop) → hops_of (g ++ h) ≡ hops_of g ++ hops_of h
@@ -92,7 +92,7 @@ settles x y v g g' h h' a c docs others d e is first second there other form ver
 -- ---- roads in two parts
 
 module _ (v : SpecVersion) (hops rest : List Hop) where
-  owes_missing : (owed : Result (List roads.Doc) Refusal) → Refuses owed version_is_missing → owed ≡ Err version_missing
+  owes_missing : (owed : Result (List roads.Doc) Refusal) → Refuses owed unfit_error → owed ≡ Err version_missing
   owes_missing owed m = let same : version_missing ≡ m.0 = cc in m.2 ∙ ap Err (sym same)
 
   is_whole : (z : roads.Doc) → road z v (hops_of (hops ++ rest)) ≡ road z v (hops_of hops ++ hops_of rest)
@@ -102,11 +102,11 @@ module _ (v : SpecVersion) (hops rest : List Hop) where
   part_refused z = (road z v (hops_of hops) ≡ Err version_missing) ⊎ ((ys : List roads.Doc) × (road z v (hops_of hops) ≡ Ok ys) × (road (schema.end_doc z ys) (end_version v hops) (hops_of rest) ≡ Err version_missing))
 
   -- the whole is refused for a missing version where a part is
-  whole_missing : (z : roads.Doc) → part_refused z → Refuses (road z v (hops_of (hops ++ rest))) version_is_missing
+  whole_missing : (z : roads.Doc) → part_refused z → Refuses (road z v (hops_of (hops ++ rest))) unfit_error
   whole_missing z h = (version_missing, refl, is_whole z ∙ (join z v (hops_of hops) (hops_of rest)).1.1 h)
 
   -- and a part is where the whole is
-  part_missing : (z : roads.Doc) → Refuses (road z v (hops_of (hops ++ rest))) version_is_missing → part_refused z
+  part_missing : (z : roads.Doc) → Refuses (road z v (hops_of (hops ++ rest))) unfit_error → part_refused z
   part_missing z m = (join z v (hops_of hops) (hops_of rest)).1.0 (sym (is_whole z) ∙ owes_missing (road z v (hops_of (hops ++ rest))) m)
 
   module _ (x : Doc) (y : roads.Doc) (is : IsDoc x y) where
@@ -123,9 +123,9 @@ module _ (v : SpecVersion) (hops rest : List Hop) where
     second_is docs a m w j =
         let p = a y is in
         let same : schema.end_doc y p.0 ≡ w = same_doc (end_doc x docs) (schema.end_doc y p.0) w (last_there x y docs p.0 is p.2) j in
-        subst (λ u. Refuses (road u (end_version v hops) (hops_of rest)) version_is_missing) same (by p.0 p.1 (part_missing y (m y is)))
+        subst (λ u. Refuses (road u (end_version v hops) (hops_of rest)) unfit_error) same (by p.0 p.1 (part_missing y (m y is)))
       where
-        by : (ys : List roads.Doc) → road y v (hops_of hops) ≡ Ok ys → part_refused y → Refuses (road (schema.end_doc y ys) (end_version v hops) (hops_of rest)) version_is_missing
+        by : (ys : List roads.Doc) → road y v (hops_of hops) ≡ Ok ys → part_refused y → Refuses (road (schema.end_doc y ys) (end_version v hops) (hops_of rest)) unfit_error
         by ys e (inl h) = absurd cc
         by ys e (inr h) = let same : h.0 ≡ ys = cc in (version_missing, refl, subst (λ us. road (schema.end_doc y us) (end_version v hops) (hops_of rest) ≡ Err version_missing) same h.2)
 

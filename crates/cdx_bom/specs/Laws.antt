@@ -51,12 +51,12 @@ end_doc x (d ∷ ds) = end_doc d ds
 abbrev pub end_version : SpecVersion → List Hop → SpecVersion
 end_version v hops = last_of v (hops_of hops)
 
-abbrev pub version_is_missing : RoadError
-version_is_missing = error.Bom (BomSerializationError V1_3 VersionMissing)
+abbrev pub unfit_error : RoadError
+unfit_error = error.Bom (BomSerializationError V1_3 VersionMissing)
 
 -- The road is refused for a missing version.
 abbrev pub Misses : Doc → SpecVersion → List Hop → Type 0
-Misses x v hops = AnswersRoad x v hops (Err version_is_missing)
+Misses x v hops = AnswersRoad x v hops (Err unfit_error)
 
 abbrev pub is_memory : RoadError → Bool
 is_memory (error.Memory m) = true

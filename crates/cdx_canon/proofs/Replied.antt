@@ -15,6 +15,7 @@ use Rattle.cdx_tool.specs.Run.{Tells, Ends}
 use Rattle.cdx_tool.specs.Shows.{reply_of}
 use Rattle.cdx_tool.specs.declared.answer.Answer.{Answer}
 use Rattle.cdx_tool.specs.Asks.{Inquiry, inquiry_of, WhyNoBill, misread, bill_refused, bill_of, bill_in, reply_to_no_bill, reply_to_bill, AsksFor}
+use Rattle.cdx_tool.proofs.Statuses.{not_zero, bill_served, short_served, whole_reply}
 use Rattle.cdx_canon.specs.Canon.{plain, canon}
 use Rattle.cdx_canon.specs.Answers.{canonical_answer, is_equal, equality_answer, refused_on, Pair, pair_of, reply_on, reply_beside, reply_to_bills, is_shaped, reply_to_sides, reply_to_pair, reply_if_value, owed, AsksForBoth, TellsEqual}
 use Rattle.cdx_canon.specs.Plain.{with_part}
@@ -47,30 +48,13 @@ pair_settled (Some p) = if_settled (is_shaped (inquiry_of p.left) && is_shaped (
 
 -- ---- status 0
 
-no_0 : (n : ℕ) → suc n ≡ 0 → ⊥
-no_0 n h = omega (arith, h)
-
-misread_unserved : (e : Misread) → (reply_to_misread e).status ≡ 0 → ⊥
-misread_unserved not_json h = no_0 1 h
-misread_unserved shape h = no_0 1 h
-misread_unserved (unbalanced place) h = no_0 0 h
-
-lack_unserved : (l : WhyNoBill) → (reply_to_no_bill l).status ≡ 0 → ⊥
-lack_unserved (misread e) h = misread_unserved e h
-lack_unserved (bill_refused r) h = no_0 0 h
-
--- the reply to one bill
-billed : (f : Tree → Data) (r : Result Tree WhyNoBill) → (reply_to_bill f r).status ≡ 0 → (b : Tree) × (r ≡ Ok b) × ((reply_to_bill f r).text ≡ line_of (f b))
-billed f (Ok b) h = (b, refl, refl)
-billed f (Err l) h = absurd (lack_unserved l h)
-
 -- the reply to one side goes on from its bill
 goes_on : (side : List ℕ) (next : Tree → Reply) (r : Result Tree WhyNoBill) → (reply_on side next r).status ≡ 0 → (b : Tree) × (r ≡ Ok b) × (reply_on side next r ≡ next b)
 goes_on side next (Ok b) h = (b, refl, refl)
-goes_on side next (Err (bill_refused r)) h = absurd (no_0 0 h)
-goes_on side next (Err (misread not_json)) h = absurd (no_0 1 h)
-goes_on side next (Err (misread shape)) h = absurd (no_0 1 h)
-goes_on side next (Err (misread (unbalanced place))) h = absurd (no_0 0 h)
+goes_on side next (Err (bill_refused r)) h = absurd (not_zero 0 h)
+goes_on side next (Err (misread not_json)) h = absurd (not_zero 1 h)
+goes_on side next (Err (misread shape)) h = absurd (not_zero 1 h)
+goes_on side next (Err (misread (unbalanced place))) h = absurd (not_zero 0 h)
 
 bills_told : (left right : Result Tree WhyNoBill) → (reply_to_bills left right).status ≡ 0 → (b : Tree) × (c : Tree) × (left ≡ Ok b) × (right ≡ Ok c) × (reply_to_bills left right ≡ told b c)
 bills_told left right h =
@@ -81,21 +65,21 @@ bills_told left right h =
 sides_told : (shaped : Bool) (left right : Result Tree WhyNoBill) → (cond shaped (reply_to_bills left right) (reply_to_misread shape)).status ≡ 0
     → (b : Tree) × (c : Tree) × (left ≡ Ok b) × (right ≡ Ok c) × (cond shaped (reply_to_bills left right) (reply_to_misread shape) ≡ told b c)
 sides_told true left right h = bills_told left right h
-sides_told false left right h = absurd (no_0 1 h)
+sides_told false left right h = absurd (not_zero 1 h)
 
 pair_told : (o : Option Pair) → (reply_to_pair o).status ≡ 0 → (p : Pair) × (b : Tree) × (c : Tree) × (o ≡ Some p) × (bill_in p.left ≡ Ok b) × (bill_in p.right ≡ Ok c) × (reply_to_pair o ≡ told b c)
-pair_told None h = absurd (no_0 1 h)
+pair_told None h = absurd (not_zero 1 h)
 pair_told (Some p) h =
     let t = sides_told (is_shaped (inquiry_of p.left) && is_shaped (inquiry_of p.right)) (bill_of (inquiry_of p.left)) (bill_of (inquiry_of p.right)) h in
     (p, t.0, t.1, refl, t.2, t.3, t.4)
 
 text_value : (o : Option Data) → (reply_if_value Text o).status ≡ 0 → (d : Data) × (b : Tree) × (o ≡ Some d) × (bill_in d ≡ Ok b) × ((reply_if_value Text o).text ≡ line_of (canonical_answer b))
-text_value None h = absurd (no_0 1 h)
-text_value (Some d) h = let t = billed canonical_answer (bill_in d) h in (d, t.0, refl, t.1, t.2)
+text_value None h = absurd (not_zero 1 h)
+text_value (Some d) h = let t = bill_served canonical_answer (bill_in d) h in (d, t.0, refl, t.1, t.2)
 
 equal_value : (o : Option Data) → (reply_if_value Equal o).status ≡ 0
     → (d : Data) × (p : Pair) × (b : Tree) × (c : Tree) × (o ≡ Some d) × (pair_of d ≡ Some p) × (bill_in p.left ≡ Ok b) × (bill_in p.right ≡ Ok c) × (reply_if_value Equal o ≡ told b c)
-equal_value None h = absurd (no_0 1 h)
+equal_value None h = absurd (not_zero 1 h)
 equal_value (Some d) h = let t = pair_told (pair_of d) h in (d, t.0, t.1, t.2, refl, t.3, t.4, t.5, t.6)
 
 -- the line tells whether the plain bills are equal
@@ -105,24 +89,12 @@ tells_equal before now b c false is put = inr ((λ e. false≢true (sym is ∙ (
 
 -- ---- how a run of status 0 ends
 
--- the reply went out whole
-whole : (r : Reply) (status : ℕ) (before now : Option (List ℕ)) (flushed : Option ℕ) → Ends r status before now flushed → status ≡ 0 → (r.status ≡ 0) × Appends before now r.text
-whole r status before now flushed (inl h) zero_is = (sym h.0 ∙ zero_is, h.1)
-whole r status before now flushed (inr (inl h)) zero_is = absurd (no_0 3 (sym h.0 ∙ zero_is))
-whole r status before now flushed (inr (inr (inl h, kept))) zero_is = absurd (no_0 2 (sym h ∙ zero_is))
-whole r status before now flushed (inr (inr (inr h, kept))) zero_is = absurd (no_0 4 (sym h ∙ zero_is))
-
--- the reply to a command is what is owed to the bytes, unless these are too many
-within : (c : Command) (bytes : List ℕ) (long : Bool) → (cond long (reply 6 (no_request (codes "too long"))) (owed c bytes)).status ≡ 0 → cond long (reply 6 (no_request (codes "too long"))) (owed c bytes) ≡ owed c bytes
-within c bytes true h = absurd (no_0 5 h)
-within c bytes false h = refl
-
 -- a command's run of status 0: what is owed to the bytes went out
 served : (c : Command) (words : Option Command) (bytes : List ℕ) (status : ℕ) (before now : Option (List ℕ)) (flushed : Option ℕ) → words ≡ Some c → Ends (reply_by owed words bytes) status before now flushed → status ≡ 0
     → ((owed c bytes).status ≡ 0) × Appends before now (owed c bytes).text
 served c words bytes status before now flushed is ends zero_is =
-    let w = whole (reply_by owed (Some c) bytes) status before now flushed (subst (λ (o : Option Command). Ends (reply_by owed o bytes) status before now flushed) is ends) zero_is in
-    let same = within c bytes (nat_lt limit (length bytes)) w.0 in
+    let w = whole_reply (reply_by owed (Some c) bytes) status before now flushed (subst (λ (o : Option Command). Ends (reply_by owed o bytes) status before now flushed) is ends) zero_is in
+    let same = short_served (owed c bytes) (nat_lt limit (length bytes)) w.0 in
     (subst (λ (r : Reply). r.status ≡ 0) same w.0, subst (λ (r : Reply). Appends before now r.text) same w.1)
 
 pub text_served : (o left before now : Option (List ℕ)) (words : Option Command) (bytes : List ℕ) (status : ℕ) (flushed : Option ℕ) → words ≡ Some Text → status ≡ 0 → Tells o bytes → IsAtEnd left
@@ -170,10 +142,6 @@ answered (Err m) status x y h e clear = tt
 pub answered_so : (r : Result Answer AllocError) (x y : Reply) → IfOk r (λ a. reply_of a ≡ x) → x ≡ y → IfOk r (λ a. reply_of a ≡ y)
 answered_so (Ok a) x y h e = h ∙ e
 answered_so (Err m) x y h e = tt
-
-pub settled_so : (r : Result Answer AllocError) (x : Reply) → IfOk r (λ a. reply_of a ≡ x) → IsSettled x.status → IfOk r (λ a. IsSettled a.status)
-settled_so (Ok a) x h is = subst (λ (y : Reply). IsSettled y.status) (sym h) is
-settled_so (Err m) x h is = tt
 
 -- a refusal becomes that of a side
 pub sided : (s : List ℕ) (ms : Members) → with_part (codes "side") (string s) (refusal ms) ≡ refused_on s ms

@@ -1,6 +1,6 @@
 -- The trees of components, pedigrees and lists of components, a field for each row of the schema and in its order.
-use Rattle.std.specs.Prelude.{List, [], ◌∷◌}
-use Rattle.cdx_models.specs.Trees.{component, pedigree as pedigree_record, as_is, Tree, text, boolean, items, fields, Trees, ◌⧺◌, trees, present}
+use Rattle.std.specs.Prelude.{ℕ, List, [], ◌∷◌, Option}
+use Rattle.cdx_models.specs.Trees.{component, pedigree as pedigree_record, as_is, Tree, absent, text, boolean, items, fields, Trees, ◌⧺◌, trees, present}
 use Rattle.cdx_models.specs.Records.{entity_tree, hashes_tree, references_tree, properties_tree}
 use Rattle.cdx_license.specs.Records.{licenses_tree}
 use Rattle.cdx_signature.specs.Records.{signature_tree}
@@ -52,6 +52,14 @@ components_tree = fold-Components Tree Tree Tree component_step components_step 
 
 abbrev pub pedigree_tree : Pedigree → Tree
 pedigree_tree = fold-Pedigree Tree Tree Tree component_step components_step pedigree_step
+
+-- a component of this type and name, of this version where there is one, and nothing else
+abbrev pub new_component : List ℕ → List ℕ → Option (List ℕ) → Tree
+new_component type name version = fields component (trees (
+    text type ∷ absent ∷ absent ∷ absent ∷ absent ∷ absent ∷
+    absent ∷ text name ∷ present text version ∷ absent ∷ absent ∷ absent ∷
+    absent ∷ absent ∷ absent ∷ absent ∷ absent ∷ absent ∷
+    absent ∷ absent ∷ absent ∷ absent ∷ absent ∷ absent ∷ []))
 
 -- the items of a list of components
 abbrev pub component_items : Components → List Component

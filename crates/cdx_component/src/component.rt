@@ -5,7 +5,7 @@ ghost use Rattle.cdx_models.specs.Trees.{component, pedigree};
 ghost use Rattle.cdx_schema.specs.Kinds.{components, a_list, a_record};
 ghost use Rattle.cdx_models.specs.Equal.{equal};
 ghost use Rattle.cdx_models.specs.EqualLaws.{equal_laws};
-ghost use Rattle.cdx_component.specs.Trees.{component_tree, components_tree, pedigree_tree, component_items};
+ghost use Rattle.cdx_component.specs.Trees.{component_tree, components_tree, pedigree_tree, new_component, component_items};
 ghost use Rattle.cdx_component.specs.Laws.{component_there, components_there, pedigree_there};
 
 mod compared;
@@ -78,6 +78,41 @@ pub struct Component {
     pub evidence: Option<ComponentEvidence>,
     /// Known from 1.4 on.
     pub signature: Option<Signature>,
+}
+
+impl Component {
+    /// The component of this type, as `library`, of this name and, where there is one, this version, and nothing else. In
+    /// 1.3 each component outside of tools has a version.
+    pub fn new(component_type: Text, name: Text, version: Option<Text>) -> Component
+        ensures { component_tree result ≡ new_component component_type name version }
+    {
+        Component {
+            component_type,
+            mime_type: None,
+            bom_ref: None,
+            supplier: None,
+            author: None,
+            publisher: None,
+            group: None,
+            name,
+            version,
+            description: None,
+            scope: None,
+            hashes: None,
+            licenses: None,
+            copyright: None,
+            cpe: None,
+            purl: None,
+            swid: None,
+            modified: None,
+            pedigree: None,
+            external_references: None,
+            properties: None,
+            components: None,
+            evidence: None,
+            signature: None,
+        }
+    }
 }
 
 // By hand, so that one is freed by a call wherever it ends, and not field by field.

@@ -4,7 +4,7 @@ use Rattle.cdx_events.specs.declared.name.OwnedName.{OwnedName}
 use Rattle.cdx_events.specs.declared.event.XmlEvent.{XmlEvent}
 use Rattle.cdx_events.specs.declared.event.XmlEvent.TheVariants.{StartDocument, EndDocument, StartElement, EndElement, Characters, CData}
 use Rattle.cdx_events.specs.Nodes.{Node, Nodes, characters, cdata, element, no_nodes, node, events_of, events_of_all, IsBalanced, GoesOn}
-use Rattle.cdx_events.specs.Balance.{Frame, opened, names}
+use Rattle.cdx_events.specs.Balance.{OpenElement, opened, names}
 
 abbrev pub checks : List OwnedName → List XmlEvent → Type 0
 checks [] [] = ⊥
@@ -55,7 +55,7 @@ balanced_checks es b =
     subst checks_all (sym b.whole) (subst (λ es. checks (b.name ∷ []) es) (sym (append_assoc (events_of_all b.nodes) (EndElement b.name ∷ []) (EndDocument ∷ []))) (onto_all b.nodes b.name [] (EndElement b.name ∷ EndDocument ∷ []) (refl, refl)))
 
 -- inside the root, what follows is checked against the open names
-pub inside_checks : (f : Frame) (fs : List Frame) (rest : List XmlEvent) → checks_all (StartDocument ∷ opened (f ∷ fs) ++ rest) → checks (names (f ∷ fs)) rest
+pub inside_checks : (f : OpenElement) (fs : List OpenElement) (rest : List XmlEvent) → checks_all (StartDocument ∷ opened (f ∷ fs) ++ rest) → checks (names (f ∷ fs)) rest
 inside_checks f [] rest h = past_all f.before f.name [] rest h
 inside_checks f (g ∷ fs) rest h =
     past_all f.before f.name (names (g ∷ fs)) rest

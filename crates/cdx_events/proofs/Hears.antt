@@ -11,7 +11,7 @@ use Rattle.cdx_events.specs.declared.balance.Stage.{Stage}
 use Rattle.cdx_events.specs.declared.balance.Stage.TheVariants.{Fresh, Begun, Inside, Closing, Whole, Broken}
 use Rattle.cdx_events.specs.Name.{same_name}
 use Rattle.cdx_events.specs.Nodes.{Node, Nodes, characters, cdata, element, no_nodes, node, events_of, events_of_all, IsBalanced, GoesOn}
-use Rattle.cdx_events.specs.Balance.{Frame, opened, names, IsInside, IsClosing, Hears, leave, stage_left, advance, is_alive, is_whole}
+use Rattle.cdx_events.specs.Balance.{OpenElement, opened, names, IsInside, IsClosing, Hears, leave, stage_left, advance, is_alive, is_whole}
 use Rattle.cdx_events.specs.Root.{then, with, node_of}
 use Rattle.cdx_events.proofs.Names.{equal_name-true, equal_name-same}
 use Rattle.cdx_events.proofs.Checks.{checks, checks_all, balanced_checks, inside_checks, past_all, goes_checks}
@@ -23,18 +23,18 @@ events_then no_nodes k = append-nil (events_of k)
 events_then (node j ks) k = ap (λ es. events_of j ++ es) (events_then ks k) ∙ sym (append_assoc (events_of j) (events_of_all ks) (events_of k))
 
 -- a node stands in the innermost open element
-pub opened_with : (f : Frame) (fs : List Frame) (k : Node) → opened (with f k ∷ fs) ≡ opened (f ∷ fs) ++ events_of k
+pub opened_with : (f : OpenElement) (fs : List OpenElement) (k : Node) → opened (with f k ∷ fs) ≡ opened (f ∷ fs) ++ events_of k
 opened_with f fs k =
     ap (λ es. opened fs ++ StartElement f.name f.attributes f.namespace ∷ es) (events_then f.before k) ∙ sym (append_assoc (opened fs) (StartElement f.name f.attributes f.namespace ∷ events_of_all f.before) (events_of k))
 
 -- the innermost open element ends
-pub opened_end : (f g : Frame) (fs : List Frame) → opened (f ∷ g ∷ fs) ++ EndElement f.name ∷ [] ≡ opened (with g (node_of f) ∷ fs)
+pub opened_end : (f g : OpenElement) (fs : List OpenElement) → opened (f ∷ g ∷ fs) ++ EndElement f.name ∷ [] ≡ opened (with g (node_of f) ∷ fs)
 opened_end f g fs =
     append_assoc (opened (g ∷ fs)) (StartElement f.name f.attributes f.namespace ∷ events_of_all f.before) (EndElement f.name ∷ []) ∙ sym (opened_with g fs (node_of f))
 
 -- ---- open elements can be closed
 
-closes : (f : Frame) (fs : List Frame) → (rest : List XmlEvent) × IsBalanced (StartDocument ∷ opened (f ∷ fs) ++ rest)
+closes : (f : OpenElement) (fs : List OpenElement) → (rest : List XmlEvent) × IsBalanced (StartDocument ∷ opened (f ∷ fs) ++ rest)
 closes f [] = (
   EndElement f.name ∷ EndDocument ∷ [],
   record {
@@ -71,7 +71,7 @@ fresh_next stack e events h = λ g. (before events [] e h.1 g).1
 
 begun_next : (stack : List OwnedName) (e : XmlEvent) (events : List XmlEvent) → Hears Begun stack events → Next Begun stack e events
 begun_next stack (StartElement n a s) events h =
-    let f : Frame = record { name = n; attributes = a; namespace = s; before = no_nodes } in
+    let f : OpenElement = record { name = n; attributes = a; namespace = s; before = no_nodes } in
     record { top = f; below = []; stack_is = ap (λ st. n ∷ st) h.0; events_are = ap (λ es. es ++ StartElement n a s ∷ []) h.1 }
 begun_next stack e events h = λ g. (before events (StartDocument ∷ []) e h.1 g).1
 
@@ -92,15 +92,15 @@ inside_text stack events k i =
 
 start_in : (stack : List OwnedName) (events : List XmlEvent) (n : OwnedName) (a : List OwnedAttribute) (s : Namespace) → IsInside stack events → IsInside (n ∷ stack) (events ++ StartElement n a s ∷ [])
 start_in stack events n a s i =
-    let f : Frame = record { name = n; attributes = a; namespace = s; before = no_nodes } in
+    let f : OpenElement = record { name = n; attributes = a; namespace = s; before = no_nodes } in
     record { top = f; below = i.top ∷ i.below; stack_is = ap (λ st. n ∷ st) i.stack_is; events_are = ap (λ es. es ++ StartElement n a s ∷ []) i.events_are }
 
-left_hears : (f : Frame) (fs : List Frame) (events : List XmlEvent) → events ≡ StartDocument ∷ opened (f ∷ fs) → Hears (stage_left (names fs)) (names fs) (events ++ EndElement f.name ∷ [])
+left_hears : (f : OpenElement) (fs : List OpenElement) (events : List XmlEvent) → events ≡ StartDocument ∷ opened (f ∷ fs) → Hears (stage_left (names fs)) (names fs) (events ++ EndElement f.name ∷ [])
 left_hears f [] events e = record { name = f.name; attributes = f.attributes; namespace = f.namespace; nodes = f.before; whole = ap (λ es. es ++ EndElement f.name ∷ []) e }
 left_hears f (g ∷ fs) events e =
     record { top = with g (node_of f); below = fs; stack_is = refl; events_are = ap (λ es. es ++ EndElement f.name ∷ []) e ∙ ap (λ es. StartDocument ∷ es) (opened_end f g fs) }
 
-end_in : (b : Bool) (f : Frame) (fs : List Frame) (events : List XmlEvent) (n : OwnedName) → same_name f.name n ≡ b → events ≡ StartDocument ∷ opened (f ∷ fs)
+end_in : (b : Bool) (f : OpenElement) (fs : List OpenElement) (events : List XmlEvent) (n : OwnedName) → same_name f.name n ≡ b → events ≡ StartDocument ∷ opened (f ∷ fs)
     → Hears (cond b (stage_left (names fs)) Broken) (names fs) (events ++ EndElement n ∷ [])
 end_in true f fs events n s e =
     subst (λ m. Hears (stage_left (names fs)) (names fs) (events ++ EndElement m ∷ [])) (equal_name-true f.name n s) (left_hears f fs events e)
@@ -152,7 +152,7 @@ hears_next Broken stack e events h = λ g. broken_next events e h g
 
 -- ---- what the stage tells
 
-abbrev empty_frame : Frame
+abbrev empty_frame : OpenElement
 empty_frame = record { name = record { local_name = []; namespace = None; prefix = None }; attributes = []; namespace = record { default = None }; before = no_nodes }
 
 pub alive_goes : (s : Stage) (stack : List OwnedName) (events : List XmlEvent) → Hears s stack events → is_alive s ≡ true → GoesOn events

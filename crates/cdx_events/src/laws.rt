@@ -6,7 +6,7 @@ ghost use Rattle.cdx_events.specs.declared.name.OwnedName.{OwnedName};
 ghost use Rattle.cdx_events.specs.declared.name.OwnedAttribute.{OwnedAttribute};
 ghost use Rattle.cdx_events.specs.declared.name.Namespace.{Namespace};
 ghost use Rattle.cdx_events.specs.Nodes.{Nodes, element, document};
-ghost use Rattle.cdx_events.specs.Balance.{Frame};
+ghost use Rattle.cdx_events.specs.Balance.{OpenElement};
 ghost use Rattle.cdx_events.specs.Root.{root_of};
 
 /// A list of events has a root exactly where it is that root's document, so it has at most one.
@@ -14,6 +14,6 @@ pub fn one_root()
     ensures found { (n : OwnedName) (a : List OwnedAttribute) (s : Namespace) (nodes : Nodes)
         → root_of (document (element n a s nodes))
         ≡ Some (record { name = n; attributes = a; namespace = s; before = nodes }) }
-    ensures only { (events : List XmlEvent) (r : Frame) → root_of events ≡ Some r
+    ensures only { (events : List XmlEvent) (r : OpenElement) → root_of events ≡ Some r
         → events ≡ document (element r.name r.attributes r.namespace r.before) }
 {}

@@ -16,7 +16,7 @@ use Rattle.cdx_schema.specs.Membership.{HasShape, HaveShape, FieldsHaveShape}
 use Rattle.cdx_schema.proofs.JsonBack.{and_true}
 use Rattle.cdx_schema.proofs.Sound.{free_name}
 use Rattle.cdx_ways.specs.Ways.{At, behind_step, behind_row, behind_choice, is_step, after_step, after_row, after_choice, whole, found, found_item, found_row}
-use Rattle.cdx_ways.proofs.Lists.{own_step, after_own, after_other, after_is, In, in_left, in_right, in_either, contains_in, in_contains, in_behind, behind_in, StartsIn, AllStart, starts_behind, starts_append, all_start_wider, in_starts, Disjoint, Differ, differ_append, differ_behind, empty_differs, all_pairs}
+use Rattle.cdx_ways.proofs.Lists.{own_step, after_own, after_other, after_is, In, in_left, in_right, in_either, contains_in, in_contains, in_behind, behind_in, StartsIn, AllStart, starts_behind, starts_append, all_start_wider, in_starts, IsFrom, from_next, Disjoint, Differ, differ_append, differ_behind, empty_differs, all_pairs}
 use Rattle.cdx_ways.proofs.Names.{is_row, is_named, IsRow, IsNamed, is_new, names_differ, differ_in, new_row}
 use Rattle.cdx_inventory.specs.Listing.{is_component, itself, listed_in, items_listed, rows_listed, listed, IsPartOf, IsInOne, ListsPaths, ListsAll}
 use Rattle.cdx_inventory.proofs.Unlisted.{record_unlisted}
@@ -247,18 +247,9 @@ plain_after _ n p h = refl
 
 -- ---- the first steps of what is listed
 
--- the step is to an item from i on
-abbrev IsFrom : ℕ → Step → Type 0
-IsFrom i (Item j) = i ≤ j
-IsFrom i (Member m) = ⊥
-
-from_next : (i : ℕ) (s : Step) → IsFrom (suc i) s → IsFrom i s
-from_next i (Item j) h = omega (arith, h)
-from_next i (Member m) h = h
-
 not_next : (i : ℕ) (s : Step) → IsFrom (suc i) s → is_step (to_item i) s ≡ false
 not_next i (Item j) h = grind (arith, h)
-not_next i (Member m) h = elim h [ ]
+not_next i (Member m) h = absurd (true≢false h)
 
 or_left : (a b : Bool) → a ≡ true → (a || b) ≡ true
 or_left a b h = rw h refl

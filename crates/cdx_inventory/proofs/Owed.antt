@@ -13,6 +13,8 @@ use Rattle.cdx_tool.specs.Shows.{reply_of}
 use Rattle.cdx_tool.specs.Owed.{reply_by, IsSettled}
 use Rattle.cdx_tool.specs.Run.{Tells, Ends}
 use Rattle.cdx_tool.specs.Asks.{WhyNoBill, misread, bill_refused, bill_in, AsksFor, reply_to_bill, reply_if_read, reply_asking}
+use Rattle.cdx_tool.proofs.Statuses.{bill_settled, answer_settled, bill_served, short_served, whole_reply}
+use Rattle.std.specs.declared.alloc.AllocError.{AllocError}
 use Rattle.cdx_inventory.specs.declared.entry.Entry.{Entry}
 use Rattle.cdx_inventory.specs.Entries.{Told, told, all_told}
 use Rattle.cdx_inventory.specs.Stock.{Command, if_version, entry_value, components_answer, answer_to, reply_to_command}
@@ -43,38 +45,16 @@ components_clear es = neither _ false (entries_clear es) refl
 
 -- ---- the reply to a question
 
-misread_settled : (e : Misread) → IsSettled (reply_to_misread e).status
-misread_settled not_json = inr (inr refl)
-misread_settled shape = inr (inr refl)
-misread_settled (unbalanced place) = inr (inl refl)
-
-bill_settled : (f : Tree → Data) (owed : Result Tree WhyNoBill) → IsSettled (reply_to_bill f owed).status
-bill_settled f (Ok b) = inl refl
-bill_settled f (Err (misread e)) = misread_settled e
-bill_settled f (Err (bill_refused r)) = inr (inl refl)
-
 value_settled : (f : Tree → Data) (o : Option Data) → IsSettled (reply_if_read f o).status
 value_settled f None = inr (inr refl)
 value_settled f (Some d) = bill_settled f (bill_in d)
 
-pub settled : {E : Type 0} (f : Tree → Data) (bytes : List ℕ) (r : Result Answer E) → IfOk r (λ a. reply_of a ≡ reply_asking f bytes) → IfOk r (λ a. IsSettled a.status)
-settled f bytes (Ok a) is = subst IsSettled (ap (λ (r : Reply). r.status) (sym is)) (value_settled f (document_in_json bytes))
-settled f bytes (Err e) is = tt
-
-misread_refuses : (e : Misread) → (reply_to_misread e).status ≡ 0 → ⊥
-misread_refuses not_json h = omega (arith, h)
-misread_refuses shape h = omega (arith, h)
-misread_refuses (unbalanced place) h = omega (arith, h)
-
--- what a reply of status 0 answers
-of_bill : (f : Tree → Data) (owed : Result Tree WhyNoBill) → (reply_to_bill f owed).status ≡ 0 → (b : Tree) × (owed ≡ Ok b) × ((reply_to_bill f owed).text ≡ line_of (f b))
-of_bill f (Ok b) h = (b, refl, refl)
-of_bill f (Err (misread e)) h = absurd (misread_refuses e h)
-of_bill f (Err (bill_refused r)) h = cc
+pub settled : (f : Tree → Data) (bytes : List ℕ) (r : Result Answer AllocError) → IfOk r (λ a. reply_of a ≡ reply_asking f bytes) → IfOk r (λ a. IsSettled a.status)
+settled f bytes r is = answer_settled r (reply_asking f bytes) is (value_settled f (document_in_json bytes))
 
 of_value : (f : Tree → Data) (o : Option Data) → (reply_if_read f o).status ≡ 0 → (d : Data) × (b : Tree) × (o ≡ Some d) × (bill_in d ≡ Ok b) × ((reply_if_read f o).text ≡ line_of (f b))
 of_value f None h = cc
-of_value f (Some d) h = let p = of_bill f (bill_in d) h in (d, p.0, refl, p.1, p.2)
+of_value f (Some d) h = let p = bill_served f (bill_in d) h in (d, p.0, refl, p.1, p.2)
 
 asked : (f : Tree → Data) (bytes : List ℕ) → (reply_asking f bytes).status ≡ 0 → (b : Tree) × AsksFor bytes b × ((reply_asking f bytes).text ≡ line_of (f b))
 asked f bytes h = let p = of_value f (document_in_json bytes) h in (p.1, (p.0, p.2, p.3), p.4)
@@ -112,24 +92,14 @@ pub is_there : {C : Type 0} (f : C → Command) (given : Option (Bor C)) (read :
 is_there f None read said c is stands_for asked = absurd (none_asked f read said c is stands_for asked)
 is_there f (Some x) read said c is stands_for asked = refl
 
-short : (long : Bool) (six r : Reply) → six.status ≡ 6 → (cond long six r).status ≡ 0 → cond long six r ≡ r
-short true six r is h = absurd (omega (arith, is, h))
-short false six r is h = refl
-
-owed_is : (c : Command) (bytes : List ℕ) → (reply_by reply_to_command (Some c) bytes).status ≡ 0 → reply_by reply_to_command (Some c) bytes ≡ reply_to_command c bytes
-owed_is c bytes h = short (ltb limit (length bytes)) _ (reply_to_command c bytes) refl h
-
 -- a reply of status 0 that went out is the line of a bill's inventory
 pub served : (o left before now : Option (List ℕ)) (flushed : Option ℕ) (said : Option Command) (c : Command) (bytes : List ℕ) (status : ℕ) → Tells o bytes → Ends (reply_by reply_to_command said bytes) status before now flushed → said ≡ Some c → status ≡ 0 → IsAtEnd left
     → (bytes : List ℕ) × (b : Tree) × Tells o bytes × IsAtEnd left × AsksFor bytes b × Appends before now (line_of (answer_to c b))
-served o left before now flushed said c bytes status told (inl whole) is zero end =
-    let e = ap (λ said. reply_by reply_to_command said bytes) is in
-    let zero_is = ap (λ (r : Reply). r.status) (sym e) ∙ (sym whole.0 ∙ zero) in
-    let own = owed_is c bytes zero_is in
-    let a = asked (answer_to c) bytes (ap (λ (r : Reply). r.status) (sym own) ∙ zero_is) in
-    (bytes, a.0, told, end, a.1, subst (Appends before now) (ap (λ (r : Reply). r.text) (e ∙ own) ∙ a.2) whole.1)
-served o left before now flushed said c bytes status told (inr (inl front)) is zero end = absurd (omega (arith, front.0, zero))
-served o left before now flushed said c bytes status told (inr (inr none)) is zero end = absurd (elim none.0 [ inl three ↦ omega (arith, three, zero) | inr five ↦ omega (arith, five, zero) ])
+served o left before now flushed said c bytes status told ends is zero_is end =
+    let w = whole_reply (reply_by reply_to_command (Some c) bytes) status before now flushed (subst (λ (o : Option Command). Ends (reply_by reply_to_command o bytes) status before now flushed) is ends) zero_is in
+    let own = short_served (reply_to_command c bytes) (ltb limit (length bytes)) w.0 in
+    let a = asked (answer_to c) bytes (subst (λ (r : Reply). r.status ≡ 0) own w.0) in
+    (bytes, a.0, told, end, a.1, subst (Appends before now) (ap (λ (r : Reply). r.text) own ∙ a.2) w.1)
 
 -- a question about a bill is owed status 0
 pub valid : (said : Option Command) (c : Command) (bytes : List ℕ) (b : Tree) (status : ℕ) → said ≡ Some c → length bytes ≤ limit → AsksFor bytes b → (status ≡ (reply_by reply_to_command said bytes).status) ⊎ (status ≡ 5) → (status ≡ 0) ⊎ (status ≡ 5)

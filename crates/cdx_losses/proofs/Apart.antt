@@ -18,7 +18,7 @@ use Rattle.cdx_schema.proofs.JsonBack.{and_true}
 use Rattle.cdx_schema.proofs.Sound.{both}
 use Rattle.cdx_schema.proofs.KeptOf.{IsField}
 use Rattle.cdx_ways.specs.Ways.{At, behind_step, behind_row, behind_choice, is_step, begins}
-use Rattle.cdx_ways.proofs.Lists.{own_step, step_is, Disjoint, StartsIn, AllStart, starts_behind, starts_append, all_start_wider}
+use Rattle.cdx_ways.proofs.Lists.{own_step, step_is, Disjoint, StartsIn, AllStart, starts_behind, starts_append, all_start_wider, IsFrom, from_next}
 use Rattle.cdx_losses.specs.declared.loss.Reason.{Reason}
 use Rattle.cdx_losses.specs.Losses.{field_reason, item_reason, entry_or, lost, items_lost, rows_lost}
 use Rattle.cdx_losses.specs.Laws.{are_apart, ListsApart}
@@ -97,19 +97,10 @@ apart_entry (Some why) xs h = (tt, tt)
 
 -- ---- items
 
--- an item from this one on
-abbrev pub IsFrom : ℕ → Step → Type 0
-IsFrom i (Item j) = i ≤ j
-IsFrom i (Member name) = Never
-
 -- this item
 abbrev pub IsItem : ℕ → Step → Type 0
 IsItem i (Item j) = j ≡ i
 IsItem i (Member name) = Never
-
-pub from_next : (i : ℕ) (s : Step) → IsFrom (suc i) s → IsFrom i s
-from_next i (Item j) h = omega (arith, h)
-from_next i (Member name) h = h
 
 pub item_new : (i : ℕ) → Disjoint (IsItem i) (IsFrom (suc i))
 item_new i (Item j) h g = omega (arith, h, g)

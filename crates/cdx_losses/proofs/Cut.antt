@@ -16,12 +16,12 @@ use Rattle.cdx_schema.specs.Membership.{HasShape, HaveShape, FieldsHaveShape}
 use Rattle.cdx_schema.proofs.JsonBack.{and_true}
 use Rattle.cdx_schema.proofs.KeptOf.{IsField}
 use Rattle.cdx_ways.specs.Ways.{At, behind_step, behind_row, behind_choice, after_step, after_row, after_choice, is_step}
-use Rattle.cdx_ways.proofs.Lists.{own_step, after_own, after_other, StartsIn, AllStart, starts_behind}
+use Rattle.cdx_ways.proofs.Lists.{own_step, after_own, after_other, StartsIn, AllStart, starts_behind, IsFrom}
 use Rattle.cdx_losses.specs.declared.loss.Reason.{Reason}
 use Rattle.cdx_losses.specs.declared.loss.Reason.TheVariants.{Version, Tools, Flow, Xml}
 use Rattle.cdx_losses.specs.Losses.{field_reason, item_reason, entry_or, lost, items_lost, rows_lost, entries_behind, reason_here, field_struck, item_struck, struck_in, items_struck, rows_struck}
 use Rattle.cdx_losses.proofs.Members.{is_own, is_inner, IsKnown, IsOwn, known_own, known_more, own_new, inner_known, quiet_merged, quiet_record, quiet_rows, members_differ, differ, differ_rest, is_sound, is_quiet_kind, all_merged_sound, merged_sound, merged_whole}
-use Rattle.cdx_losses.proofs.Apart.{other_step, IsFrom, IsItem, item_new, row_lies, rows_lie, items_lie, lost_apart, absent_apart}
+use Rattle.cdx_losses.proofs.Apart.{other_step, IsItem, item_new, row_lies, rows_lie, items_lie, lost_apart, absent_apart}
 use Rattle.cdx_schema.proofs.Basics.{more_is}
 
 -- A tree of a kind less what is taken of it, for the reasons.

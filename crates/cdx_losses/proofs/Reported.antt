@@ -30,6 +30,7 @@ use Rattle.cdx_tool.specs.Owed.{reply_by, IsSettled}
 use Rattle.cdx_tool.specs.Run.{Tells, Ends}
 use Rattle.cdx_tool.specs.Asks.{WhyNoBill, misread, billed, IsWhyNoBill, reply_to_bill}
 use Rattle.cdx_tool.specs.declared.question.NoBill.TheVariants as lack
+use Rattle.cdx_tool.proofs.Statuses.{misread_settled, bill_settled, answer_settled, not_zero, misread_unserved, short_served, whole_reply}
 use Rattle.cdx_ways.specs.Ways.{At}
 use Rattle.cdx_losses.specs.Answers.{reason_word, loss_value, losses_answer}
 use Rattle.cdx_losses.specs.Report.{if_fit, carried, answer_to, losses_reply, owed}
@@ -105,37 +106,19 @@ misreads o (misreading.Memory m) h = tt
 
 -- ---- the reply
 
-misread_settled : (e : Misread) → IsSettled (reply_to_misread e).status
-misread_settled not_json = inr (inr refl)
-misread_settled shape = inr (inr refl)
-misread_settled (unbalanced place) = inr (inl refl)
-
-carried_settled : (f : Tree → Data) (r : Result Tree Refusal) → IsSettled (reply_to_bill f (billed r)).status
-carried_settled f (Ok b) = inl refl
-carried_settled f (Err r) = inr (inl refl)
-
 request_settled : (r : Result Request Misread) → IsSettled (losses_reply r).status
-request_settled (Ok q) = carried_settled (answer_to q.hops) (carried q.doc q.from q.hops)
+request_settled (Ok q) = bill_settled (answer_to q.hops) (billed (carried q.doc q.from q.hops))
 request_settled (Err e) = misread_settled e
 
 pub settled : (bytes : List ℕ) (r : Result Answer AllocError) → IfOk r (λ a. reply_of a ≡ owed bytes) → IfOk r (λ a. IsSettled a.status)
-settled bytes (Ok a) is = subst IsSettled (ap (λ (r : Reply). r.status) (sym is)) (request_settled (request_in bytes))
-settled bytes (Err e) is = tt
+settled bytes r is = answer_settled r (owed bytes) is (request_settled (request_in bytes))
 
 -- ---- status 0
-
-no_0 : (n : ℕ) → suc n ≡ 0 → ⊥
-no_0 n h = omega (arith, h)
-
-misread_unserved : (e : Misread) → (reply_to_misread e).status ≡ 0 → ⊥
-misread_unserved not_json h = no_0 1 h
-misread_unserved shape h = no_0 1 h
-misread_unserved (unbalanced place) h = no_0 0 h
 
 -- the bill that a served request carries
 served_bill : (f : Tree → Data) (r : Result Tree Refusal) → (reply_to_bill f (billed r)).status ≡ 0 → (b : Tree) × (r ≡ Ok b) × ((reply_to_bill f (billed r)).text ≡ line_of (f b))
 served_bill f (Ok b) h = (b, refl, refl)
-served_bill f (Err r) h = absurd (no_0 0 h)
+served_bill f (Err r) h = absurd (not_zero 0 h)
 
 -- is denoted, and fits every hop
 fits_hops : (hops : List Hop) (denoted : Result Tree Refusal) (b : Tree) → (denoted >>= λ c. if_fit hops c) ≡ Ok b → (denoted ≡ Ok b) × (fits_all hops b ≡ true)
@@ -155,18 +138,6 @@ requested (Err e) h = absurd (misread_unserved e h)
 
 -- ---- how a run of status 0 ends
 
--- the reply went out whole
-whole : (r : Reply) (status : ℕ) (before now : Option (List ℕ)) (flushed : Option ℕ) → Ends r status before now flushed → status ≡ 0 → (r.status ≡ 0) × Appends before now r.text
-whole r status before now flushed (inl h) zero_is = (sym h.0 ∙ zero_is, h.1)
-whole r status before now flushed (inr (inl h)) zero_is = absurd (no_0 3 (sym h.0 ∙ zero_is))
-whole r status before now flushed (inr (inr (inl h, kept))) zero_is = absurd (no_0 2 (sym h ∙ zero_is))
-whole r status before now flushed (inr (inr (inr h, kept))) zero_is = absurd (no_0 4 (sym h ∙ zero_is))
-
--- what is owed to bytes that aren't too many
-within : (bytes : List ℕ) (long : Bool) → (cond long (reply 6 (no_request (codes "too long"))) (owed bytes)).status ≡ 0 → cond long (reply 6 (no_request (codes "too long"))) (owed bytes) ≡ owed bytes
-within bytes true h = absurd (no_0 5 h)
-within bytes false h = refl
-
 abbrev reply_by_words : Option Command → List ℕ → Reply
 reply_by_words o bytes = reply_by (λ c bs. owed bs) o bytes
 
@@ -174,8 +145,8 @@ pub served : (o left before now : Option (List ℕ)) (words : Option Command) (c
     → Ends (reply_by (λ c bs. owed bs) words bytes) status before now flushed
     → (bytes : List ℕ) × (request : Request) × Tells o bytes × IsAtEnd left × (request_in bytes ≡ Ok request) × ((valid : IsValid request) × Appends before now (line_of (answer_to request.hops valid.the_bill)))
 served o left before now words c bytes status flushed is zero_is tells end ends =
-    let w = whole (reply_by_words (Some c) bytes) status before now flushed (subst (λ (o : Option Command). Ends (reply_by_words o bytes) status before now flushed) is ends) zero_is in
-    let same = within bytes (ltb limit (length bytes)) w.0 in
+    let w = whole_reply (reply_by_words (Some c) bytes) status before now flushed (subst (λ (o : Option Command). Ends (reply_by_words o bytes) status before now flushed) is ends) zero_is in
+    let same = short_served (owed bytes) (ltb limit (length bytes)) w.0 in
     let q = requested (request_in bytes) (subst (λ (r : Reply). r.status ≡ 0) same w.0) in
     (bytes, q.0, tells, end, q.1, (q.2.0, subst (Appends before now) (ap (λ (r : Reply). r.text) same ∙ q.2.1) w.1))
 

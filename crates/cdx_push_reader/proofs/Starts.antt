@@ -9,7 +9,7 @@ use Rattle.cdx_events.specs.declared.name.Namespace.{Namespace}
 use Rattle.cdx_events.specs.declared.event.XmlEvent.{XmlEvent}
 use Rattle.cdx_events.specs.declared.event.XmlEvent.TheVariants.{StartDocument, EndDocument, StartElement, EndElement, Characters, CData}
 use Rattle.cdx_events.specs.Nodes.{element, no_nodes, GoesOn}
-use Rattle.cdx_events.specs.Root.{frame_opened}
+use Rattle.cdx_events.specs.Root.{element_opened}
 use Rattle.cdx_models.specs.declared.bom.SpecVersion.{SpecVersion}
 use Rattle.cdx_models.specs.declared.errors.XmlReadError.{XmlReadError}
 use Rattle.cdx_models.specs.declared.errors.XmlReadError.TheVariants.{ElementReadError, UnexpectedElementReadError, RequiredDataMissing, RequiredAttributeMissing, InvalidParseError, InvalidNamespaceError, TooDeep, Memory}
@@ -139,7 +139,7 @@ wrong_namespace true true r d e f g h = absurd cc
 wrong_namespace true false r d e f g h = let same : e ≡ f = cc in ap (λ x. Err x) same
 wrong_namespace false c r d e f g h = absurd cc
 
-begin_fault : (v : SpecVersion) (events : List XmlEvent) (n : OwnedName) (a : List OwnedAttribute) (s : Namespace) (e : XmlReadError) → events ≡ StartDocument ∷ [] → root_so_far v (frame_opened n a s) ≡ Err e → IsEarly v (events ++ StartElement n a s ∷ []) (Some e)
+begin_fault : (v : SpecVersion) (events : List XmlEvent) (n : OwnedName) (a : List OwnedAttribute) (s : Namespace) (e : XmlReadError) → events ≡ StartDocument ∷ [] → root_so_far v (element_opened n a s) ≡ Err e → IsEarly v (events ++ StartElement n a s ∷ []) (Some e)
 begin_fault v events n a s e i r = subst (λ es. IsEarly v (es ++ StartElement n a s ∷ []) (Some e)) (sym i) (start_fault v n a s e r)
 
 -- ---- an event that is a start

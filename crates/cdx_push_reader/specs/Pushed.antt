@@ -7,7 +7,7 @@ use Rattle.cdx_events.specs.declared.name.Namespace.{Namespace}
 use Rattle.cdx_events.specs.declared.event.XmlEvent.{XmlEvent}
 use Rattle.cdx_events.specs.declared.event.XmlEvent.TheVariants.{StartDocument, StartElement}
 use Rattle.cdx_events.specs.Balance as balances
-use Rattle.cdx_events.specs.Balance.{Frame}
+use Rattle.cdx_events.specs.Balance.{OpenElement}
 use Rattle.cdx_events.specs.Nodes.{events_of, document}
 use Rattle.cdx_events.specs.Root.{node_of}
 use Rattle.cdx_models.specs.declared.bom.SpecVersion.{SpecVersion}
@@ -40,7 +40,7 @@ pub record IsRootOpen {M : Type 0} (holds : Holding M) (v : SpecVersion) (m : M)
 
 -- The root has ended, and the document perhaps. They denote this value.
 pub record IsDone {X : Type 0} (tree : X → Tree) (v : SpecVersion) (x : X) (events : List XmlEvent) : Type 0 where
-  pub root : Frame
+  pub root : OpenElement
   pub denotes : xml_denotes (node_of root) v ≡ Ok (tree x)
   pub events_are : (events ≡ StartDocument ∷ events_of (node_of root)) ⊎ (events ≡ document (node_of root))
 

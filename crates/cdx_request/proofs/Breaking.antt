@@ -6,7 +6,7 @@ use Rattle.cdx_events.specs.declared.name.OwnedName.{OwnedName}
 use Rattle.cdx_events.specs.declared.event.XmlEvent.{XmlEvent}
 use Rattle.cdx_events.specs.declared.balance.Stage.{Stage}
 use Rattle.cdx_events.specs.declared.balance.Stage.TheVariants.{Fresh}
-use Rattle.cdx_events.specs.Balance.{Frame, Hears, advance, is_alive}
+use Rattle.cdx_events.specs.Balance.{OpenElement, Hears, advance, is_alive}
 use Rattle.cdx_events.specs.Nodes.{IsBalanced, GoesOn, IsBroken}
 use Rattle.cdx_events.specs.Root.{root_of}
 use Rattle.cdx_events.proofs.Hears.{hears_next, alive_goes, goes_alive}
@@ -68,7 +68,7 @@ breaks_there events none = subst (IsBroken events) (omega arith) (goes_on events
 
 -- ---- no other place
 
-no_root : (o : Option Frame) (events : List XmlEvent) → root_of events ≡ o → (IsBalanced events → ⊥) → root_of events ≡ None
+no_root : (o : Option OpenElement) (events : List XmlEvent) → root_of events ≡ o → (IsBalanced events → ⊥) → root_of events ≡ None
 no_root None events is un = is
 no_root (Some r) events is un = absurd (un (record { name = r.name; attributes = r.attributes; namespace = r.namespace; nodes = r.before; whole = root_whole events r is }))
 

@@ -7,7 +7,7 @@ use Rattle.serde_json.specs.Data.{Data, null, boolean, number, string, array, ob
 use Rattle.serde_json.specs.Find.{get, get_member, as_str, as_array}
 use Rattle.serde_json.specs.Events.{members_len}
 use Rattle.cdx_events.specs.declared.event.XmlEvent.{XmlEvent}
-use Rattle.cdx_events.specs.Balance.{Frame}
+use Rattle.cdx_events.specs.Balance.{OpenElement}
 use Rattle.cdx_events.specs.Root.{root_of, node_of}
 use Rattle.cdx_events.proofs.RootLaws.{root_whole}
 use Rattle.cdx_models.specs.declared.bom.SpecVersion.{SpecVersion}
@@ -63,7 +63,7 @@ sent_alone d s e =
     subst (λ (d : Data). WritesSent d s) (sym m.2) (sent_held m.0 m.1 s (subst (λ (d : Data). sent_under (get (codes "json") d) (get (codes "xml") d) ≡ Some s) m.2 t.1))
 
 -- events with a root are those of its document
-rooted_is : (es : List XmlEvent) (o : Option Frame) (x : Doc) → root_of es ≡ o → rooted es o ≡ Ok x → sent_events es ≡ sent x
+rooted_is : (es : List XmlEvent) (o : Option OpenElement) (x : Doc) → root_of es ≡ o → rooted es o ≡ Ok x → sent_events es ≡ sent x
 rooted_is es None x is e = absurd cc
 rooted_is es (Some root) x is e = ap (λ (es : List XmlEvent). sent_events es) (root_whole es root is) ∙ ap sent (same_ok (xml (node_of root)) x e)
 

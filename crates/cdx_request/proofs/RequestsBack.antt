@@ -2,7 +2,7 @@
 use Rattle.std.proofs.Common.{◌≡◌, List, [], ◌∷◌, true, Option, Some, None, option_map, Result, Ok, Err, refl, sym, ap, subst, ◌∙◌}
 use Rattle.std.specs.List.{list_all}
 use Rattle.cdx_events.specs.declared.event.XmlEvent.{XmlEvent}
-use Rattle.cdx_events.specs.Balance.{Frame}
+use Rattle.cdx_events.specs.Balance.{OpenElement}
 use Rattle.cdx_events.specs.Nodes.{characters, cdata, element, document}
 use Rattle.cdx_events.specs.Root.{root_of}
 use Rattle.cdx_events.proofs.RootLaws.{root_is}
@@ -58,7 +58,7 @@ requests_back r h = ap request_if (asked_back r) ∙ ap (asking r.from r.hops) (
 
 -- ---- roots
 
-rooted_has : (es : List XmlEvent) (o : Option Frame) (d : Doc) → rooted es o ≡ Ok d → has_root d ≡ true
+rooted_has : (es : List XmlEvent) (o : Option OpenElement) (d : Doc) → rooted es o ≡ Ok d → has_root d ≡ true
 rooted_has es None d h = cc
 rooted_has es (Some root) d h = subst (λ (d : Doc). has_root d ≡ true) (same_ok _ d h) refl
 

@@ -5,7 +5,7 @@ use Rattle.serde_json.specs.Data.{Data}
 use Rattle.serde_json.specs.Read.{read}
 use Rattle.serde_json.specs.Find.{get, as_array}
 use Rattle.cdx_events.specs.declared.event.XmlEvent.{XmlEvent}
-use Rattle.cdx_events.specs.Balance.{Frame}
+use Rattle.cdx_events.specs.Balance.{OpenElement}
 use Rattle.cdx_events.specs.Root.{root_of, node_of}
 use Rattle.cdx_models.specs.declared.bom.SpecVersion.{SpecVersion}
 use Rattle.cdx_schema.specs.Trips.{Form, in_json, in_xml, Hop}
@@ -36,7 +36,7 @@ abbrev pub sent_of : Data → Option Sent
 sent_of d = if member_count d == 1 then sent_under (get (codes "json") d) (get (codes "xml") d) else None
 
 -- Events are a document where they have a root, and else break at a place.
-abbrev pub rooted : List XmlEvent → Option Frame → Result Doc Misread
+abbrev pub rooted : List XmlEvent → Option OpenElement → Result Doc Misread
 rooted events (Some root) = Ok (xml (node_of root))
 rooted events None = Err (unbalanced (broken events))
 

@@ -4,6 +4,7 @@ pub mod Answering
 pub mod Counting
 pub mod Runs
 pub mod Settling
+pub mod Statuses
 pub mod MadeRoads
 pub mod MadeBills
 pub mod Printing

@@ -5,7 +5,7 @@ use Rattle.std.specs.Str.{bytes_eq}
 use Rattle.serde_json.specs.Data.{Data, Items, no_items, item}
 use Rattle.serde_json.specs.Find.{get, as_array}
 use Rattle.cdx_events.specs.declared.event.XmlEvent.{XmlEvent}
-use Rattle.cdx_events.specs.Balance.{Frame}
+use Rattle.cdx_events.specs.Balance.{OpenElement}
 use Rattle.cdx_events.specs.Nodes.{Node, element, document, IsBalanced, IsBroken}
 use Rattle.cdx_events.specs.Root.{root_of}
 use Rattle.cdx_events.proofs.RootLaws.{root_is, root_whole}
@@ -77,6 +77,6 @@ balanced_is list events same b =
 pub broken_is : (list : List XmlEvent) (place : ℕ) → BreaksLaw → IsBroken list place → rooted list (root_of list) ≡ Err (unbalanced place)
 broken_is list place law b = by (root_of list) refl
   where
-    by : (o : Option Frame) → root_of list ≡ o → rooted list o ≡ Err (unbalanced place)
+    by : (o : Option OpenElement) → root_of list ≡ o → rooted list o ≡ Err (unbalanced place)
     by None is = ap (λ (n : ℕ). let r : Result roads.Doc Misread = Err (unbalanced n) in r) (sym ((law list).1 place b))
     by (Some r) is = absurd (b.unbalanced (record { name = r.name; attributes = r.attributes; namespace = r.namespace; nodes = r.before; whole = root_whole list r is }))

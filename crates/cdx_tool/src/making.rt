@@ -4,7 +4,7 @@ ghost use Rattle.std.specs.Prelude.{◌≡◌, ◌++◌, codes, decimal, IfOk};
 ghost use Rattle.cdx_component.specs.Trees.{component_tree, components_tree};
 ghost use Rattle.cdx_models.specs.Trees.{items};
 ghost use Rattle.cdx_bom.specs.Trees.{bom_tree};
-ghost use Rattle.cdx_request.specs.Made.{plain_component as plain_tree, made_component as component_of, made_components as components_of, made_bill};
+ghost use Rattle.cdx_request.specs.Made.{made_component as component_of, made_components as components_of, made_bill};
 
 use cdx_bom::Bom;
 use cdx_component::{Component, Components};
@@ -28,38 +28,6 @@ fn name_of(alloc: Global, number: u32) -> Result<Text, AllocError>
     Ok(Text::from_string(format!(in alloc; "c{number}")?))
 }
 
-// A component of this type, name and version, and nothing else.
-fn plain_component(component_type: Text, name: Text, version: Text) -> Component
-    ensures { component_tree result ≡ plain_tree component_type name version }
-{
-    Component {
-        component_type,
-        mime_type: None,
-        bom_ref: None,
-        supplier: None,
-        author: None,
-        publisher: None,
-        group: None,
-        name,
-        version: Some(version),
-        description: None,
-        scope: None,
-        hashes: None,
-        licenses: None,
-        copyright: None,
-        cpe: None,
-        purl: None,
-        swid: None,
-        modified: None,
-        pedigree: None,
-        external_references: None,
-        properties: None,
-        components: None,
-        evidence: None,
-        signature: None,
-    }
-}
-
 // The library `c` and the number, whose version is the number.
 fn made_component(alloc: Global, number: u32) -> Result<Component, AllocError>
     ensures { IfOk result (λ c. component_tree c ≡ component_of number) }
@@ -67,7 +35,7 @@ fn made_component(alloc: Global, number: u32) -> Result<Component, AllocError>
     let component_type = Text::new(alloc, "library")?;
     let name = name_of(alloc, number)?;
     let version = text_of(alloc, number)?;
-    Ok(plain_component(component_type, name, version))
+    Ok(Component::new(component_type, name, Some(version)))
 }
 
 // So many components, numbered from 0 on.

@@ -1,5 +1,5 @@
 -- A bill with one library: what the law on reading back asks of it.
-use Rattle.std.proofs.Common.{◌≡◌, ℕ, ◌<◌, ◌^◌, List, Result, Ok, Err, inl, inr, refl, ap, subst, ◌∙◌, arith}
+use Rattle.std.proofs.Common.{◌≡◌, ℕ, ◌<◌, ◌^◌, List, Some, Result, Ok, Err, inl, inr, refl, ap, subst, ◌∙◌, arith}
 use Rattle.serde_json.specs.View.{view}
 use Rattle.serde_json.specs.declared.value.Value.{Value}
 use Rattle.cdx_models.specs.declared.errors.JsonWriteError.{JsonWriteError}
@@ -15,9 +15,10 @@ use Rattle.cdx_schema.specs.Keeping.{kept, items_kept, keep, is_shallow, are_sha
 use Rattle.cdx_schema.specs.JsonReading.{json_denotes}
 use Rattle.cdx_schema.specs.Laws.{HasBillShape, IsShallow, ReadsBackJson}
 use Rattle.cdx_bom.specs.Outputs.{kept_json}
-use Rattle.cdx_uses.specs.Uses.{library_tree, library_bill}
+use Rattle.cdx_component.specs.Trees.{new_component}
+use Rattle.cdx_uses.specs.Uses.{library_bill}
 
-library_shaped : (type name version : List ℕ) → HasShape (library_tree type name version) (a_record component)
+library_shaped : (type name version : List ℕ) → HasShape (new_component type name (Some version)) (a_record component)
 unfolding rows
 library_shaped type name version = (refl, (inr tt, (inl (refl, refl), (inl (refl, refl), (inl (refl, refl), (inl (refl, refl), (inl (refl, refl), (inl (refl, refl), (inr tt, (inr tt, (inl (refl, refl), (inl (refl, refl), (inl (refl, refl), (inl (refl, refl), (inl (refl, refl), (inl (refl, refl), (inl (refl, refl), (inl (refl, refl), (inl (refl, refl), (inl (refl, refl), (inl (refl, refl), (inl (refl, refl), (inl (refl, refl), (inl (refl, refl), (inl (refl, refl), tt)))))))))))))))))))))))))
 

@@ -7,7 +7,7 @@ ghost use Rattle.cdx_component.specs.Trees.{component_tree, components_tree};
 ghost use Rattle.cdx_schema.specs.JsonReading.{json_denotes};
 ghost use Rattle.cdx_json.specs.Gives.{Makes};
 ghost use Rattle.cdx_bom.specs.Trees.{bom_tree};
-ghost use Rattle.cdx_uses.specs.Uses.{library_tree, components_alone, library_bill};
+ghost use Rattle.cdx_uses.specs.Uses.{components_alone, library_bill};
 
 use cdx_bom::Bom;
 use cdx_component::{Component, Components};
@@ -15,38 +15,6 @@ use cdx_events::Text;
 use cdx_models::{JsonWriteError, SpecVersion};
 use serde_json::Value;
 use std::alloc::{AllocError, Global};
-
-// The component with this type, name and version, and nothing else.
-fn component(component_type: Text, name: Text, version: Text) -> Component
-    ensures { component_tree result ≡ library_tree component_type name version }
-{
-    Component {
-        component_type,
-        mime_type: None,
-        bom_ref: None,
-        supplier: None,
-        author: None,
-        publisher: None,
-        group: None,
-        name,
-        version: Some(version),
-        description: None,
-        scope: None,
-        hashes: None,
-        licenses: None,
-        copyright: None,
-        cpe: None,
-        purl: None,
-        swid: None,
-        modified: None,
-        pedigree: None,
-        external_references: None,
-        properties: None,
-        components: None,
-        evidence: None,
-        signature: None,
-    }
-}
 
 // The list of one component.
 fn alone(alloc: Global, component: Component) -> Result<Components, AllocError>
@@ -64,7 +32,8 @@ pub fn library_bill(alloc: Global, name: &str, version: &str) -> Result<Bom, All
     let component_type = Text::new(alloc, "library")?;
     let name = Text::new(alloc, name)?;
     let version = Text::new(alloc, version)?;
-    let components = alone(alloc, component(component_type, name, version))?;
+    let component = Component::new(component_type, name, Some(version));
+    let components = alone(alloc, component)?;
     let mut bill = Bom::new(SpecVersion::V1_5);
     bill.components = Some(components);
     Ok(bill)

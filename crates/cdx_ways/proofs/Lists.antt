@@ -1,5 +1,5 @@
 -- Lists of paths: which begin with what, which differ, and what stands at them.
-use Rattle.std.specs.Prelude.{◌≡◌, ◌≢◌, refl, ℕ, zero, suc, length, take, List, [], ◌∷◌, ◌++◌, Bool, true, false, if◌then◌else◌, Option, Some, None, AllPairs, All, Contains, ◌⊎◌}
+use Rattle.std.specs.Prelude.{◌≡◌, ◌≢◌, refl, ℕ, zero, suc, ◌≤◌, length, take, List, [], ◌∷◌, ◌++◌, Bool, true, false, if◌then◌else◌, Option, Some, None, AllPairs, All, Contains, ◌⊎◌}
 use Rattle.std.proofs.Math.Seq.{take-append_seam}
 use Rattle.std.proofs.Common.{◌∙◌, true≢false, inl, inr, eq-eqb, eqb-true}
 use Rattle.std.proofs.lemmas.Slice.Eq.{bytes_eq-Decides}
@@ -123,6 +123,15 @@ pub in_starts : {A : Type 0} (Q : Step → Type 0) (p : List Step) (c : A) (xs :
 in_starts Q p c [] h g = elim g [ ]
 in_starts Q p c (x ∷ xs) h (inl e) = subst (λ (z : At _). StartsIn Q z.0) e h.0
 in_starts Q p c (x ∷ xs) h (inr g) = in_starts Q p c xs h.1 g
+
+-- The step is to an item from this one on.
+abbrev pub IsFrom : ℕ → Step → Type 0
+IsFrom i (Item j) = i ≤ j
+IsFrom i (Member name) = Never
+
+pub from_next : (i : ℕ) (s : Step) → IsFrom (suc i) s → IsFrom i s
+from_next i (Item j) h = omega (arith, h)
+from_next i (Member name) h = h
 
 -- ---- paths that differ
 

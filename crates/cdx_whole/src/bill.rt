@@ -3,7 +3,7 @@
 ghost use Rattle.cdx_schema.specs.Laws.{IsBill, HasBillShape};
 ghost use Rattle.cdx_bom.specs.Trees.{bom_tree};
 
-use crate::of_kind::{OfKind, tell_row};
+use crate::telling::{TellsKind, tell_row};
 use cdx_bom::Bom;
 use cdx_schema::laws::bills_have_shape;
 

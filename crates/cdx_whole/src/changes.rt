@@ -1,10 +1,10 @@
 //! Commits and patches, and the issues that these resolve.
 
-use crate::of_kind::{OfKind, tell_list, tell_list_row, tell_row};
+use crate::telling::{TellsKind, tell_list, tell_list_row, tell_row};
 use cdx_code::{Commit, Commits, IdentifiableAction};
 use cdx_patch::{Diff, Issue, Patch, Patches, Source};
 
-impl OfKind for IdentifiableAction {
+impl TellsKind for IdentifiableAction {
     fn tell(&self) {
         tell_row(&self.timestamp);
         tell_row(&self.name);
@@ -12,7 +12,7 @@ impl OfKind for IdentifiableAction {
     }
 }
 
-impl OfKind for Commit {
+impl TellsKind for Commit {
     fn tell(&self) {
         tell_row(&self.uid);
         tell_row(&self.url);
@@ -22,27 +22,27 @@ impl OfKind for Commit {
     }
 }
 
-impl OfKind for Commits {
+impl TellsKind for Commits {
     fn tell(&self) {
         tell_list(&self.0);
     }
 }
 
-impl OfKind for Diff {
+impl TellsKind for Diff {
     fn tell(&self) {
         tell_row(&self.text);
         tell_row(&self.url);
     }
 }
 
-impl OfKind for Source {
+impl TellsKind for Source {
     fn tell(&self) {
         tell_row(&self.name);
         tell_row(&self.url);
     }
 }
 
-impl OfKind for Issue {
+impl TellsKind for Issue {
     fn tell(&self) {
         self.issue_type.tell();
         tell_row(&self.id);
@@ -53,7 +53,7 @@ impl OfKind for Issue {
     }
 }
 
-impl OfKind for Patch {
+impl TellsKind for Patch {
     fn tell(&self) {
         self.patch_type.tell();
         tell_row(&self.diff);
@@ -61,7 +61,7 @@ impl OfKind for Patch {
     }
 }
 
-impl OfKind for Patches {
+impl TellsKind for Patches {
     fn tell(&self) {
         tell_list(&self.0);
     }

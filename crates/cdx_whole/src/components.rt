@@ -8,7 +8,7 @@ ghost use Rattle.cdx_component.specs.Trees.{origin, naming, marks, component_con
 ghost use Rattle.cdx_component.specs.declared.component.Component.{out-Component};
 ghost use Rattle.cdx_whole.specs.Fields.{IsField, AreFields};
 
-use crate::of_kind::{OfKind, tell_row};
+use crate::telling::{TellsKind, tell_row};
 use cdx_nest::{Component, Components, Pedigree};
 
 fn tell_origin(held: &Component)
@@ -108,13 +108,13 @@ fn tell_components_row(held: &Option<Components>)
     }
 }
 
-impl OfKind for Component {
+impl TellsKind for Component {
     fn tell(&self) {
         tell_component(self);
     }
 }
 
-impl OfKind for Components {
+impl TellsKind for Components {
     fn tell(&self) {
         tell_components(self);
     }

@@ -1,16 +1,16 @@
 //! The data of services.
 
-use crate::of_kind::{OfKind, tell_list, tell_row};
+use crate::telling::{TellsKind, tell_list, tell_row};
 use cdx_service_data::{Data, DataClassification, ServiceData};
 
-impl OfKind for DataClassification {
+impl TellsKind for DataClassification {
     fn tell(&self) {
         self.flow.tell();
         self.classification.tell();
     }
 }
 
-impl OfKind for ServiceData {
+impl TellsKind for ServiceData {
     fn tell(&self) {
         tell_row(&self.name);
         tell_row(&self.description);
@@ -18,7 +18,7 @@ impl OfKind for ServiceData {
     }
 }
 
-impl OfKind for Data {
+impl TellsKind for Data {
     fn tell(&self) {
         match self {
             Data::Classification(classifications) => tell_list(classifications),

@@ -1,18 +1,18 @@
 //! The common leaf records.
 
-use crate::of_kind::{OfKind, tell_list, tell_list_row, tell_row};
+use crate::telling::{TellsKind, tell_list, tell_list_row, tell_row};
 use cdx_models::{
     AttachedText, ExternalReference, ExternalReferences, Hash, HashValue, Hashes,
     OrganizationalContact, OrganizationalEntity, Properties, Property, Tool, Uri, UrnUuid,
 };
 
-impl OfKind for UrnUuid {
+impl TellsKind for UrnUuid {
     fn tell(&self) {
         self.0.tell();
     }
 }
 
-impl OfKind for AttachedText {
+impl TellsKind for AttachedText {
     fn tell(&self) {
         tell_row(&self.content_type);
         tell_row(&self.encoding);
@@ -20,39 +20,39 @@ impl OfKind for AttachedText {
     }
 }
 
-impl OfKind for HashValue {
+impl TellsKind for HashValue {
     fn tell(&self) {
         self.0.tell();
     }
 }
 
-impl OfKind for Hash {
+impl TellsKind for Hash {
     fn tell(&self) {
         self.alg.tell();
         self.content.tell();
     }
 }
 
-impl OfKind for Hashes {
+impl TellsKind for Hashes {
     fn tell(&self) {
         tell_list(&self.0);
     }
 }
 
-impl OfKind for Property {
+impl TellsKind for Property {
     fn tell(&self) {
         self.name.tell();
         self.value.tell();
     }
 }
 
-impl OfKind for Properties {
+impl TellsKind for Properties {
     fn tell(&self) {
         tell_list(&self.0);
     }
 }
 
-impl OfKind for OrganizationalContact {
+impl TellsKind for OrganizationalContact {
     fn tell(&self) {
         tell_row(&self.bom_ref);
         tell_row(&self.name);
@@ -61,7 +61,7 @@ impl OfKind for OrganizationalContact {
     }
 }
 
-impl OfKind for OrganizationalEntity {
+impl TellsKind for OrganizationalEntity {
     fn tell(&self) {
         tell_row(&self.bom_ref);
         tell_row(&self.name);
@@ -70,13 +70,13 @@ impl OfKind for OrganizationalEntity {
     }
 }
 
-impl OfKind for Uri {
+impl TellsKind for Uri {
     fn tell(&self) {
         let _text = self.as_str();
     }
 }
 
-impl OfKind for ExternalReference {
+impl TellsKind for ExternalReference {
     fn tell(&self) {
         self.external_reference_type.tell();
         self.url.tell();
@@ -85,13 +85,13 @@ impl OfKind for ExternalReference {
     }
 }
 
-impl OfKind for ExternalReferences {
+impl TellsKind for ExternalReferences {
     fn tell(&self) {
         tell_list(&self.0);
     }
 }
 
-impl OfKind for Tool {
+impl TellsKind for Tool {
     fn tell(&self) {
         tell_row(&self.vendor);
         tell_row(&self.name);

@@ -11,12 +11,12 @@ mod expect;
 mod leaves;
 mod licenses;
 mod nest;
-mod of_kind;
 mod owned;
 mod parts;
 mod relations;
 mod services;
 mod signatures;
+mod telling;
 #[cfg(test)]
 mod tests;
 

@@ -1,9 +1,9 @@
 //! Licenses.
 
-use crate::of_kind::{OfKind, tell_list, tell_row};
+use crate::telling::{TellsKind, tell_list, tell_row};
 use cdx_license::{Expression, License, LicenseChoice, LicenseIdentifier, Licenses};
 
-impl OfKind for LicenseIdentifier {
+impl TellsKind for LicenseIdentifier {
     fn tell(&self) {
         match self {
             LicenseIdentifier::SpdxId(id) => id.tell(),
@@ -12,7 +12,7 @@ impl OfKind for LicenseIdentifier {
     }
 }
 
-impl OfKind for License {
+impl TellsKind for License {
     fn tell(&self) {
         tell_row(&self.bom_ref);
         self.license_identifier.tell();
@@ -22,14 +22,14 @@ impl OfKind for License {
     }
 }
 
-impl OfKind for Expression {
+impl TellsKind for Expression {
     fn tell(&self) {
         tell_row(&self.bom_ref);
         self.expression.tell();
     }
 }
 
-impl OfKind for LicenseChoice {
+impl TellsKind for LicenseChoice {
     fn tell(&self) {
         match self {
             LicenseChoice::License(license) => license.tell(),
@@ -38,7 +38,7 @@ impl OfKind for LicenseChoice {
     }
 }
 
-impl OfKind for Licenses {
+impl TellsKind for Licenses {
     fn tell(&self) {
         tell_list(&self.0);
     }

@@ -1,9 +1,9 @@
 //! Tools and metadata.
 
-use crate::of_kind::{OfKind, tell_list, tell_list_row, tell_row};
+use crate::telling::{TellsKind, tell_list, tell_list_row, tell_row};
 use cdx_nest::{Metadata, Tools};
 
-impl OfKind for Tools {
+impl TellsKind for Tools {
     fn tell(&self) {
         match self {
             Tools::List(tools) => tell_list(tools),
@@ -18,7 +18,7 @@ impl OfKind for Tools {
     }
 }
 
-impl OfKind for Metadata {
+impl TellsKind for Metadata {
     fn tell(&self) {
         tell_row(&self.timestamp);
         tell_row(&self.tools);

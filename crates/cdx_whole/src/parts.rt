@@ -1,21 +1,21 @@
 //! What components are known by, and the evidence found in them.
 
-use crate::of_kind::{OfKind, tell_list, tell_row};
+use crate::telling::{TellsKind, tell_list, tell_row};
 use cdx_component_parts::{ComponentEvidence, Copyright, CopyrightTexts, Cpe, MimeType, Swid};
 
-impl OfKind for MimeType {
+impl TellsKind for MimeType {
     fn tell(&self) {
         self.0.tell();
     }
 }
 
-impl OfKind for Cpe {
+impl TellsKind for Cpe {
     fn tell(&self) {
         self.0.tell();
     }
 }
 
-impl OfKind for Swid {
+impl TellsKind for Swid {
     fn tell(&self) {
         self.tag_id.tell();
         self.name.tell();
@@ -27,19 +27,19 @@ impl OfKind for Swid {
     }
 }
 
-impl OfKind for Copyright {
+impl TellsKind for Copyright {
     fn tell(&self) {
         self.text.tell();
     }
 }
 
-impl OfKind for CopyrightTexts {
+impl TellsKind for CopyrightTexts {
     fn tell(&self) {
         tell_list(&self.0);
     }
 }
 
-impl OfKind for ComponentEvidence {
+impl TellsKind for ComponentEvidence {
     fn tell(&self) {
         tell_row(&self.licenses);
         tell_row(&self.copyright);

@@ -1,28 +1,28 @@
 //! Dependencies and compositions.
 
-use crate::of_kind::{OfKind, tell_list, tell_list_row, tell_row};
+use crate::telling::{TellsKind, tell_list, tell_list_row, tell_row};
 use cdx_relations::{BomReference, Composition, Compositions, Dependencies, Dependency};
 
-impl OfKind for Dependency {
+impl TellsKind for Dependency {
     fn tell(&self) {
         self.dependency_ref.tell();
         tell_list(&self.depends_on);
     }
 }
 
-impl OfKind for Dependencies {
+impl TellsKind for Dependencies {
     fn tell(&self) {
         tell_list(&self.0);
     }
 }
 
-impl OfKind for BomReference {
+impl TellsKind for BomReference {
     fn tell(&self) {
         self.0.tell();
     }
 }
 
-impl OfKind for Composition {
+impl TellsKind for Composition {
     fn tell(&self) {
         tell_row(&self.bom_ref);
         self.aggregate.tell();
@@ -33,7 +33,7 @@ impl OfKind for Composition {
     }
 }
 
-impl OfKind for Compositions {
+impl TellsKind for Compositions {
     fn tell(&self) {
         tell_list(&self.0);
     }

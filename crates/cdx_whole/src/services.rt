@@ -8,7 +8,7 @@ ghost use Rattle.cdx_service.specs.Trees.{service_naming, service_access, servic
 ghost use Rattle.cdx_service.specs.declared.service.Service.{out-Service};
 ghost use Rattle.cdx_whole.specs.Fields.{IsField, AreFields};
 
-use crate::of_kind::{OfKind, tell_list_row, tell_row};
+use crate::telling::{TellsKind, tell_list_row, tell_row};
 use cdx_nest::{Service, Services};
 
 fn tell_naming(held: &Service)
@@ -72,7 +72,7 @@ fn tell_services_row(held: &Option<Services>)
     }
 }
 
-impl OfKind for Services {
+impl TellsKind for Services {
     fn tell(&self) {
         tell_services(self);
     }

@@ -1,22 +1,22 @@
 //! Signatures.
 
-use crate::of_kind::{OfKind, tell_list};
+use crate::telling::{TellsKind, tell_list};
 use cdx_signature::{Algorithm, Signature, Signer};
 
-impl OfKind for Algorithm {
+impl TellsKind for Algorithm {
     fn tell(&self) {
         let _name = self.as_str();
     }
 }
 
-impl OfKind for Signer {
+impl TellsKind for Signer {
     fn tell(&self) {
         self.algorithm.tell();
         self.value.tell();
     }
 }
 
-impl OfKind for Signature {
+impl TellsKind for Signature {
     fn tell(&self) {
         match self {
             Signature::Signers(signers) => tell_list(signers),

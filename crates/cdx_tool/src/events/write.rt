@@ -73,7 +73,7 @@ fn put_attributes(
 }
 
 // An object with this text alone.
-fn text_to_json(alloc: Global, name: &str, text: &str) -> Result<Value, AllocError>
+fn text_object(alloc: Global, name: &str, text: &str) -> Result<Value, AllocError>
     ensures { IfOk result (λ v. view v ≡ only_text name.now text.now) }
 {
     let mut map = Map::new(alloc);
@@ -86,8 +86,8 @@ impl JsonItem for Event {
 
     fn to_json(&self, alloc: Global) -> Result<Value, AllocError> {
         match self {
-            Event::StartDocument => text_to_json(alloc, "document", "start"),
-            Event::EndDocument => text_to_json(alloc, "document", "end"),
+            Event::StartDocument => text_object(alloc, "document", "start"),
+            Event::EndDocument => text_object(alloc, "document", "end"),
             Event::StartElement {
                 name,
                 attributes,
@@ -104,8 +104,8 @@ impl JsonItem for Event {
                 put_name(alloc, &mut map, "end", name)?;
                 Ok(Value::Object(map))
             }
-            Event::Characters(text) => text_to_json(alloc, "text", text.as_str()),
-            Event::CData(text) => text_to_json(alloc, "cdata", text.as_str()),
+            Event::Characters(text) => text_object(alloc, "text", text.as_str()),
+            Event::CData(text) => text_object(alloc, "cdata", text.as_str()),
         }
     }
 }

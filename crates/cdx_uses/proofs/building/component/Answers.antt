@@ -1,5 +1,0 @@
-use Rattle.cdx_component.specs.Laws.{component_tree-roll}
-use Rattle.cdx_uses.proofs.building.component.Goals as goal
-
-pub returns : goal.returns
-returns c = component_tree-roll _

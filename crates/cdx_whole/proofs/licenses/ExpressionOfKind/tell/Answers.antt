@@ -1,7 +1,0 @@
-use Rattle.std.proofs.Common.{inr, refl}
-use Rattle.cdx_schema.specs.Table.{rows}
-use Rattle.cdx_whole.proofs.licenses.ExpressionOfKind.tell.Goals as goal
-
-pub returns : goal.returns
-unfolding rows
-returns c = (refl, (c.tell_row.ensures, (inr c.tell.ensures, tt)))
