@@ -8,7 +8,6 @@
 //! - `keeps`: what the version keeps of the bill, as JSON of 1.5.
 //! - `carries`: the document, read by the version, goes along the road of the documents after it, or is refused.
 
-use crate::expect::{holds, row_is, text_is};
 use crate::faults::of_road;
 use crate::short::{bill, hop_of, label, only, parse_xml, read, shown, whole};
 use cdx_bom::{Bom, Doc, Hop, RoadError, into_road, recode, road};
@@ -16,13 +15,13 @@ use cdx_events::{EventSource, List, MemoryEventSource, XmlEvent};
 use cdx_json::{FromJson, Kept};
 use cdx_leaf::FromXmlDocument;
 use cdx_models::SpecVersion;
+use cdx_test_cases::checks::{holds, row_is, text_is};
 use cdx_test_cases::documents::{document, line_of, list_of};
 use cdx_test_cases::faults::{json_fault_line, xml_fault_line};
 use cdx_test_cases::forms::V5;
 use cdx_test_cases::rows::{Case, cases, parted};
 use serde_json::Value;
 use std::alloc::{AllocError, Global};
-use std::process::Abort;
 use std::test::Fail;
 
 // The label of events is the version that reads them, and that of JSON is the one that was read.
@@ -180,10 +179,10 @@ fn wanted(alloc: Global, case: &Case<'_>) -> Result<String, AllocError> {
     whole(alloc, case.answer)
 }
 
-fn bills(rt: &impl Abort, alloc: Global, rows: &str) -> Result<(), Fail> {
+fn bills(alloc: Global, rows: &str) -> Result<(), Fail> {
     for case in &cases(alloc, rows)? {
         let found = found(alloc, case)?;
-        row_is(rt, case.line, found.as_str(), wanted(alloc, case)?.as_str());
+        row_is(case.line, found.as_str(), wanted(alloc, case)?.as_str())?;
     }
     Ok(())
 }
@@ -273,7 +272,7 @@ const READ: &str = r#"
 
 #[test]
 fn read_and_gathered(rt: HostRuntime) -> Result<(), Fail> {
-    bills(&rt, rt.alloc(), READ)
+    bills(rt.alloc(), READ)
 }
 
 // What comes after the document stays in the source.
@@ -283,12 +282,11 @@ fn left_in_the_source(rt: HostRuntime) -> Result<(), Fail> {
     let events = list_of(alloc, "start|<foo|>foo|end|start")?;
     let mut source = MemoryEventSource::new(events, only(alloc, 0)?);
     let found = told_source(alloc, &mut source, V5, 13)?;
-    text_is(&rt, found.as_str(), "unexpected 1 bom StartElement");
+    text_is(found.as_str(), "unexpected 1 bom StartElement")?;
     holds(
-        &rt,
+        "the source gives the event after the document",
         matches!(source.next(), Ok(Some(XmlEvent::StartDocument))),
-    );
-    Ok(())
+    )
 }
 
 const KEPT: &str = r#"
@@ -336,6 +334,6 @@ const CARRIED: &str = r#"
 
 #[test]
 fn kept_and_carried(rt: HostRuntime) -> Result<(), Fail> {
-    bills(&rt, rt.alloc(), KEPT)?;
-    bills(&rt, rt.alloc(), CARRIED)
+    bills(rt.alloc(), KEPT)?;
+    bills(rt.alloc(), CARRIED)
 }

@@ -4,8 +4,6 @@
 #[cfg(test)]
 mod documents;
 #[cfg(test)]
-mod expect;
-#[cfg(test)]
 mod faults;
 #[cfg(test)]
 mod short;

@@ -1,16 +1,15 @@
 //! Bills as values: new ones, copies, which are equal and which the same, and how deep they are.
 
-use crate::expect::{holds, row_holds, text_is};
 use crate::short::{bill, label, read_short, shown, whole};
 use cdx_bom::{Bom, same};
 use cdx_component::{Component, Components};
 use cdx_json::FromJson;
 use cdx_models::HasTree;
+use cdx_test_cases::checks::{holds, row_is, text_is};
 use cdx_test_cases::forms::{V3, V4, V5, chain};
 use cdx_test_cases::rows::row;
 use serde_json::Value;
 use std::alloc::{AllocError, Global};
-use std::process::Abort;
 use std::test::Fail;
 
 // Whether the bills are equal, and whether they are the same.
@@ -30,17 +29,24 @@ fn new_bills(rt: HostRuntime) -> Result<(), Fail> {
     let alloc = rt.alloc();
     for v in [V3, V4, V5] {
         let label = label(alloc, &Bom::new(v))?;
-        holds(&rt, label == format!(in alloc; "{} 1", v.as_str())?);
-        holds(
-            &rt,
-            shown(alloc, &Bom::new(v))? == whole(alloc, "json 1.5")?,
-        );
+        text_is(
+            label.as_str(),
+            format!(in alloc; "{} 1", v.as_str())?.as_str(),
+        )?;
+        let found = shown(alloc, &Bom::new(v))?;
+        text_is(found.as_str(), whole(alloc, "json 1.5")?.as_str())?;
     }
     let read = bill(alloc, "json 1.5")?;
-    holds(&rt, compare(read, Bom::new(V5)).0);
-    holds(&rt, compare(Bom::new(V4), Bom::new(V5)) == (false, false));
-    holds(&rt, compare(second(), Bom::new(V5)) == (false, false));
-    Ok(())
+    let is_new = compare(read, Bom::new(V5)).0;
+    holds("a bill without members is a new one", is_new)?;
+    holds(
+        "new bills of two versions differ",
+        compare(Bom::new(V4), Bom::new(V5)) == (false, false),
+    )?;
+    holds(
+        "a bill of version 2 is another",
+        compare(second(), Bom::new(V5)) == (false, false),
+    )
 }
 
 // Bills of which no two are equal, and which of them are the same as the one of an empty object of tools.
@@ -94,11 +100,11 @@ fn beside(alloc: Global, one: &Bom, object: &Bom) -> Result<&'static str, Fail> 
     }
 }
 
-fn all_beside(rt: &impl Abort, alloc: Global, object: &Bom) -> Result<(), Fail> {
+fn all_beside(alloc: Global, object: &Bom) -> Result<(), Fail> {
     for line in DIFFERENT.lines() {
         if let Some((short, answer)) = row(line) {
             let found = beside(alloc, &bill(alloc, short)?, object)?;
-            row_holds(rt, line, found == answer);
+            row_is(line, found, answer)?;
         }
     }
     Ok(())
@@ -108,7 +114,7 @@ fn all_beside(rt: &impl Abort, alloc: Global, object: &Bom) -> Result<(), Fail> 
 fn copies_and_equals(rt: HostRuntime) -> Result<(), Fail> {
     let alloc = rt.alloc();
     let object = bill(alloc, r#"json 1.5 "metadata":{"tools":{}},"#)?;
-    all_beside(&rt, alloc, &object)
+    all_beside(alloc, &object)
 }
 
 const NESTED: (&str, &str) = (r#"{"components":["#, r#"],"name":"a","type":"library"}"#);
@@ -142,17 +148,12 @@ fn nested(alloc: Global, levels: usize) -> Result<String, AllocError> {
 fn depth(rt: HostRuntime) -> Result<(), Fail> {
     let alloc = rt.alloc();
     let fault = chain(alloc, "TooDeep ", ("/components/0", ""), 33, "")?;
-    holds(
-        &rt,
-        read_short(alloc, nested(alloc, 33)?.as_str())? == fault,
-    );
-    let short = chain(alloc, "xml 1.5 <components|", ELEMENT, 33, ">components|")?;
     text_is(
-        &rt,
-        read_short(alloc, short.as_str())?.as_str(),
-        "too deep 163",
-    );
-    Ok(())
+        read_short(alloc, nested(alloc, 33)?.as_str())?.as_str(),
+        fault.as_str(),
+    )?;
+    let short = chain(alloc, "xml 1.5 <components|", ELEMENT, 33, ">components|")?;
+    text_is(read_short(alloc, short.as_str())?.as_str(), "too deep 163")
 }
 
 #[test]
@@ -160,13 +161,15 @@ fn depth_of_values(rt: HostRuntime) -> Result<(), Fail> {
     let alloc = rt.alloc();
     let text = whole(alloc, nested(alloc, 33)?.as_str())?;
     let deep = deep(alloc)?;
-    holds(&rt, shown(alloc, &deep)? == text);
-    holds(&rt, !deep.shallow());
+    let (is_shallow, found) = (deep.shallow(), shown(alloc, &deep)?);
+    drop(deep);
+    text_is(found.as_str(), text.as_str())?;
+    holds("33 levels aren't shallow", !is_shallow)?;
     let short = nested(alloc, 32)?;
-    holds(&rt, bill(alloc, short.as_str())?.shallow());
-    holds(
-        &rt,
-        read_short(alloc, short.as_str())? == whole(alloc, short.as_str())?,
-    );
-    Ok(())
+    let is_shallow = bill(alloc, short.as_str())?.shallow();
+    holds("32 levels are shallow", is_shallow)?;
+    text_is(
+        read_short(alloc, short.as_str())?.as_str(),
+        whole(alloc, short.as_str())?.as_str(),
+    )
 }

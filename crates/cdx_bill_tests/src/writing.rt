@@ -1,17 +1,16 @@
 //! Bills written in each version, and put into sinks that may fail.
 
-use crate::expect::{holds, row_holds, row_is, text_is};
 use crate::faults::{of_json_writing, of_xml_writing};
 use crate::short::{bill, hop_of, only, shown, whole, written};
 use cdx_bom::{Bom, Form, Hop, PutError, put_text};
 use cdx_events::{EventWriter, MemoryEventSink, MemorySink, Text};
 use cdx_models::SpecVersion;
+use cdx_test_cases::checks::{holds, row_holds, row_is, text_is};
 use cdx_test_cases::documents::line_of;
 use cdx_test_cases::forms::{V3, V4, V5};
 use cdx_test_cases::rows::row;
 use cdx_write::ToXml;
 use std::alloc::{AllocError, Global};
-use std::process::Abort;
 use std::test::Fail;
 
 const EVERY: &str =
@@ -27,12 +26,12 @@ const EVERY_WRITTEN: &str = r#"
     xml 1.5 <metadata|<timestamp|=t|>timestamp|>metadata|<components|<component type=t|<name|=a|>name|<version|=1|>version|>component|>components|<services|<service|<name|=s|>name|>service|>services|<externalReferences|<reference type=t|<url|=u|>url|>reference|>externalReferences|<dependencies|<dependency ref=a|>dependency|>dependencies|<compositions|<composition|<aggregate|=complete|>aggregate|>composition|>compositions|<properties|<property name=n|=v|>property|>properties|<signature|<algorithm|=ES256|>algorithm|<value|=v|>value|>signature|
 "#;
 
-fn is_written(rt: &impl Abort, alloc: Global, bill: &Bom) -> Result<(), Fail> {
+fn is_written(alloc: Global, bill: &Bom) -> Result<(), Fail> {
     for line in EVERY_WRITTEN.lines() {
         if let Some((short, _)) = row(line) {
-            let hop = hop_of(short).expect(rt, "a document");
+            let hop = hop_of(short).ok_or("a row begins with no hop")?;
             let found = written(alloc, bill, hop)?;
-            row_is(rt, line, found.as_str(), whole(alloc, short)?.as_str());
+            row_is(line, found.as_str(), whole(alloc, short)?.as_str())?;
         }
     }
     Ok(())
@@ -41,7 +40,7 @@ fn is_written(rt: &impl Abort, alloc: Global, bill: &Bom) -> Result<(), Fail> {
 #[test]
 fn every_field(rt: HostRuntime) -> Result<(), Fail> {
     let bill = bill(rt.alloc(), EVERY)?;
-    is_written(&rt, rt.alloc(), &bill)
+    is_written(rt.alloc(), &bill)
 }
 
 // The events that a bill appends to a writer.
@@ -56,11 +55,12 @@ fn appended(alloc: Global, bill: &Bom, version: SpecVersion) -> Result<String, F
 fn into_writers(rt: HostRuntime) -> Result<(), Fail> {
     let alloc = rt.alloc();
     let bill = bill(alloc, r#"json 1.5 "serialNumber":"U","signature":[],"#)?;
-    holds(&rt, bill.will_write());
+    let (will_write, found) = (bill.will_write(), appended(alloc, &bill, V4)?);
+    drop(bill);
+    holds("a bill has something to write", will_write)?;
     let line =
         "start|<bom xmlns=1.4 serialNumber=U version=1|<signature|<signers|>signers|>signature|>bom|end";
-    text_is(&rt, appended(alloc, &bill, V4)?.as_str(), line);
-    Ok(())
+    text_is(found.as_str(), line)
 }
 
 // How putting the bill as JSON ends.
@@ -90,19 +90,18 @@ fn put_xml(
 }
 
 // Nothing is put before a bill is refused.
-fn is_refused(rt: &impl Abort, alloc: Global, bill: &Bom) -> Result<(), Fail> {
+fn is_refused(alloc: Global, bill: &Bom) -> Result<(), Fail> {
     let fault = "version missing in 1.3";
     for form in [Form::Json, Form::Xml] {
         let found = written(alloc, bill, Hop { form, version: V3 })?;
-        text_is(rt, found.as_str(), fault);
+        text_is(found.as_str(), fault)?;
     }
     let mut sink = MemorySink::new(alloc, 512, 10, only(alloc, 0)?)?;
-    text_is(rt, put_json(alloc, bill, V3, &mut sink)?.as_str(), fault);
-    holds(rt, sink.calls() == 0);
+    text_is(put_json(alloc, bill, V3, &mut sink)?.as_str(), fault)?;
+    holds("nothing is put as JSON", sink.calls() == 0)?;
     let mut sink = MemoryEventSink::new(alloc, 512, only(alloc, 0)?)?;
-    text_is(rt, put_xml(alloc, bill, V3, &mut sink)?.as_str(), fault);
-    holds(rt, sink.calls() == 0);
-    Ok(())
+    text_is(put_xml(alloc, bill, V3, &mut sink)?.as_str(), fault)?;
+    holds("nothing is put as XML", sink.calls() == 0)
 }
 
 #[test]
@@ -111,7 +110,7 @@ fn refused(rt: HostRuntime) -> Result<(), Fail> {
         rt.alloc(),
         r#"json 1.5 "components":[{"name":"a","type":"t"}],"#,
     )?;
-    is_refused(&rt, rt.alloc(), &bill)
+    is_refused(rt.alloc(), &bill)
 }
 
 const NUMBER: &str = r#"json 1.5 "serialNumber":"urn:uuid:3e671687-395b-41f5-a30f-a58921a69b79","#;
@@ -126,17 +125,21 @@ const BYTES: &str = r#"
     13 -> written 120: 120 put, 0 flushed
 "#;
 
-fn puts_json(rt: &impl Abort, alloc: Global, bill: &Bom) -> Result<(), Fail> {
+fn puts_json(alloc: Global, bill: &Bom) -> Result<(), Fail> {
     let text = shown(alloc, bill)?;
     for line in BYTES.lines() {
         if let Some((fails, answer)) = row(line) {
-            let fails = only(alloc, fails.parse::<u64>().expect(rt, "a call"))?;
+            let fails = only(alloc, fails.parse::<u64>()?)?;
             let mut sink = MemorySink::new(alloc, 512, 10, fails)?;
             let end = put_json(alloc, bill, V5, &mut sink)?;
             let (put, flushed) = (sink.written().len(), sink.flushed());
             let found = format!(in alloc; "{}: {put} put, {flushed} flushed", end.as_str())?;
-            row_is(rt, line, found.as_str(), answer);
-            row_holds(rt, line, text.as_bytes().starts_with(sink.written()));
+            row_is(line, found.as_str(), answer)?;
+            row_holds(
+                line,
+                "what is put begins the text",
+                text.as_bytes().starts_with(sink.written()),
+            )?;
         }
     }
     Ok(())
@@ -145,7 +148,7 @@ fn puts_json(rt: &impl Abort, alloc: Global, bill: &Bom) -> Result<(), Fail> {
 #[test]
 fn json_into_sinks(rt: HostRuntime) -> Result<(), Fail> {
     let bill = bill(rt.alloc(), NUMBER)?;
-    puts_json(&rt, rt.alloc(), &bill)
+    puts_json(rt.alloc(), &bill)
 }
 
 // The same of the events that are put.
@@ -156,15 +159,15 @@ const EVENTS: &str = r#"
     4 -> put 3: start|<bom xmlns=1.4 version=1|>bom
 "#;
 
-fn puts_events(rt: &impl Abort, alloc: Global, bill: &Bom) -> Result<(), Fail> {
+fn puts_events(alloc: Global, bill: &Bom) -> Result<(), Fail> {
     for line in EVENTS.lines() {
         if let Some((fails, answer)) = row(line) {
-            let fails = only(alloc, fails.parse::<u64>().expect(rt, "a call"))?;
+            let fails = only(alloc, fails.parse::<u64>()?)?;
             let mut sink = MemoryEventSink::new(alloc, 512, fails)?;
             let end = put_xml(alloc, bill, V4, &mut sink)?;
             let put = line_of(alloc, sink.events())?;
             let found = format!(in alloc; "{}: {}", end.as_str(), put.as_str())?;
-            row_holds(rt, line, found.as_str().trim_ascii() == answer);
+            row_is(line, found.as_str().trim_ascii(), answer)?;
         }
     }
     Ok(())
@@ -173,7 +176,7 @@ fn puts_events(rt: &impl Abort, alloc: Global, bill: &Bom) -> Result<(), Fail> {
 #[test]
 fn events_into_sinks(rt: HostRuntime) -> Result<(), Fail> {
     let bill = bill(rt.alloc(), "json 1.5")?;
-    puts_events(&rt, rt.alloc(), &bill)
+    puts_events(rt.alloc(), &bill)
 }
 
 #[test]
@@ -181,14 +184,19 @@ fn texts_into_sinks(rt: HostRuntime) -> Result<(), Fail> {
     let alloc = rt.alloc();
     let text = Text::new(alloc, "{\"documents\":[]}\n")?;
     let mut sink = MemorySink::new(alloc, 512, 10, only(alloc, 0)?)?;
-    holds(&rt, put_text(&text, &mut sink).is_ok());
-    holds(&rt, sink.written() == text.as_str().as_bytes());
-    holds(&rt, sink.flushed() == 17);
+    holds("a text is put", put_text(&text, &mut sink).is_ok())?;
+    holds(
+        "what is written is the text",
+        sink.written() == text.as_str().as_bytes(),
+    )?;
+    holds("the text is flushed", sink.flushed() == 17)?;
     let mut sink = MemorySink::new(alloc, 512, 10, only(alloc, 2)?)?;
     holds(
-        &rt,
+        "the fault of the second call tells ten bytes",
         matches!(put_text(&text, &mut sink), Err(PutError { written: 10 })),
-    );
-    holds(&rt, sink.written() == "{\"document".as_bytes());
-    Ok(())
+    )?;
+    holds(
+        "ten bytes are written",
+        sink.written() == "{\"document".as_bytes(),
+    )
 }

@@ -1,5 +1,4 @@
 //! Worked examples of questions about a bill and of its canonical text, as tests.
 
 mod canonical;
-mod expect;
 mod texts;

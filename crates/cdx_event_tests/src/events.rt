@@ -1,11 +1,11 @@
 //! Lists of events: balanced or not, gathered, sent, copied; and versions and paths as texts.
 
-use crate::expect::{holds, row_is, text_is};
 use cdx_events::{
     Balance, Copied, EventReader, EventWriter, Events, EventsError, List, MemoryEventSink,
     MemoryEventSource, OwnedAttribute, OwnedName, Text, XmlEvent, gather, send,
 };
 use cdx_models::{Path, SpecVersion, Step};
+use cdx_test_cases::checks::{holds, row_holds, row_is, text_is};
 use cdx_test_cases::documents::{line_of, list_of};
 use cdx_test_cases::forms::chain;
 use cdx_test_cases::rows::{parted, row};
@@ -130,13 +130,15 @@ fn lists(rt: HostRuntime) -> Result<(), Fail> {
     for line in EVENTS.lines() {
         if let Some((given, expected)) = row(line) {
             let (word, given) = parted(given);
-            row_is(&rt, line, answer(alloc, word, given)?.as_str(), expected);
+            row_is(line, answer(alloc, word, given)?.as_str(), expected)?;
         }
     }
     let mut source = MemoryEventSource::new(list_of(alloc, BILL)?, List::new(alloc));
-    holds(&rt, gather(alloc, &mut source, 13).is_ok());
-    holds(&rt, source.calls() == 13);
-    Ok(())
+    holds(
+        "all events are gathered",
+        gather(alloc, &mut source, 13).is_ok(),
+    )?;
+    holds("each event takes a call", source.calls() == 13)
 }
 
 // 100,000 elements, each in the one before it, and no events at all.
@@ -144,15 +146,14 @@ fn lists(rt: HostRuntime) -> Result<(), Fail> {
 fn depth_does_not_matter(rt: HostRuntime) -> Result<(), Fail> {
     let alloc = rt.alloc();
     let deep = chain(alloc, "start|", ("<a|", ">a|"), 100_000, "end")?;
-    holds(&rt, balanced(alloc, deep.as_str())? == deep);
+    text_is(balanced(alloc, deep.as_str())?.as_str(), deep.as_str())?;
     let asked = format!(in alloc; "200002 0 {}", deep.as_str())?;
-    holds(&rt, gathered(alloc, asked.as_str())? == deep);
+    text_is(gathered(alloc, asked.as_str())?.as_str(), deep.as_str())?;
     let none = Events::from_list(alloc, List::new(alloc));
     holds(
-        &rt,
+        "no events are unbalanced at once",
         matches!(none, Err(EventsError::Unbalanced { place: 0 })),
-    );
-    Ok(())
+    )
 }
 
 fn full_name(alloc: Global) -> Result<OwnedName, AllocError> {
@@ -180,11 +181,20 @@ fn is_copied<T: Copied + PartialEq + Drop>(alloc: Global, value: T) -> Result<bo
 #[test]
 fn copies_are_equal(rt: HostRuntime) -> Result<(), Fail> {
     let alloc = rt.alloc();
-    holds(&rt, is_copied(alloc, full_name(alloc)?)?);
-    holds(&rt, is_copied(alloc, full_attribute(alloc)?)?);
-    holds(&rt, full_name(alloc)? != OwnedName::local(alloc, "a")?);
+    holds(
+        "a name is equal to its copy",
+        is_copied(alloc, full_name(alloc)?)?,
+    )?;
+    holds(
+        "an attribute is equal to its copy",
+        is_copied(alloc, full_attribute(alloc)?)?,
+    )?;
+    holds(
+        "a name with a prefix is another",
+        full_name(alloc)? != OwnedName::local(alloc, "a")?,
+    )?;
     for event in list_of(alloc, BILL)?.into_vec() {
-        holds(&rt, is_copied(alloc, event)?);
+        holds("an event is equal to its copy", is_copied(alloc, event)?)?;
     }
     Ok(())
 }
@@ -192,30 +202,38 @@ fn copies_are_equal(rt: HostRuntime) -> Result<(), Fail> {
 #[test]
 fn balance_hears(rt: HostRuntime) -> Result<(), Fail> {
     let mut balance = Balance::new(rt.alloc());
-    holds(&rt, balance.step(&XmlEvent::StartDocument)?);
-    holds(&rt, !balance.whole());
-    Ok(())
+    holds(
+        "a start is balanced",
+        balance.step(&XmlEvent::StartDocument)?,
+    )?;
+    holds("a start alone is no whole document", !balance.whole())
 }
 
 #[test]
-fn labels_of_versions(rt: HostRuntime) {
+fn labels_of_versions() -> Result<(), Fail> {
     for (version, label) in [
         (SpecVersion::V1_3, "1.3"),
         (SpecVersion::V1_4, "1.4"),
         (SpecVersion::V1_5, "1.5"),
     ] {
-        text_is(&rt, version.as_str(), label);
-        holds(&rt, SpecVersion::from_text(label) == Some(version));
-        holds(
-            &rt,
+        text_is(version.as_str(), label)?;
+        row_holds(
+            label,
+            "the label is that of the version",
+            SpecVersion::from_text(label) == Some(version),
+        )?;
+        row_holds(
+            label,
+            "the lowest of it and 1.4 is 1.3 where it is 1.3 alone",
             (SpecVersion::V1_4.lowest(version).as_str() == "1.3") == (label == "1.3"),
-        );
-        holds(
-            &rt,
+        )?;
+        row_holds(
+            label,
+            "1.4 is known to it unless it is 1.3",
             SpecVersion::V1_4.is_known_to(version) == (label != "1.3"),
-        );
+        )?;
     }
-    holds(&rt, SpecVersion::from_text("1.6").is_none());
+    holds("1.6 is no version", SpecVersion::from_text("1.6").is_none())
 }
 
 fn steps(alloc: Global) -> Result<List<Step>, AllocError> {
@@ -230,8 +248,7 @@ fn steps(alloc: Global) -> Result<List<Step>, AllocError> {
 fn printed_paths(rt: HostRuntime) -> Result<(), Fail> {
     let alloc = rt.alloc();
     let path = Path(steps(alloc)?);
-    text_is(&rt, path.print(alloc)?.as_str(), "/a~1b~0c/0");
+    text_is(path.print(alloc)?.as_str(), "/a~1b~0c/0")?;
     let root = Path(List::new(alloc));
-    text_is(&rt, root.print(alloc)?.as_str(), "");
-    Ok(())
+    text_is(root.print(alloc)?.as_str(), "")
 }

@@ -4,8 +4,6 @@
 #[cfg(test)]
 mod events;
 #[cfg(test)]
-mod expect;
-#[cfg(test)]
 mod sinks;
 #[cfg(test)]
 mod tags;

@@ -1,10 +1,10 @@
 //! Sources and sinks of bytes: what they give and take, and how their faults are counted.
 
-use crate::expect::holds;
 use cdx_events::{
     Failed, List, MemorySink, MemorySource, NullSink, ReadSource, Sink, SoundSource, Source,
     WriteSink,
 };
+use cdx_test_cases::checks::holds;
 use std::alloc::{AllocError, Global};
 use std::io::{Error, ErrorKind, Read, Write};
 use std::test::Fail;
@@ -51,18 +51,30 @@ fn takes<S: Source>(source: &mut S) -> Result<usize, Failed> {
 }
 
 #[test]
-fn faults_are_counted(rt: HostRuntime) {
+fn faults_are_counted() -> Result<(), Fail> {
     let mut source = ReadSource::new(Faulty { calls: 0 });
     for (want, count) in [(Ok(1), 0), (Err(Failed), 1), (Ok(0), 1)] {
-        holds(&rt, takes(&mut source) == want && source.count() == count);
+        holds(
+            "a source gives a byte, fails and ends, and its fault is counted",
+            takes(&mut source) == want && source.count() == count,
+        )?;
     }
     let mut sink = WriteSink::new(Faulty { calls: 0 });
     for (want, count) in [(Ok(1), 0), (Err(Failed), 1), (Err(Failed), 2)] {
-        holds(&rt, sink.put(b"ab") == want && sink.count() == count);
+        holds(
+            "a sink takes a byte and no more, and its faults are counted",
+            sink.put(b"ab") == want && sink.count() == count,
+        )?;
     }
-    holds(&rt, sink.flush() == Err(Failed) && sink.count() == 3);
+    holds(
+        "a flush that fails is counted",
+        sink.flush() == Err(Failed) && sink.count() == 3,
+    )?;
     let mut null = NullSink::new();
-    holds(&rt, null.put(b"abc") == Ok(3) && null.flush() == Ok(()));
+    holds(
+        "a sink for nothing takes all",
+        null.put(b"abc") == Ok(3) && null.flush() == Ok(()),
+    )
 }
 
 fn bytes(alloc: Global) -> Result<List<u8>, AllocError> {
@@ -77,7 +89,10 @@ fn numbers(alloc: Global, numbers: &[u64]) -> Result<List<u64>, AllocError> {
 fn takes_from_memory(rt: HostRuntime) -> Result<(), Fail> {
     let mut sound = SoundSource::new(bytes(rt.alloc())?);
     for want in [2, 1, 0] {
-        holds(&rt, takes(&mut sound) == Ok(want));
+        holds(
+            "a source gives two bytes, one and none",
+            takes(&mut sound) == Ok(want),
+        )?;
     }
     let fails = numbers(rt.alloc(), &[2])?;
     let mut source = MemorySource::new(bytes(rt.alloc())?, 1, fails);
@@ -88,7 +103,10 @@ fn takes_from_memory(rt: HostRuntime) -> Result<(), Fail> {
         (Ok(1), 4),
         (Ok(0), 5),
     ] {
-        holds(&rt, takes(&mut source) == want && source.calls() == calls);
+        holds(
+            "the second call of the source fails",
+            takes(&mut source) == want && source.calls() == calls,
+        )?;
     }
     Ok(())
 }
@@ -114,11 +132,13 @@ fn puts_into_memory(rt: HostRuntime) -> Result<(), Fail> {
         } else {
             sink.put(piece)
         };
-        holds(&rt, answer == want && sink.flushed() == flushed);
+        holds(
+            "a sink takes what it has room for, and its third call fails",
+            answer == want && sink.flushed() == flushed,
+        )?;
     }
     holds(
-        &rt,
+        "the room is full after five calls",
         sink.written() == b"abc".as_slice() && sink.calls() == 5,
-    );
-    Ok(())
+    )
 }

@@ -1,6 +1,5 @@
 //! The helpers that read and write single elements.
 
-use crate::expect::{holds, row_is, text_is};
 use cdx_events::{EventWriter, Events, List, Text, XmlEvent};
 use cdx_leaf::{
     FromXmlType, Root, attribute_or_error, closing_tag_or_error, expected_namespace_or_error,
@@ -9,6 +8,7 @@ use cdx_leaf::{
     read_simple_tag, read_u32_tag, root_of, unexpected_element_error,
 };
 use cdx_models::{Hash, XmlReadError, XmlWriteError};
+use cdx_test_cases::checks::{holds, row_is, text_is};
 use cdx_test_cases::documents::document;
 use cdx_test_cases::faults::xml_fault_line;
 use cdx_test_cases::forms::{V5, closed, opened};
@@ -130,12 +130,7 @@ fn read(rt: HostRuntime) -> Result<(), Fail> {
             let (helper, element) = given.split_once(' ').unwrap_or((given, ""));
             let whole = format!(in alloc; "start|{element}|end")?;
             let events = document(alloc, whole.as_str())?;
-            row_is(
-                &rt,
-                given,
-                answer(alloc, helper, &events)?.as_str(),
-                expected,
-            );
+            row_is(given, answer(alloc, helper, &events)?.as_str(), expected)?;
         }
     }
     Ok(())
@@ -161,12 +156,11 @@ fn values(rt: HostRuntime) -> Result<(), Fail> {
     let alloc = rt.alloc();
     for line in VALUES.lines() {
         if let Some((text, expected)) = row(line) {
-            row_is(&rt, text, told_value(alloc, text)?.as_str(), expected);
+            row_is(text, told_value(alloc, text)?.as_str(), expected)?;
         }
     }
-    text_is(&rt, bool::xml_type_display(), "xs:boolean");
-    text_is(&rt, u32::xml_type_display(), "xs:integer");
-    Ok(())
+    text_is(bool::xml_type_display(), "xs:boolean")?;
+    text_is(u32::xml_type_display(), "xs:integer")
 }
 
 // Whether an element with the attribute `x` has the attribute.
@@ -184,14 +178,12 @@ fn unexpected(alloc: Global, element: &str) -> Result<String, AllocError> {
 #[test]
 fn attributes_and_faults(rt: HostRuntime) -> Result<(), Fail> {
     let alloc = rt.alloc();
-    holds(&rt, has_attribute(alloc, "x")?);
-    holds(&rt, !has_attribute(alloc, "y")?);
+    holds("the attribute is found", has_attribute(alloc, "x")?)?;
+    holds("no other attribute is found", !has_attribute(alloc, "y")?)?;
     text_is(
-        &rt,
         unexpected(alloc, "a")?.as_str(),
         "unexpected 2 a Characters",
-    );
-    Ok(())
+    )
 }
 
 fn write_texts(alloc: Global, writer: &mut EventWriter) -> Result<(), XmlWriteError> {
@@ -218,6 +210,5 @@ fn written(rt: HostRuntime) -> Result<(), Fail> {
     write_texts(alloc, &mut writer)?;
     write_lists(alloc, &mut writer)?;
     let line = "<t|=x|>t|<t|=|>t|<o|=x|>o|<s|>s|<hashes|>hashes|<l|<c|=x|>c|>l";
-    text_is(&rt, closed(alloc, writer)?.as_str(), line);
-    Ok(())
+    text_is(closed(alloc, writer)?.as_str(), line)
 }

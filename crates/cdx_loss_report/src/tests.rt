@@ -1,4 +1,3 @@
 //! Worked examples of what roads take of a bill, as tests.
 
-mod expect;
 mod losses;

@@ -1,17 +1,16 @@
 //! Machines that are fed each beginning of an element, beside the reader of the element that this beginning would be, once
 //! all that it leaves open is ended. The reader's fault is the machine's where it stands in the beginning, and no other is.
 
-use crate::expect::beginning_is;
 use crate::feeding::Reading;
 use crate::readers::read;
 use crate::samples::{GOOD, MISSING, PASSED, STRAY, UNKNOWN, UNPARSED};
 use crate::told::{fed, reading, told};
 use cdx_events::Events;
 use cdx_push_tests::pieces::{around, ended, place_of};
+use cdx_test_cases::checks::beginning_is;
 use cdx_test_cases::faults::xml_fault_line;
 use cdx_test_cases::rows::cases;
 use std::alloc::Global;
-use std::process::Abort;
 use std::test::Fail;
 
 // What comes of so many events by the reader's answer: the root stands at place 1, so theirs are those up to `count`.
@@ -35,7 +34,6 @@ fn wanted(
 
 /// Feeds a machine the first `count` events of the element, whose document the events are.
 pub fn begin(
-    rt: &impl Abort,
     alloc: Global,
     element: &str,
     events: &Events,
@@ -46,49 +44,43 @@ pub fn begin(
     let is_whole = count.saturating_add(2) == events.len();
     let otherwise = if is_whole { "done" } else { "more" };
     let wanted = wanted(alloc, element, reading, count, otherwise)?;
-    beginning_is(rt, element, count, found.as_str(), wanted.as_str());
-    Ok(())
+    beginning_is(element, count, found.as_str(), wanted.as_str())
 }
 
-fn each_beginning(
-    rt: &impl Abort,
-    alloc: Global,
-    element: &str,
-    reading: Reading,
-) -> Result<(), Fail> {
+fn each_beginning(alloc: Global, element: &str, reading: Reading) -> Result<(), Fail> {
     let events = around(alloc, element)?;
     for count in 1..=events.len().saturating_sub(2) {
-        begin(rt, alloc, element, &events, reading, count)?;
+        begin(alloc, element, &events, reading, count)?;
     }
     Ok(())
 }
 
-fn all_beginnings(rt: &impl Abort, alloc: Global, rows: &str) -> Result<(), Fail> {
+fn all_beginnings(alloc: Global, rows: &str) -> Result<(), Fail> {
     for case in &cases(alloc, rows)? {
-        each_beginning(rt, alloc, case.given, reading(case)?)?;
+        each_beginning(alloc, case.given, reading(case)?)?;
     }
     Ok(())
 }
 
 #[test]
 fn of_good_elements(rt: HostRuntime) -> Result<(), Fail> {
-    all_beginnings(&rt, rt.alloc(), GOOD)
+    all_beginnings(rt.alloc(), GOOD)
 }
 
 #[test]
 fn of_passing_elements(rt: HostRuntime) -> Result<(), Fail> {
-    all_beginnings(&rt, rt.alloc(), PASSED)
+    all_beginnings(rt.alloc(), PASSED)
 }
 
 #[test]
 fn of_stray_texts(rt: HostRuntime) -> Result<(), Fail> {
-    all_beginnings(&rt, rt.alloc(), STRAY)
+    all_beginnings(rt.alloc(), STRAY)
 }
 
 #[test]
 fn of_faulty_elements(rt: HostRuntime) -> Result<(), Fail> {
     let alloc = rt.alloc();
-    all_beginnings(&rt, alloc, UNKNOWN)?;
-    all_beginnings(&rt, alloc, MISSING)?;
-    all_beginnings(&rt, alloc, UNPARSED)
+    all_beginnings(alloc, UNKNOWN)?;
+    all_beginnings(alloc, MISSING)?;
+    all_beginnings(alloc, UNPARSED)
 }

@@ -1,16 +1,15 @@
 //! How deep components and services may stand in one another: 32 are read, and one inside them is refused at its start.
 
 use crate::beginnings::begin;
-use crate::expect::row_is;
 use crate::readers::answered;
 use crate::told::{fed, reading, reading_at, told};
 use crate::whole::read_alike;
 use cdx_nest::Depth;
 use cdx_push_tests::pieces::around;
+use cdx_test_cases::checks::row_is;
 use cdx_test_cases::forms::chain;
 use cdx_test_cases::rows::{Case, cases};
 use std::alloc::{AllocError, Global};
-use std::process::Abort;
 use std::test::Fail;
 
 // Rows of `versions kind around / level -> fault`. Dots stand where the levels are in one another, and the fault is that of
@@ -56,24 +55,19 @@ fn opened(alloc: Global, case: &Case<'_>, levels: usize) -> Result<usize, AllocE
 }
 
 // So many levels are read, and one more is refused, as the kind's reader does.
-fn all_chains(rt: &impl Abort, alloc: Global, levels: usize, rows: &str) -> Result<(), Fail> {
+fn all_chains(alloc: Global, levels: usize, rows: &str) -> Result<(), Fail> {
     for case in &cases(alloc, rows)? {
         let reading = reading(case)?;
         let shallow = around(alloc, element(alloc, case, levels)?.as_str())?;
-        row_is(
-            rt,
-            case.line,
-            read_alike(alloc, &shallow, reading)?,
-            case.word,
-        );
+        row_is(case.line, read_alike(alloc, &shallow, reading)?, case.word)?;
         let deep = around(
             alloc,
             element(alloc, case, levels.saturating_add(1))?.as_str(),
         )?;
-        let heard = fed(alloc, &deep, reading, usize::MAX);
-        row_is(rt, case.line, told(alloc, &heard)?.as_str(), case.answer);
+        let heard = told(alloc, &fed(alloc, &deep, reading, usize::MAX))?;
+        row_is(case.line, heard.as_str(), case.answer)?;
         let answer = answered(alloc, &deep, reading.kind, reading.version)?;
-        row_is(rt, case.line, answer.as_str(), case.answer);
+        row_is(case.line, answer.as_str(), case.answer)?;
     }
     Ok(())
 }
@@ -81,25 +75,25 @@ fn all_chains(rt: &impl Abort, alloc: Global, levels: usize, rows: &str) -> Resu
 #[test]
 fn chains(rt: HostRuntime) -> Result<(), Fail> {
     let alloc = rt.alloc();
-    all_chains(&rt, alloc, 32, LISTED)?;
-    all_chains(&rt, alloc, 31, AROUND)
+    all_chains(alloc, 32, LISTED)?;
+    all_chains(alloc, 31, AROUND)
 }
 
 // What comes before the start of the level that isn't read, with it and after it, beside the kind's reader.
-fn begin_deep(rt: &impl Abort, alloc: Global, case: &Case<'_>, levels: usize) -> Result<(), Fail> {
+fn begin_deep(alloc: Global, case: &Case<'_>, levels: usize) -> Result<(), Fail> {
     let reading = reading(case)?;
     let deep = element(alloc, case, levels.saturating_add(1))?;
     let events = around(alloc, deep.as_str())?;
     let before = opened(alloc, case, levels)?;
     for count in before..=before.saturating_add(2) {
-        begin(rt, alloc, deep.as_str(), &events, reading, count)?;
+        begin(alloc, deep.as_str(), &events, reading, count)?;
     }
     Ok(())
 }
 
-fn all_deep(rt: &impl Abort, alloc: Global, levels: usize, rows: &str) -> Result<(), Fail> {
+fn all_deep(alloc: Global, levels: usize, rows: &str) -> Result<(), Fail> {
     for case in &cases(alloc, rows)? {
-        begin_deep(rt, alloc, case, levels)?;
+        begin_deep(alloc, case, levels)?;
     }
     Ok(())
 }
@@ -107,17 +101,17 @@ fn all_deep(rt: &impl Abort, alloc: Global, levels: usize, rows: &str) -> Result
 #[test]
 fn beginnings_of_chains(rt: HostRuntime) -> Result<(), Fail> {
     let alloc = rt.alloc();
-    all_deep(&rt, alloc, 32, LISTED)?;
-    all_deep(&rt, alloc, 31, AROUND)
+    all_deep(alloc, 32, LISTED)?;
+    all_deep(alloc, 31, AROUND)
 }
 
 // A machine that has heard only the starts of so many levels is dropped with all of them open.
-fn all_dropped(rt: &impl Abort, alloc: Global, levels: usize, rows: &str) -> Result<(), Fail> {
+fn all_dropped(alloc: Global, levels: usize, rows: &str) -> Result<(), Fail> {
     for case in &cases(alloc, rows)? {
         let events = around(alloc, element(alloc, case, levels)?.as_str())?;
         let count = opened(alloc, case, levels)?;
-        let heard = fed(alloc, &events, reading(case)?, count);
-        row_is(rt, case.line, told(alloc, &heard)?.as_str(), "more");
+        let heard = told(alloc, &fed(alloc, &events, reading(case)?, count))?;
+        row_is(case.line, heard.as_str(), "more")?;
     }
     Ok(())
 }
@@ -125,26 +119,21 @@ fn all_dropped(rt: &impl Abort, alloc: Global, levels: usize, rows: &str) -> Res
 #[test]
 fn dropped_inside_chains(rt: HostRuntime) -> Result<(), Fail> {
     let alloc = rt.alloc();
-    all_dropped(&rt, alloc, 32, LISTED)?;
-    all_dropped(&rt, alloc, 31, AROUND)
+    all_dropped(alloc, 32, LISTED)?;
+    all_dropped(alloc, 31, AROUND)
 }
 
 // What comes of the row's element where so many components and services stand around it.
-fn all_inside(
-    rt: &impl Abort,
-    alloc: Global,
-    components: u32,
-    services: u32,
-    rows: &str,
-) -> Result<(), Fail> {
+fn all_inside(alloc: Global, components: u32, services: u32, rows: &str) -> Result<(), Fail> {
     let depth = Depth {
         components,
         services,
     };
     for case in &cases(alloc, rows)? {
         let events = around(alloc, case.given)?;
-        let heard = fed(alloc, &events, reading_at(case, depth)?, usize::MAX);
-        row_is(rt, case.line, told(alloc, &heard)?.as_str(), case.answer);
+        let reading = reading_at(case, depth)?;
+        let heard = told(alloc, &fed(alloc, &events, reading, usize::MAX))?;
+        row_is(case.line, heard.as_str(), case.answer)?;
     }
     Ok(())
 }
@@ -180,8 +169,8 @@ const INSIDE_32_COMPONENTS: &str = r#"
 #[test]
 fn deep_in_components(rt: HostRuntime) -> Result<(), Fail> {
     let alloc = rt.alloc();
-    all_inside(&rt, alloc, 31, 0, INSIDE_31_COMPONENTS)?;
-    all_inside(&rt, alloc, 32, 0, INSIDE_32_COMPONENTS)
+    all_inside(alloc, 31, 0, INSIDE_31_COMPONENTS)?;
+    all_inside(alloc, 32, 0, INSIDE_32_COMPONENTS)
 }
 
 const INSIDE_31_SERVICES: &str = r#"
@@ -205,6 +194,6 @@ const INSIDE_32_SERVICES: &str = r#"
 #[test]
 fn inside_services(rt: HostRuntime) -> Result<(), Fail> {
     let alloc = rt.alloc();
-    all_inside(&rt, alloc, 0, 31, INSIDE_31_SERVICES)?;
-    all_inside(&rt, alloc, 0, 32, INSIDE_32_SERVICES)
+    all_inside(alloc, 0, 31, INSIDE_31_SERVICES)?;
+    all_inside(alloc, 0, 32, INSIDE_32_SERVICES)
 }

@@ -14,8 +14,6 @@ mod beginnings;
 #[cfg(test)]
 mod depths;
 #[cfg(test)]
-mod expect;
-#[cfg(test)]
 mod kinds;
 #[cfg(test)]
 mod readers;

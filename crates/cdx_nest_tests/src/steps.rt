@@ -1,10 +1,10 @@
 //! What a machine answers to the events of an element in turn.
 
-use crate::expect::row_is;
 use crate::feeding::Heard;
 use crate::told::{fed, reading, told};
 use crate::values::as_text;
 use cdx_push_tests::pieces::around;
+use cdx_test_cases::checks::row_is;
 use cdx_test_cases::rows::{Case, cases};
 use std::alloc::Global;
 use std::test::Fail;
@@ -52,7 +52,7 @@ fn answers(alloc: Global, case: &Case<'_>) -> Result<String, Fail> {
 fn step_by_step(rt: HostRuntime) -> Result<(), Fail> {
     let alloc = rt.alloc();
     for case in &cases(alloc, STEPS)? {
-        row_is(&rt, case.line, answers(alloc, case)?.as_str(), case.answer);
+        row_is(case.line, answers(alloc, case)?.as_str(), case.answer)?;
     }
     Ok(())
 }

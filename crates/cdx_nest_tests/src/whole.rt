@@ -1,6 +1,5 @@
 //! Machines that are fed a whole element.
 
-use crate::expect::row_is;
 use crate::feeding::{Heard, Reading};
 use crate::kinds::name_of;
 use crate::readers::{answered, read};
@@ -9,9 +8,9 @@ use crate::told::{fed, reading, told};
 use crate::values::{as_text, same};
 use cdx_events::Events;
 use cdx_push_tests::pieces::around;
+use cdx_test_cases::checks::row_is;
 use cdx_test_cases::rows::cases;
 use std::alloc::Global;
-use std::process::Abort;
 use std::test::Fail;
 
 /// The name of the variant of what the machine reads, where the kind's reader reads the same.
@@ -34,60 +33,55 @@ fn text_of(alloc: Global, events: &Events, reading: Reading) -> Result<String, F
     as_text(alloc, &value)
 }
 
-fn all_read(rt: &impl Abort, alloc: Global, rows: &str) -> Result<(), Fail> {
+fn all_read(alloc: Global, rows: &str) -> Result<(), Fail> {
     for case in &cases(alloc, rows)? {
         let reading = reading(case)?;
         let events = around(alloc, case.given)?;
-        row_is(
-            rt,
-            case.line,
-            read_alike(alloc, &events, reading)?,
-            case.word,
-        );
+        row_is(case.line, read_alike(alloc, &events, reading)?, case.word)?;
         let text = text_of(alloc, &events, reading)?;
-        row_is(rt, case.line, text.as_str(), case.answer);
+        row_is(case.line, text.as_str(), case.answer)?;
     }
     Ok(())
 }
 
 #[test]
 fn good_elements(rt: HostRuntime) -> Result<(), Fail> {
-    all_read(&rt, rt.alloc(), GOOD)
+    all_read(rt.alloc(), GOOD)
 }
 
 #[test]
 fn passing_elements(rt: HostRuntime) -> Result<(), Fail> {
-    all_read(&rt, rt.alloc(), PASSED)
+    all_read(rt.alloc(), PASSED)
 }
 
-fn all_refused(rt: &impl Abort, alloc: Global, rows: &str) -> Result<(), Fail> {
+fn all_refused(alloc: Global, rows: &str) -> Result<(), Fail> {
     for case in &cases(alloc, rows)? {
         let reading = reading(case)?;
         let events = around(alloc, case.given)?;
-        let heard = fed(alloc, &events, reading, usize::MAX);
-        row_is(rt, case.line, told(alloc, &heard)?.as_str(), case.answer);
+        let heard = told(alloc, &fed(alloc, &events, reading, usize::MAX))?;
+        row_is(case.line, heard.as_str(), case.answer)?;
         let answer = answered(alloc, &events, reading.kind, reading.version)?;
-        row_is(rt, case.line, answer.as_str(), case.answer);
+        row_is(case.line, answer.as_str(), case.answer)?;
     }
     Ok(())
 }
 
 #[test]
 fn stray_texts(rt: HostRuntime) -> Result<(), Fail> {
-    all_refused(&rt, rt.alloc(), STRAY)
+    all_refused(rt.alloc(), STRAY)
 }
 
 #[test]
 fn unknown_children(rt: HostRuntime) -> Result<(), Fail> {
-    all_refused(&rt, rt.alloc(), UNKNOWN)
+    all_refused(rt.alloc(), UNKNOWN)
 }
 
 #[test]
 fn missing_parts(rt: HostRuntime) -> Result<(), Fail> {
-    all_refused(&rt, rt.alloc(), MISSING)
+    all_refused(rt.alloc(), MISSING)
 }
 
 #[test]
 fn unparsed_texts(rt: HostRuntime) -> Result<(), Fail> {
-    all_refused(&rt, rt.alloc(), UNPARSED)
+    all_refused(rt.alloc(), UNPARSED)
 }

@@ -6,7 +6,6 @@ use cdx_test_cases::documents::list_of;
 use cdx_test_cases::forms::{V5, chain};
 use cdx_test_cases::rows::{Case, cases};
 use std::alloc::Global;
-use std::process::Abort;
 use std::test::Fail;
 
 fn place_of(word: &str) -> Result<Option<usize>, Fail> {
@@ -16,7 +15,7 @@ fn place_of(word: &str) -> Result<Option<usize>, Fail> {
     }
 }
 
-fn each_row(rt: &impl Abort, alloc: Global, case: &Case<'_>) -> Result<(), Fail> {
+fn each_row(alloc: Global, case: &Case<'_>) -> Result<(), Fail> {
     let events = list_of(alloc, case.given)?;
     let sample = Sample {
         line: case.line,
@@ -25,12 +24,12 @@ fn each_row(rt: &impl Abort, alloc: Global, case: &Case<'_>) -> Result<(), Fail>
         place: place_of(case.word)?,
         answer: case.answer,
     };
-    each_way(rt, alloc, &sample)
+    each_way(alloc, &sample)
 }
 
-fn all_rows(rt: &impl Abort, alloc: Global, rows: &str) -> Result<(), Fail> {
+fn all_rows(alloc: Global, rows: &str) -> Result<(), Fail> {
     for case in &cases(alloc, rows)? {
-        each_row(rt, alloc, case)?;
+        each_row(alloc, case)?;
     }
     Ok(())
 }
@@ -52,7 +51,7 @@ const WHOLE: &str = r#"
 
 #[test]
 fn whole_documents(rt: HostRuntime) -> Result<(), Fail> {
-    all_rows(&rt, rt.alloc(), WHOLE)
+    all_rows(rt.alloc(), WHOLE)
 }
 
 // Documents that denote no bill, with their first fault.
@@ -87,7 +86,7 @@ const REFUSED: &str = r#"
 
 #[test]
 fn refused_documents(rt: HostRuntime) -> Result<(), Fail> {
-    all_rows(&rt, rt.alloc(), REFUSED)
+    all_rows(rt.alloc(), REFUSED)
 }
 
 // Events that are out of balance before the document's end. Where the event at that place would be a fault of the bill as
@@ -122,7 +121,7 @@ const UNBALANCED: &str = r#"
 
 #[test]
 fn unbalanced_events(rt: HostRuntime) -> Result<(), Fail> {
-    all_rows(&rt, rt.alloc(), UNBALANCED)
+    all_rows(rt.alloc(), UNBALANCED)
 }
 
 const ELEMENT: (&str, &str) = (
@@ -131,13 +130,7 @@ const ELEMENT: (&str, &str) = (
 );
 
 // A document of components, each inside the one before.
-fn nested(
-    rt: &impl Abort,
-    alloc: Global,
-    levels: usize,
-    place: Option<usize>,
-    answer: &str,
-) -> Result<(), Fail> {
+fn nested(alloc: Global, levels: usize, place: Option<usize>, answer: &str) -> Result<(), Fail> {
     let first = "start|<bom xmlns=1.5|<components|";
     let line = chain(alloc, first, ELEMENT, levels, ">components|>bom|end")?;
     let events = list_of(alloc, line.as_str())?;
@@ -148,7 +141,7 @@ fn nested(
         place,
         answer,
     };
-    each_way(rt, alloc, &sample)
+    each_way(alloc, &sample)
 }
 
 const MEMBERS: (&str, &str) = (r#"{"components":["#, r#"],"name":"a","type":"library"}"#);
@@ -159,6 +152,6 @@ fn nested_components(rt: HostRuntime) -> Result<(), Fail> {
     let first = r#"{"bomFormat":"CycloneDX","components":["#;
     let last = r#"],"specVersion":"1.5","version":1}"#;
     let bill = chain(alloc, first, MEMBERS, 32, last)?;
-    nested(&rt, alloc, 32, None, bill.as_str())?;
-    nested(&rt, alloc, 33, Some(163), "too deep 163")
+    nested(alloc, 32, None, bill.as_str())?;
+    nested(alloc, 33, Some(163), "too deep 163")
 }

@@ -12,8 +12,6 @@ pub use feeding::{Fed, feed_each};
 #[cfg(test)]
 mod documents;
 #[cfg(test)]
-mod expect;
-#[cfg(test)]
 mod lines;
 #[cfg(test)]
 mod long;

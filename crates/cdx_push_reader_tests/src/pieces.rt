@@ -3,9 +3,9 @@
 //! In what is given ` / ` parts the pieces; `empty` is a piece without an event, and `nothing` is no piece. The answers are
 //! those to each piece and, after them, what the reader comes to: the bill as JSON of 1.5, or the fault.
 
-use crate::expect::row_is;
 use crate::lines::answered;
 use cdx_events::{List, XmlEvent};
+use cdx_test_cases::checks::row_is;
 use cdx_test_cases::documents::list_of;
 use cdx_test_cases::rows::{Case, cases};
 use std::alloc::{AllocError, Global};
@@ -76,7 +76,7 @@ fn found(alloc: Global, case: &Case<'_>) -> Result<String, Fail> {
 fn fed_piece_by_piece(rt: HostRuntime) -> Result<(), Fail> {
     let alloc = rt.alloc();
     for case in &cases(alloc, PIECES)? {
-        row_is(&rt, case.line, found(alloc, case)?.as_str(), case.answer);
+        row_is(case.line, found(alloc, case)?.as_str(), case.answer)?;
     }
     Ok(())
 }

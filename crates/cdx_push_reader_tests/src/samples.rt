@@ -1,11 +1,10 @@
 //! A document, and what a reader of bills answers to it. However the events are cut, it answers by all that it was fed.
 
-use crate::expect::{beginning_is, row_is};
 use crate::lines::{answered, singles};
 use cdx_events::XmlEvent;
 use cdx_models::SpecVersion;
+use cdx_test_cases::checks::{beginning_is, row_is};
 use std::alloc::{AllocError, Global};
-use std::process::Abort;
 use std::test::Fail;
 
 /// The events of a document, where its fault stands, and the fault; or the bill as JSON of 1.5, where it has none.
@@ -40,18 +39,18 @@ fn wanted_last(alloc: Global, sample: &Sample<'_>, count: usize) -> Result<Strin
     format!(in alloc; "Unbalanced {count}")
 }
 
-fn each_beginning(rt: &impl Abort, alloc: Global, sample: &Sample<'_>) -> Result<(), Fail> {
+fn each_beginning(alloc: Global, sample: &Sample<'_>) -> Result<(), Fail> {
     for count in 0..=sample.events.len() {
         let found = answered(alloc, sample.version, &[&sample.events[..count]])?;
         let more = wanted_more(alloc, sample, count)?;
         let last = wanted_last(alloc, sample, count)?;
         let wanted = format!(in alloc; "{} / {}", more.as_str(), last.as_str())?;
-        beginning_is(rt, sample.line, count, found.as_str(), wanted.as_str());
+        beginning_is(sample.line, count, found.as_str(), wanted.as_str())?;
     }
     Ok(())
 }
 
-fn each_cut(rt: &impl Abort, alloc: Global, sample: &Sample<'_>) -> Result<(), Fail> {
+fn each_cut(alloc: Global, sample: &Sample<'_>) -> Result<(), Fail> {
     let whole = sample.events.len();
     let more = wanted_more(alloc, sample, whole)?;
     let last = wanted_last(alloc, sample, whole)?;
@@ -65,12 +64,12 @@ fn each_cut(rt: &impl Abort, alloc: Global, sample: &Sample<'_>) -> Result<(), F
             more.as_str(),
             last.as_str()
         )?;
-        beginning_is(rt, sample.line, count, found.as_str(), wanted.as_str());
+        beginning_is(sample.line, count, found.as_str(), wanted.as_str())?;
     }
     Ok(())
 }
 
-fn one_by_one(rt: &impl Abort, alloc: Global, sample: &Sample<'_>) -> Result<(), Fail> {
+fn one_by_one(alloc: Global, sample: &Sample<'_>) -> Result<(), Fail> {
     let whole = sample.events.len();
     let mut wanted = String::new(alloc);
     for count in 1..=whole {
@@ -80,14 +79,13 @@ fn one_by_one(rt: &impl Abort, alloc: Global, sample: &Sample<'_>) -> Result<(),
     wanted.push_str(wanted_last(alloc, sample, whole)?.as_str())?;
     let pieces = singles(alloc, sample.events)?;
     let found = answered(alloc, sample.version, pieces.as_slice())?;
-    row_is(rt, sample.line, found.as_str(), wanted.as_str());
-    Ok(())
+    row_is(sample.line, found.as_str(), wanted.as_str())
 }
 
-/// Ends the test where a reader answers otherwise to a beginning of the document as one piece, to the document cut in two
+/// A failure where a reader answers otherwise to a beginning of the document as one piece, to the document cut in two
 /// at any place, or to its events one by one.
-pub fn each_way(rt: &impl Abort, alloc: Global, sample: &Sample<'_>) -> Result<(), Fail> {
-    each_beginning(rt, alloc, sample)?;
-    each_cut(rt, alloc, sample)?;
-    one_by_one(rt, alloc, sample)
+pub fn each_way(alloc: Global, sample: &Sample<'_>) -> Result<(), Fail> {
+    each_beginning(alloc, sample)?;
+    each_cut(alloc, sample)?;
+    one_by_one(alloc, sample)
 }

@@ -13,8 +13,6 @@ pub use feeding::{Heard, feed};
 #[cfg(test)]
 mod beginnings;
 #[cfg(test)]
-mod expect;
-#[cfg(test)]
 mod kinds;
 #[cfg(test)]
 mod readers;

@@ -1,6 +1,5 @@
 //! Which variant stands in a value that a machine reads. Trees don't tell it, so no contract does.
 
-use crate::expect::row_is;
 use crate::feeding::Heard;
 use crate::pieces::around;
 use crate::readers::read;
@@ -9,9 +8,9 @@ use cdx_events::{Events, List};
 use cdx_models::{ExternalReferences, SpecVersion, Uri};
 use cdx_push::{LeafKind, LeafValue};
 use cdx_signature::{Algorithm, Signature, Signer};
+use cdx_test_cases::checks::row_is;
 use cdx_test_cases::rows::{Case, cases};
 use std::alloc::Global;
-use std::process::Abort;
 use std::test::Fail;
 
 fn signer_variant(signer: &Signer) -> &'static str {
@@ -100,9 +99,9 @@ fn found(alloc: Global, case: &Case<'_>) -> Result<&'static str, Fail> {
     Ok(heard)
 }
 
-fn variants(rt: &impl Abort, alloc: Global, rows: &str) -> Result<(), Fail> {
+fn variants(alloc: Global, rows: &str) -> Result<(), Fail> {
     for case in &cases(alloc, rows)? {
-        row_is(rt, case.line, found(alloc, case)?, case.answer);
+        row_is(case.line, found(alloc, case)?, case.answer)?;
     }
     Ok(())
 }
@@ -118,7 +117,7 @@ const ALGORITHMS: &str = r#"
 
 #[test]
 fn algorithms(rt: HostRuntime) -> Result<(), Fail> {
-    variants(&rt, rt.alloc(), ALGORITHMS)
+    variants(rt.alloc(), ALGORITHMS)
 }
 
 // An address is a link to a bill where it begins with `urn:cdx:`.
@@ -129,5 +128,5 @@ const ADDRESSES: &str = r#"
 
 #[test]
 fn addresses(rt: HostRuntime) -> Result<(), Fail> {
-    variants(&rt, rt.alloc(), ADDRESSES)
+    variants(rt.alloc(), ADDRESSES)
 }

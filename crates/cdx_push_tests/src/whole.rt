@@ -1,6 +1,5 @@
 //! Machines that are fed a whole element.
 
-use crate::expect::{row_holds, row_is};
 use crate::feeding::Heard;
 use crate::kinds::name_of;
 use crate::pieces::around;
@@ -11,10 +10,10 @@ use crate::told::{fed, kind_of, told};
 use cdx_events::Events;
 use cdx_models::{Hashes, SpecVersion};
 use cdx_push::{LeafKind, LeafValue};
+use cdx_test_cases::checks::{row_holds, row_is};
 use cdx_test_cases::faults::xml_fault_line;
 use cdx_test_cases::rows::{Case, cases};
 use std::alloc::Global;
-use std::process::Abort;
 use std::test::Fail;
 
 // Rows of numbers of events, and what a machine of hashes makes of so many.
@@ -57,7 +56,7 @@ fn counted(alloc: Global, case: &Case<'_>) -> Result<String, Fail> {
 fn hashes_step_by_step(rt: HostRuntime) -> Result<(), Fail> {
     let alloc = rt.alloc();
     for case in &cases(alloc, HASHES)? {
-        row_is(&rt, case.line, counted(alloc, case)?.as_str(), case.answer);
+        row_is(case.line, counted(alloc, case)?.as_str(), case.answer)?;
     }
     Ok(())
 }
@@ -82,8 +81,9 @@ fn one_hash(rt: HostRuntime) -> Result<(), Fail> {
     let line = "<hashes|<hash alg=a|=v|>hash|>hashes";
     let events = around(alloc, line)?;
     let heard = fed(alloc, &events, LeafKind::Hashes, SpecVersion::V1_5, 5);
-    row_holds(&rt, line, reads_one_hash(&heard));
-    Ok(())
+    let is_read = reads_one_hash(&heard);
+    drop(heard);
+    row_holds(line, "one hash is read", is_read)
 }
 
 // The name of the value's variant, where the other is the same.
@@ -121,20 +121,20 @@ fn read_alike(
     read_beside(alloc, events, kind, version, &heard)
 }
 
-fn all_read(rt: &impl Abort, alloc: Global, rows: &str) -> Result<(), Fail> {
+fn all_read(alloc: Global, rows: &str) -> Result<(), Fail> {
     for case in &cases(alloc, rows)? {
         let kind = kind_of(case.word)?;
         let events = around(alloc, case.given)?;
         let found = read_alike(alloc, &events, kind, case.version)?;
-        row_is(rt, case.line, found, case.word);
+        row_is(case.line, found, case.word)?;
     }
     Ok(())
 }
 
 #[test]
 fn good_elements(rt: HostRuntime) -> Result<(), Fail> {
-    all_read(&rt, rt.alloc(), GOOD)?;
-    all_read(&rt, rt.alloc(), PASSED)
+    all_read(rt.alloc(), GOOD)?;
+    all_read(rt.alloc(), PASSED)
 }
 
 // What the kind's reader answers.
@@ -150,34 +150,34 @@ fn answered(
     }
 }
 
-fn all_refused(rt: &impl Abort, alloc: Global, rows: &str) -> Result<(), Fail> {
+fn all_refused(alloc: Global, rows: &str) -> Result<(), Fail> {
     for case in &cases(alloc, rows)? {
         let kind = kind_of(case.word)?;
         let events = around(alloc, case.given)?;
         let heard = heard_line(alloc, &events, kind, case.version, usize::MAX)?;
-        row_is(rt, case.line, heard.as_str(), case.answer);
+        row_is(case.line, heard.as_str(), case.answer)?;
         let answer = answered(alloc, &events, kind, case.version)?;
-        row_is(rt, case.line, answer.as_str(), case.answer);
+        row_is(case.line, answer.as_str(), case.answer)?;
     }
     Ok(())
 }
 
 #[test]
 fn stray_texts(rt: HostRuntime) -> Result<(), Fail> {
-    all_refused(&rt, rt.alloc(), STRAY)
+    all_refused(rt.alloc(), STRAY)
 }
 
 #[test]
 fn unknown_children(rt: HostRuntime) -> Result<(), Fail> {
-    all_refused(&rt, rt.alloc(), UNKNOWN)
+    all_refused(rt.alloc(), UNKNOWN)
 }
 
 #[test]
 fn missing_parts(rt: HostRuntime) -> Result<(), Fail> {
-    all_refused(&rt, rt.alloc(), MISSING)
+    all_refused(rt.alloc(), MISSING)
 }
 
 #[test]
 fn unparsed_texts(rt: HostRuntime) -> Result<(), Fail> {
-    all_refused(&rt, rt.alloc(), UNPARSED)
+    all_refused(rt.alloc(), UNPARSED)
 }

@@ -4,15 +4,14 @@
 //! A row is a JSON text of 1.5, after an arrow the line that is written of what it denotes, and after another the element
 //! that is read as it and written under its name, where that isn't the line.
 
-use crate::expect::{row_holds, row_is};
 use cdx_events::{Events, XmlEvent};
 use cdx_json::{FromJson, Kept, ToJson};
 use cdx_leaf::{FromXml, Root, root_of};
+use cdx_test_cases::checks::{row_holds, row_is};
 use cdx_test_cases::documents::document;
 use cdx_test_cases::forms::{V5, again, held, named as as_named, shown, spelled};
 use cdx_write::{Element, Lone, ToInnerXml, ToXml};
 use std::alloc::Global;
-use std::process::Abort;
 use std::test::Fail;
 
 // The JSON text of a row, its line and its element.
@@ -42,15 +41,17 @@ fn is_copied<T: FromJson + PartialEq + Drop>(alloc: Global, text: &str) -> Resul
 
 /// `from_json`, `to_json`, `kept`, `copy` and `==`.
 pub fn in_json<T: FromJson + ToJson + PartialEq + Drop>(
-    rt: &impl Abort,
     alloc: Global,
     row: &str,
 ) -> Result<(), Fail> {
     let (text, _, _) = parts(row);
-    row_is(rt, row, again::<T>(alloc, text, V5)?.as_str(), text);
-    row_holds(rt, row, is_kept::<T>(alloc, text)?);
-    row_holds(rt, row, is_copied::<T>(alloc, text)?);
-    Ok(())
+    row_is(row, again::<T>(alloc, text, V5)?.as_str(), text)?;
+    row_holds(row, "1.5 keeps the value", is_kept::<T>(alloc, text)?)?;
+    row_holds(
+        row,
+        "the value is equal to its copy",
+        is_copied::<T>(alloc, text)?,
+    )
 }
 
 // Whether the root is read as the value, up to its end.
@@ -73,95 +74,80 @@ fn is_read<T: FromXml + PartialEq>(
 
 /// The same, and `read_xml_element`.
 pub fn in_both<T: FromJson + ToJson + FromXml + PartialEq>(
-    rt: &impl Abort,
     alloc: Global,
     row: &str,
 ) -> Result<(), Fail> {
-    in_json::<T>(rt, alloc, row)?;
+    in_json::<T>(alloc, row)?;
     let (text, _, element) = parts(row);
     let wanted = held::<T>(alloc, text, V5)?;
     let whole = format!(in alloc; "start|{element}|end")?;
     let events = document(alloc, whole.as_str())?;
-    row_holds(rt, row, is_read(alloc, &events, &wanted)?);
-    Ok(())
+    row_holds(
+        row,
+        "the element is read as the value",
+        is_read(alloc, &events, &wanted)?,
+    )
 }
 
 // The value writes the line under the name, and has something to write exactly where the line isn't empty.
-fn writes_named<T: ToInnerXml>(
-    rt: &impl Abort,
-    alloc: Global,
-    row: &str,
-    held: &T,
-    line: &str,
-) -> Result<(), Fail> {
+fn writes_named<T: ToInnerXml>(alloc: Global, row: &str, held: &T, line: &str) -> Result<(), Fail> {
     let written = as_named(alloc, held, V5, tag_of(line))?;
-    row_is(rt, row, written.as_str(), line);
-    row_holds(rt, row, held.will_write() != line.is_empty());
-    Ok(())
+    row_is(row, written.as_str(), line)?;
+    row_holds(
+        row,
+        "it has something to write where the line isn't empty",
+        held.will_write() != line.is_empty(),
+    )
 }
 
 /// The same, and `write_xml_named_element` and `will_write`, also of `Some` and of `None`, and `write_as`.
 pub fn named<T: FromJson + ToJson + FromXml + ToInnerXml + Element + PartialEq>(
-    rt: &impl Abort,
     alloc: Global,
     row: &str,
 ) -> Result<(), Fail> {
-    in_both::<T>(rt, alloc, row)?;
+    in_both::<T>(alloc, row)?;
     let (text, _, element) = parts(row);
     let placed = spelled::<T>(alloc, text, V5, tag_of(element))?;
-    row_is(rt, row, placed.as_str(), element);
+    row_is(row, placed.as_str(), element)?;
     let held = held::<T>(alloc, text, V5)?;
-    writes_named(rt, alloc, row, &held, element)?;
-    writes_named(rt, alloc, row, &Some(held), element)?;
+    writes_named(alloc, row, &held, element)?;
+    writes_named(alloc, row, &Some(held), element)?;
     let none: Option<T> = None;
-    writes_named(rt, alloc, row, &none, "")
+    writes_named(alloc, row, &none, "")
 }
 
 // The value writes the line by itself, and has something to write exactly where the line isn't empty.
-fn writes<T: ToXml>(
-    rt: &impl Abort,
-    alloc: Global,
-    row: &str,
-    held: &T,
-    line: &str,
-) -> Result<(), Fail> {
-    row_is(rt, row, shown(alloc, held, V5)?.as_str(), line);
-    row_holds(rt, row, held.will_write() != line.is_empty());
-    Ok(())
+fn writes<T: ToXml>(alloc: Global, row: &str, held: &T, line: &str) -> Result<(), Fail> {
+    row_is(row, shown(alloc, held, V5)?.as_str(), line)?;
+    row_holds(
+        row,
+        "it has something to write where the line isn't empty",
+        held.will_write() != line.is_empty(),
+    )
 }
 
 // `write_xml_element` and `will_write`, also of `Some` and of `None`.
-fn by_itself<T: FromJson + ToXml + Drop>(
-    rt: &impl Abort,
-    alloc: Global,
-    row: &str,
-) -> Result<(), Fail> {
+fn by_itself<T: FromJson + ToXml + Drop>(alloc: Global, row: &str) -> Result<(), Fail> {
     let (text, line, _) = parts(row);
     let held = held::<T>(alloc, text, V5)?;
-    writes(rt, alloc, row, &held, line)?;
-    writes(rt, alloc, row, &Some(held), line)?;
+    writes(alloc, row, &held, line)?;
+    writes(alloc, row, &Some(held), line)?;
     let none: Option<T> = None;
-    writes(rt, alloc, row, &none, "")
+    writes(alloc, row, &none, "")
 }
 
 /// The same, and `write_xml_element` and its `will_write`, also of `Some` and of `None`.
 pub fn record<T: FromJson + ToJson + FromXml + ToXml + ToInnerXml + Element + PartialEq>(
-    rt: &impl Abort,
     alloc: Global,
     row: &str,
 ) -> Result<(), Fail> {
-    named::<T>(rt, alloc, row)?;
-    by_itself::<T>(rt, alloc, row)
+    named::<T>(alloc, row)?;
+    by_itself::<T>(alloc, row)
 }
 
 /// `xml_text`.
-pub fn lone<T: FromJson + Lone + Drop>(
-    rt: &impl Abort,
-    alloc: Global,
-    row: &str,
-) -> Result<(), Fail> {
+pub fn lone<T: FromJson + Lone + Drop>(alloc: Global, row: &str) -> Result<(), Fail> {
     let (text, wanted, _) = parts(row);
     let held = held::<T>(alloc, text, V5)?;
-    row_is(rt, row, held.xml_text(alloc)?.as_str(), wanted);
-    Ok(())
+    row_is(row, held.xml_text(alloc)?.as_str(), wanted)
 }

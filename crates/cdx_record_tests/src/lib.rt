@@ -5,8 +5,6 @@
 #[cfg(test)]
 mod calls;
 #[cfg(test)]
-mod expect;
-#[cfg(test)]
 mod made;
 #[cfg(test)]
 mod samples;

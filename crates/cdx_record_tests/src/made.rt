@@ -1,11 +1,11 @@
 //! Calls that make a value from nothing but its parts.
 
-use crate::expect::{holds, text_is};
 use cdx_events::{List, OwnedName};
 use cdx_json::ToJson;
 use cdx_models::XmlReadError;
 use cdx_nest::Metadata;
 use cdx_signature::{Algorithm, Signature, Signer};
+use cdx_test_cases::checks::{holds, text_is};
 use cdx_test_cases::faults::xml_fault_line;
 use cdx_test_cases::forms::{V5, held};
 use cdx_write::ToXml;
@@ -18,31 +18,33 @@ fn missing_data(rt: HostRuntime) -> Result<(), Fail> {
     let alloc = rt.alloc();
     let element = OwnedName::local(alloc, "x")?;
     let fault = XmlReadError::required_data_missing(alloc, 5, "f", &element)?;
-    text_is(
-        &rt,
-        xml_fault_line(alloc, &fault)?.as_str(),
-        "missing 5 x f",
-    );
-    Ok(())
+    text_is(xml_fault_line(alloc, &fault)?.as_str(), "missing 5 x f")
 }
 
 #[test]
 fn local_names(rt: HostRuntime) -> Result<(), Fail> {
     let name = OwnedName::local(rt.alloc(), "a")?;
-    text_is(&rt, name.local_name.as_str(), "a");
-    holds(&rt, name.namespace.is_none() && name.prefix.is_none());
-    Ok(())
+    text_is(name.local_name.as_str(), "a")?;
+    holds(
+        "a local name has neither namespace nor prefix",
+        name.namespace.is_none() && name.prefix.is_none(),
+    )
 }
 
 #[test]
 fn metadata_without_fields(rt: HostRuntime) -> Result<(), Fail> {
     let alloc = rt.alloc();
     let metadata = Metadata::default();
-    holds(&rt, metadata == held::<Metadata>(alloc, "{}", V5)?);
-    holds(&rt, !metadata.will_write());
+    let is_empty = metadata == held::<Metadata>(alloc, "{}", V5)?;
+    let will_write = metadata.will_write();
     let written = metadata.to_json(alloc, V5)?.to_string(alloc)?;
-    text_is(&rt, written.as_str(), "{}");
-    Ok(())
+    drop(metadata);
+    holds(
+        "metadata without fields is that of an empty object",
+        is_empty,
+    )?;
+    holds("metadata without fields has nothing to write", !will_write)?;
+    text_is(written.as_str(), "{}")
 }
 
 fn signers(alloc: Global, algorithm: &str) -> Result<List<Signer>, Fail> {
@@ -64,10 +66,13 @@ fn one_signer(rt: HostRuntime) -> Result<(), Fail> {
     let alloc = rt.alloc();
     let signature = Signature::signers(signers(alloc, "ES256")?);
     let signer = Signer::new(alloc, "ES256", "a")?;
-    holds(&rt, only(&signature) == Some(&signer));
+    holds(
+        "the signer stands in the signature",
+        only(&signature) == Some(&signer),
+    )?;
     let text = r#"{"signers":[{"algorithm":"ES256","value":"a"}]}"#;
-    holds(&rt, signature == held::<Signature>(alloc, text, V5)?);
-    Ok(())
+    let is_read = signature == held::<Signature>(alloc, text, V5)?;
+    holds("the text denotes the signature", is_read)
 }
 
 // The name of an algorithm that has none of the variants.
@@ -81,10 +86,15 @@ fn unknown(signer: &Signer) -> &str {
 #[test]
 fn algorithms_by_name(rt: HostRuntime) -> Result<(), Fail> {
     let alloc = rt.alloc();
-    text_is(&rt, unknown(&Signer::new(alloc, "XY1", "v")?), "XY1");
+    text_is(unknown(&Signer::new(alloc, "XY1", "v")?), "XY1")?;
     let known = Algorithm::new_unchecked(alloc, "Ed448")?;
-    holds(&rt, matches!(known, Algorithm::Ed448));
+    holds(
+        "Ed448 is known by its name",
+        matches!(known, Algorithm::Ed448),
+    )?;
     let known = Signer::new(alloc, "ES256", "v")?;
-    holds(&rt, matches!(known.algorithm, Algorithm::ES256));
-    Ok(())
+    holds(
+        "ES256 is known by its name",
+        matches!(known.algorithm, Algorithm::ES256),
+    )
 }

@@ -1,6 +1,5 @@
 //! Single elements and values, each read by a call of its own record.
 
-use crate::expect::{holds, row_is};
 use cdx_component_parts::ComponentEvidence;
 use cdx_json::{FromJson, ToJson};
 use cdx_leaf::FromXml;
@@ -10,28 +9,18 @@ use cdx_nest::{Component, Tools};
 use cdx_relations::Dependencies;
 use cdx_service_data::Data;
 use cdx_signature::Signature;
+use cdx_test_cases::checks::{holds, row_is};
 use cdx_test_cases::forms::{V4, V5, again, denoted, read};
 use cdx_test_cases::rows::row;
 use cdx_write::ToXml;
 use std::alloc::Global;
-use std::process::Abort;
 use std::test::Fail;
 
 // The element denotes what stands after the arrow, in JSON, or has that fault.
-fn reads<T: FromXml + ToJson>(
-    rt: &impl Abort,
-    alloc: Global,
-    version: SpecVersion,
-    rows: &str,
-) -> Result<(), Fail> {
+fn reads<T: FromXml + ToJson>(alloc: Global, version: SpecVersion, rows: &str) -> Result<(), Fail> {
     for line in rows.lines() {
         if let Some((element, wanted)) = row(line) {
-            row_is(
-                rt,
-                line,
-                read::<T>(alloc, element, version)?.as_str(),
-                wanted,
-            );
+            row_is(line, read::<T>(alloc, element, version)?.as_str(), wanted)?;
         }
     }
     Ok(())
@@ -39,14 +28,13 @@ fn reads<T: FromXml + ToJson>(
 
 // The text denotes what stands after the arrow, or has that fault.
 fn takes<T: FromJson + ToJson + Drop>(
-    rt: &impl Abort,
     alloc: Global,
     version: SpecVersion,
     rows: &str,
 ) -> Result<(), Fail> {
     for line in rows.lines() {
         if let Some((text, wanted)) = row(line) {
-            row_is(rt, line, again::<T>(alloc, text, version)?.as_str(), wanted);
+            row_is(line, again::<T>(alloc, text, version)?.as_str(), wanted)?;
         }
     }
     Ok(())
@@ -78,11 +66,11 @@ const LICENSES: &str = r#"
 #[test]
 fn leaf_elements(rt: HostRuntime) -> Result<(), Fail> {
     let alloc = rt.alloc();
-    reads::<Hashes>(&rt, alloc, V5, HASHES)?;
-    reads::<Dependencies>(&rt, alloc, V5, DEPENDENCIES)?;
-    reads::<OrganizationalEntity>(&rt, alloc, V5, SUPPLIER)?;
-    reads::<Signature>(&rt, alloc, V5, SIGNATURES)?;
-    reads::<License>(&rt, alloc, V5, LICENSES)
+    reads::<Hashes>(alloc, V5, HASHES)?;
+    reads::<Dependencies>(alloc, V5, DEPENDENCIES)?;
+    reads::<OrganizationalEntity>(alloc, V5, SUPPLIER)?;
+    reads::<Signature>(alloc, V5, SIGNATURES)?;
+    reads::<License>(alloc, V5, LICENSES)
 }
 
 const COMPONENT: &str = r#"
@@ -100,9 +88,9 @@ const OLD_TOOLS: &str = r#"
 #[test]
 fn nested_elements(rt: HostRuntime) -> Result<(), Fail> {
     let alloc = rt.alloc();
-    reads::<Component>(&rt, alloc, V5, COMPONENT)?;
-    reads::<Tools>(&rt, alloc, V5, TOOLS)?;
-    reads::<Tools>(&rt, alloc, V4, OLD_TOOLS)
+    reads::<Component>(alloc, V5, COMPONENT)?;
+    reads::<Tools>(alloc, V5, TOOLS)?;
+    reads::<Tools>(alloc, V4, OLD_TOOLS)
 }
 
 // Texts and unknown elements are passed over, and what they hold.
@@ -112,11 +100,13 @@ fn evidence_of_nothing(rt: HostRuntime) -> Result<(), Fail> {
     let line = "<evidence|=t|<note|<licenses|>licenses|>note|>evidence";
     let evidence = denoted::<ComponentEvidence>(alloc, line, V5)?;
     holds(
-        &rt,
+        "evidence holds neither licenses nor copyright",
         evidence.licenses.is_none() && evidence.copyright.is_none(),
-    );
-    holds(&rt, !evidence.will_write());
-    Ok(())
+    )?;
+    holds(
+        "evidence of nothing has nothing to write",
+        !evidence.will_write(),
+    )
 }
 
 const CHOICES: &str = r#"
@@ -138,7 +128,7 @@ const OLD_DATA: &str = r#"
 #[test]
 fn values(rt: HostRuntime) -> Result<(), Fail> {
     let alloc = rt.alloc();
-    takes::<LicenseChoice>(&rt, alloc, V5, CHOICES)?;
-    takes::<Data>(&rt, alloc, V5, DATA)?;
-    takes::<Data>(&rt, alloc, V4, OLD_DATA)
+    takes::<LicenseChoice>(alloc, V5, CHOICES)?;
+    takes::<Data>(alloc, V5, DATA)?;
+    takes::<Data>(alloc, V4, OLD_DATA)
 }

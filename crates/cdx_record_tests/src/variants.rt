@@ -6,17 +6,16 @@
 //! - `parses`: what the document denotes in the version, its copy, and what the version keeps of it;
 //! - `keeps`: what the version keeps of what the text denotes in 1.5.
 
-use crate::expect::row_is;
 use cdx_events::List;
 use cdx_json::{FromJson, Kept};
 use cdx_leaf::FromXml;
 use cdx_models::{ExternalReference, SpecVersion, Uri};
 use cdx_service_data::Data;
 use cdx_signature::{Algorithm, Signature, Signer};
+use cdx_test_cases::checks::row_is;
 use cdx_test_cases::forms::{V5, denoted, held};
 use cdx_test_cases::rows::{Case, cases};
 use std::alloc::Global;
-use std::process::Abort;
 use std::test::Fail;
 
 /// A value in which one of several variants stands.
@@ -101,13 +100,9 @@ fn found<T: FromJson + Kept + FromXml + Varied>(
     }
 }
 
-fn variants<T: FromJson + Kept + FromXml + Varied>(
-    rt: &impl Abort,
-    alloc: Global,
-    rows: &str,
-) -> Result<(), Fail> {
+fn variants<T: FromJson + Kept + FromXml + Varied>(alloc: Global, rows: &str) -> Result<(), Fail> {
     for case in &cases(alloc, rows)? {
-        row_is(rt, case.line, found::<T>(alloc, case)?, case.answer);
+        row_is(case.line, found::<T>(alloc, case)?, case.answer)?;
     }
     Ok(())
 }
@@ -133,8 +128,8 @@ const SIGNERS: &str = r#"
 
 #[test]
 fn algorithms(rt: HostRuntime) -> Result<(), Fail> {
-    variants::<Signature>(&rt, rt.alloc(), SIGNATURES)?;
-    variants::<Signer>(&rt, rt.alloc(), SIGNERS)
+    variants::<Signature>(rt.alloc(), SIGNATURES)?;
+    variants::<Signer>(rt.alloc(), SIGNERS)
 }
 
 const REFERENCES: &str = r#"
@@ -147,7 +142,7 @@ const REFERENCES: &str = r#"
 // An address is a link to a bill where it begins with `urn:cdx:`.
 #[test]
 fn addresses(rt: HostRuntime) -> Result<(), Fail> {
-    variants::<ExternalReference>(&rt, rt.alloc(), REFERENCES)
+    variants::<ExternalReference>(rt.alloc(), REFERENCES)
 }
 
 // Only 1.5 knows flows. In JSON it reads each item as one, and in XML a `dataflow` alone.
@@ -163,5 +158,5 @@ const DATA: &str = r#"
 
 #[test]
 fn data(rt: HostRuntime) -> Result<(), Fail> {
-    variants::<Data>(&rt, rt.alloc(), DATA)
+    variants::<Data>(rt.alloc(), DATA)
 }

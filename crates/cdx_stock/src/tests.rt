@@ -1,5 +1,4 @@
 //! Worked examples of questions about a bill and of its inventory, as tests.
 
-mod expect;
 mod inventory;
 mod stock;

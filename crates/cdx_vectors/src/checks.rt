@@ -14,16 +14,15 @@
 //! - `carries`: the text of 1.5, written in the version as a field; after an arrow what the version keeps of the text,
 //!   where that is not the text; and after another what it reads of the element, where that is not what it keeps.
 
-use crate::expect::row_is;
 use cdx_json::{FromJson, ToJson};
 use cdx_leaf::FromXml;
+use cdx_test_cases::checks::row_is;
 use cdx_test_cases::forms::{
     V5, again, denoted, held, kept, named as as_named, placed, read, shown, spelled,
 };
 use cdx_test_cases::rows::{Case, cases, parted};
 use cdx_write::{Element, ToInnerXml, ToXml};
 use std::alloc::Global;
-use std::process::Abort;
 use std::test::Fail;
 
 // The text where it differs, as the word says.
@@ -69,21 +68,19 @@ fn told(alloc: Global, will_write: bool) -> Result<String, Fail> {
 
 /// A value of JSON.
 pub fn values<T: FromJson + ToJson + PartialEq + Drop>(
-    rt: &impl Abort,
     alloc: Global,
     rows: &str,
 ) -> Result<(), Fail> {
     let cases = cases(alloc, rows)?;
     for case in &cases {
         let found = in_json::<T>(alloc, case, cases.as_slice())?;
-        row_is(rt, case.line, found.as_str(), case.answer);
+        row_is(case.line, found.as_str(), case.answer)?;
     }
     Ok(())
 }
 
 /// A record that is read from XML, and written as a part of another.
 pub fn readings<T: FromJson + ToJson + FromXml + PartialEq>(
-    rt: &impl Abort,
     alloc: Global,
     rows: &str,
 ) -> Result<(), Fail> {
@@ -93,7 +90,7 @@ pub fn readings<T: FromJson + ToJson + FromXml + PartialEq>(
             "parses" => read::<T>(alloc, case.given, case.version)?,
             _ => in_json::<T>(alloc, case, cases.as_slice())?,
         };
-        row_is(rt, case.line, found.as_str(), case.answer);
+        row_is(case.line, found.as_str(), case.answer)?;
     }
     Ok(())
 }
@@ -116,14 +113,13 @@ fn of_named<T: FromJson + ToJson + FromXml + ToInnerXml + PartialEq>(
 
 /// A record that is written under a name that is given.
 pub fn named<T: FromJson + ToJson + FromXml + ToInnerXml + PartialEq>(
-    rt: &impl Abort,
     alloc: Global,
     rows: &str,
 ) -> Result<(), Fail> {
     let cases = cases(alloc, rows)?;
     for case in &cases {
         let found = of_named::<T>(alloc, case, cases.as_slice())?;
-        row_is(rt, case.line, found.as_str(), case.answer);
+        row_is(case.line, found.as_str(), case.answer)?;
     }
     Ok(())
 }
@@ -175,14 +171,13 @@ fn of_record<T: FromJson + ToJson + FromXml + ToXml + Element + PartialEq>(
 
 /// A record that has an element of its own.
 pub fn records<T: FromJson + ToJson + FromXml + ToXml + Element + PartialEq>(
-    rt: &impl Abort,
     alloc: Global,
     rows: &str,
 ) -> Result<(), Fail> {
     let cases = cases(alloc, rows)?;
     for case in &cases {
         let found = of_record::<T>(alloc, case, cases.as_slice())?;
-        row_is(rt, case.line, found.as_str(), case.answer);
+        row_is(case.line, found.as_str(), case.answer)?;
     }
     Ok(())
 }

@@ -4,8 +4,6 @@
 #[cfg(test)]
 mod checks;
 #[cfg(test)]
-mod expect;
-#[cfg(test)]
 mod nested;
 #[cfg(test)]
 mod records;

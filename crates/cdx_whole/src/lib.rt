@@ -6,8 +6,6 @@ mod bill;
 mod changes;
 mod components;
 mod data;
-#[cfg(test)]
-mod expect;
 mod leaves;
 mod licenses;
 mod nest;

@@ -1,6 +1,5 @@
 //! A bill that comes back.
 
-use crate::expect::holds;
 use crate::{owned_bill, owned_bill_again};
 use std::test::Fail;
 
@@ -10,6 +9,6 @@ fn comes_back(rt: HostRuntime) -> Result<(), Fail> {
     let alloc = rt.alloc();
     let built = owned_bill(alloc, "log", "MIT", "platform team")?;
     let again = owned_bill_again(alloc, "log", "MIT", "platform team")?;
-    holds(&rt, again == built);
+    assert!(rt; again == built, "what is read again is another bill");
     Ok(())
 }

@@ -1,7 +1,8 @@
 //! The program by its words.
 
-use crate::tests::expect::{ended, holds, words_in};
+use crate::tests::answers::{ended, words_in};
 use cdx_events::{List, MemorySink, MemorySource, SoundSource};
+use cdx_test_cases::checks::holds;
 use cdx_test_cases::inputs::bytes_of;
 use cdx_tool::run;
 use std::test::Fail;
@@ -36,15 +37,14 @@ const OTHER_WORDS: &str = r#"
 #[test]
 fn words(rt: HostRuntime) -> Result<(), Fail> {
     let alloc = rt.alloc();
-    ended(&rt, alloc, NO_HOP, 0, WORDS)?;
-    ended(&rt, alloc, NO_HOP, 2, OTHER_WORDS)?;
-    Ok(())
+    ended(alloc, NO_HOP, 0, WORDS)?;
+    ended(alloc, NO_HOP, 2, OTHER_WORDS)
 }
 
 #[test]
 fn largest_bill_made(rt: HostRuntime) -> Result<(), Fail> {
     let row = r#"|make|20000 -> {"made":{"bytes":1037852,"components":20000,"events":160006}}"#;
-    Ok(ended(&rt, rt.alloc(), "", 0, row)?)
+    ended(rt.alloc(), "", 0, row)
 }
 
 #[test]
@@ -55,14 +55,13 @@ fn one_byte_too_many(rt: HostRuntime) -> Result<(), Fail> {
     let mut source = SoundSource::new(List::from_vec(spaces));
     let mut sink = MemorySink::new(alloc, 64, 64, List::new(alloc))?;
     holds(
-        &rt,
+        "a byte too many ends with status 6",
         run(alloc, words.as_slice(), &mut source, &mut sink) == 6,
-    );
+    )?;
     holds(
-        &rt,
+        "what is written is the refusal",
         sink.written() == "{\"request\":\"too long\"}\n".as_bytes(),
-    );
-    Ok(())
+    )
 }
 
 // A call of the source and one of the sink fail, after which so many bytes of the answer are written.
@@ -81,9 +80,12 @@ fn failing_ends(rt: HostRuntime) -> Result<(), Fail> {
         let mut source = MemorySource::new(bytes_of(alloc, NO_HOP)?, 16, source_fails);
         let mut sink = MemorySink::new(alloc, 4096, 10, sink_fails)?;
         let found = run(alloc, words.as_slice(), &mut source, &mut sink);
-        holds(&rt, found == status);
-        holds(&rt, sink.written().len() == written);
-        holds(&rt, answer.starts_with(sink.written()));
+        holds("the status tells whose call failed", found == status)?;
+        holds("so many bytes are written", sink.written().len() == written)?;
+        holds(
+            "what is written begins the answer",
+            answer.starts_with(sink.written()),
+        )?;
     }
     Ok(())
 }

@@ -1,6 +1,7 @@
 //! Requests whose document is refused, and those that are none.
 
-use crate::tests::expect::{answered, holds, text_is};
+use crate::tests::answers::answered;
+use cdx_test_cases::checks::{holds, text_is};
 use cdx_tool::answer_bytes;
 use std::test::Fail;
 
@@ -59,7 +60,7 @@ const REFUSED: &str = r#"
 
 #[test]
 fn refused(rt: HostRuntime) -> Result<(), Fail> {
-    Ok(answered(&rt, rt.alloc(), 1, REFUSED)?)
+    answered(rt.alloc(), 1, REFUSED)
 }
 
 // serde_json reads values nested up to 127 deep.
@@ -105,10 +106,9 @@ const NO_REQUESTS: &str = r#"
 #[test]
 fn no_requests(rt: HostRuntime) -> Result<(), Fail> {
     let alloc = rt.alloc();
-    answered(&rt, alloc, 2, NO_REQUESTS)?;
+    answered(alloc, 2, NO_REQUESTS)?;
     // A request is text in UTF-8.
     let answer = answer_bytes(alloc, b"\"\xff\"")?;
-    text_is(&rt, answer.text.as_str(), "{\"request\":\"not JSON\"}\n");
-    holds(&rt, answer.status == 2);
-    Ok(())
+    text_is(answer.text.as_str(), "{\"request\":\"not JSON\"}\n")?;
+    holds("what is no request ends with status 2", answer.status == 2)
 }

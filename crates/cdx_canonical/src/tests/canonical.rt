@@ -3,12 +3,11 @@
 //! A table is a text of one row per line, with ` -> ` between what is asked and its answer. Blank lines and comments are
 //! passed over.
 
-use crate::tests::expect::{holds, row_holds};
 use cdx_canon::canonical;
 use cdx_events::{List, MemorySink, MemorySource, SoundSource};
+use cdx_test_cases::checks::{holds, row_holds};
 use cdx_test_cases::inputs::{bytes_of, words_of};
 use std::alloc::{AllocError, Global};
-use std::process::Abort;
 use std::test::Fail;
 
 // What the row asks and its answer. Nothing answers `no answer`, so a row without one fails its test.
@@ -20,24 +19,26 @@ fn row(line: &str) -> Option<(&str, &str)> {
     Some(line.split_once(" -> ").unwrap_or((line, "no answer")))
 }
 
-// Ends the test where the words and the input don't get the answer with this status, or it isn't flushed.
+// A failure where the words and the input don't get the answer with this status, or it isn't flushed.
 fn answered(
-    rt: &impl Abort,
     alloc: Global,
     words: &[&str],
     input: &str,
     status: u8,
     answer: &str,
-) -> Result<(), AllocError> {
+) -> Result<(), Fail> {
     let words = words_of(alloc, words)?;
     let mut source = SoundSource::new(bytes_of(alloc, input)?);
     let mut sink = MemorySink::new(alloc, 8192, 1000, List::new(alloc))?;
     let found = canonical(alloc, words.as_slice(), &mut source, &mut sink);
     let line = format!(in alloc; "{answer}\n")?;
-    row_holds(rt, input, sink.written() == line.as_bytes());
-    row_holds(rt, input, sink.flushed() == line.len());
-    row_holds(rt, input, found == status);
-    Ok(())
+    row_holds(
+        input,
+        "what is written is the answer",
+        sink.written() == line.as_bytes(),
+    )?;
+    row_holds(input, "the answer is flushed", sink.flushed() == line.len())?;
+    row_holds(input, "the status is the row's", found == status)
 }
 
 // A question about two bills, of a question for each side.
@@ -45,16 +46,15 @@ fn pair(alloc: Global, left: &str, right: &str) -> Result<String, AllocError> {
     format!(in alloc; "{{\"left\":{left},\"right\":{right}}}")
 }
 
-// Ends the test where the question about two bills doesn't get the answer with this status.
+// A failure where the question about two bills doesn't get the answer with this status.
 fn two_answered(
-    rt: &impl Abort,
     alloc: Global,
     (left, right): (&str, &str),
     status: u8,
     answer: &str,
-) -> Result<(), AllocError> {
+) -> Result<(), Fail> {
     let both = pair(alloc, left, right)?;
-    answered(rt, alloc, &["equal"], both.as_str(), status, answer)
+    answered(alloc, &["equal"], both.as_str(), status, answer)
 }
 
 // Questions about a bill, and its text.
@@ -85,11 +85,11 @@ fn texts(rt: HostRuntime) -> Result<(), Fail> {
     let alloc = rt.alloc();
     for line in TEXTS.lines() {
         if let Some((asked, text)) = row(line) {
-            answered(&rt, alloc, &["text"], asked, 0, text)?;
+            answered(alloc, &["text"], asked, 0, text)?;
             let again = format!(in alloc; "{{\"from\":\"1.5\",\"doc\":{{\"json\":{text}}}}}")?;
-            answered(&rt, alloc, &["text"], again.as_str(), 0, text)?;
+            answered(alloc, &["text"], again.as_str(), 0, text)?;
             let is_equal = "{\"equal\":true}";
-            two_answered(&rt, alloc, (asked, again.as_str()), 0, is_equal)?;
+            two_answered(alloc, (asked, again.as_str()), 0, is_equal)?;
         }
     }
     Ok(())
@@ -127,8 +127,8 @@ fn pairs(rt: HostRuntime) -> Result<(), Fail> {
         if let Some((asked, is_equal)) = row(line) {
             let (left, right) = asked.split_once(" | ").unwrap_or((asked, "no side"));
             let answer = format!(in alloc; "{{\"equal\":{is_equal}}}")?;
-            two_answered(&rt, alloc, (left, right), 0, answer.as_str())?;
-            two_answered(&rt, alloc, (right, left), 0, answer.as_str())?;
+            two_answered(alloc, (left, right), 0, answer.as_str())?;
+            two_answered(alloc, (right, left), 0, answer.as_str())?;
         }
     }
     Ok(())
@@ -160,36 +160,26 @@ fn sided(alloc: Global, refusal: &str, side: &str) -> Result<String, AllocError>
     format!(in alloc; "{{\"refused\":{refusal},\"side\":\"{side}\"}}")
 }
 
-// Ends the test where a question isn't refused so: alone, on either side beside a bill, and on both. One that is none
+// A failure where a question isn't refused so: alone, on either side beside a bill, and on both. One that is none
 // beside it comes first.
-fn refused_so(
-    rt: &impl Abort,
-    alloc: Global,
-    asked: &str,
-    refusal: &str,
-) -> Result<(), AllocError> {
+fn refused_so(alloc: Global, asked: &str, refusal: &str) -> Result<(), Fail> {
     let alone = format!(in alloc; "{{\"refused\":{refusal}}}")?;
-    answered(rt, alloc, &["text"], asked, 1, alone.as_str())?;
+    answered(alloc, &["text"], asked, 1, alone.as_str())?;
     let left = sided(alloc, refusal, "left")?;
-    two_answered(rt, alloc, (asked, BILL), 1, left.as_str())?;
-    two_answered(rt, alloc, (asked, asked), 1, left.as_str())?;
+    two_answered(alloc, (asked, BILL), 1, left.as_str())?;
+    two_answered(alloc, (asked, asked), 1, left.as_str())?;
     let right = sided(alloc, refusal, "right")?;
-    two_answered(rt, alloc, (BILL, asked), 1, right.as_str())?;
-    two_answered(rt, alloc, (asked, "null"), 2, SHAPE)?;
-    two_answered(rt, alloc, ("null", asked), 2, SHAPE)
+    two_answered(alloc, (BILL, asked), 1, right.as_str())?;
+    two_answered(alloc, (asked, "null"), 2, SHAPE)?;
+    two_answered(alloc, ("null", asked), 2, SHAPE)
 }
 
-// Ends the test where the refusal isn't that of the left side beside each other one that is refused too.
-fn left_comes_first(
-    rt: &impl Abort,
-    alloc: Global,
-    asked: &str,
-    refusal: &str,
-) -> Result<(), AllocError> {
+// A failure where the refusal isn't that of the left side beside each other one that is refused too.
+fn left_comes_first(alloc: Global, asked: &str, refusal: &str) -> Result<(), Fail> {
     let left = sided(alloc, refusal, "left")?;
     for line in REFUSED.lines() {
         if let Some((other, _)) = row(line) {
-            two_answered(rt, alloc, (asked, other), 1, left.as_str())?;
+            two_answered(alloc, (asked, other), 1, left.as_str())?;
         }
     }
     Ok(())
@@ -200,8 +190,8 @@ fn refused_sides(rt: HostRuntime) -> Result<(), Fail> {
     let alloc = rt.alloc();
     for line in REFUSED.lines() {
         if let Some((asked, refusal)) = row(line) {
-            refused_so(&rt, alloc, asked, refusal)?;
-            left_comes_first(&rt, alloc, asked, refusal)?;
+            refused_so(alloc, asked, refusal)?;
+            left_comes_first(alloc, asked, refusal)?;
         }
     }
     Ok(())
@@ -218,8 +208,7 @@ fn too_deep(rt: HostRuntime) -> Result<(), Fail> {
         "{{\"from\":\"1.5\",\"doc\":{{\"json\":{{\"bomFormat\":\"CycloneDX\",\"specVersion\":\"1.5\",\"version\":1{open}{close}}}}}}}"
     )?;
     let refusal = format!(in alloc; "{{\"cause\":\"too deep\",\"path\":\"{path}\"}}")?;
-    refused_so(&rt, alloc, asked.as_str(), refusal.as_str())?;
-    Ok(())
+    refused_so(alloc, asked.as_str(), refusal.as_str())
 }
 
 // What is no question about a bill, and so no side.
@@ -253,12 +242,12 @@ const UNPAIRED: &str = r#"
 fn shapes(rt: HostRuntime) -> Result<(), Fail> {
     let alloc = rt.alloc();
     for asked in SHAPELESS.trim_ascii().lines() {
-        answered(&rt, alloc, &["text"], asked, 2, SHAPE)?;
-        two_answered(&rt, alloc, (asked, BILL), 2, SHAPE)?;
-        two_answered(&rt, alloc, (BILL, asked), 2, SHAPE)?;
+        answered(alloc, &["text"], asked, 2, SHAPE)?;
+        two_answered(alloc, (asked, BILL), 2, SHAPE)?;
+        two_answered(alloc, (BILL, asked), 2, SHAPE)?;
     }
     for asked in UNPAIRED.trim_ascii().lines() {
-        answered(&rt, alloc, &["equal"], asked, 2, SHAPE)?;
+        answered(alloc, &["equal"], asked, 2, SHAPE)?;
     }
     Ok(())
 }
@@ -278,7 +267,7 @@ const OTHER_WORDS: [&[&str]; 8] = [
 fn other_words(rt: HostRuntime) -> Result<(), Fail> {
     let alloc = rt.alloc();
     for words in &OTHER_WORDS {
-        answered(&rt, alloc, words, BILL, 2, "{\"request\":\"words\"}")?;
+        answered(alloc, words, BILL, 2, "{\"request\":\"words\"}")?;
     }
     Ok(())
 }
@@ -288,8 +277,8 @@ fn no_json(rt: HostRuntime) -> Result<(), Fail> {
     let alloc = rt.alloc();
     let answer = "{\"request\":\"not JSON\"}";
     for input in ["", "{", "\u{feff}{}", "{}{}", "nul"] {
-        answered(&rt, alloc, &["text"], input, 2, answer)?;
-        answered(&rt, alloc, &["equal"], input, 2, answer)?;
+        answered(alloc, &["text"], input, 2, answer)?;
+        answered(alloc, &["equal"], input, 2, answer)?;
     }
     Ok(())
 }
@@ -304,18 +293,23 @@ fn failing_calls(rt: HostRuntime) -> Result<(), Fail> {
     let mut source = MemorySource::new(bytes_of(alloc, BILL)?, 16, fails);
     let mut sink = MemorySink::new(alloc, 4096, 10, List::new(alloc))?;
     let status = canonical(alloc, words.as_slice(), &mut source, &mut sink);
-    holds(&rt, status == 3 && sink.written().is_empty());
+    holds(
+        "a source that fails ends it before anything is written",
+        status == 3 && sink.written().is_empty(),
+    )?;
     let fails = List::from_vec(second.to_vec(alloc)?);
     let mut source = SoundSource::new(bytes_of(alloc, BILL)?);
     let mut sink = MemorySink::new(alloc, 4096, 10, fails)?;
     let status = canonical(alloc, words.as_slice(), &mut source, &mut sink);
     holds(
-        &rt,
+        "a sink that fails ends it after ten bytes",
         status == 4 && sink.written() == "{\"bomForma".as_bytes(),
-    );
+    )?;
     let mut source = MemorySource::new(bytes_of(alloc, BILL)?, 16, List::new(alloc));
     let mut sink = MemorySink::new(alloc, 4096, 4096, List::new(alloc))?;
     let status = canonical(alloc, &[], &mut source, &mut sink);
-    holds(&rt, status == 2 && source.calls() == 0);
-    Ok(())
+    holds(
+        "nothing is taken without a word",
+        status == 2 && source.calls() == 0,
+    )
 }

@@ -1,10 +1,8 @@
 //! Each call of a source and of a sink fails in turn. What was written when a call of the source failed shows that each
 //! line that a line feed ended was answered and flushed before that call: nothing before it could know that it fails.
 
-use crate::tests::stream::{
-    LINES, Pace, SWIFT, Served, holds, replies, serve_text, served_is, stream,
-};
-use std::process::Abort;
+use crate::tests::stream::{LINES, Pace, SWIFT, Served, replies, serve_text, served_is, stream};
+use cdx_test_cases::checks::holds_at;
 use std::test::Fail;
 
 const MOST: u64 = 1 << 40;
@@ -26,7 +24,7 @@ fn each_take_fails(rt: HostRuntime) -> Result<(), Fail> {
                 SWIFT,
             )?;
             let wanted = replies(alloc, taken)?;
-            served_is(&rt, call, &served, status, wanted.as_str());
+            served_is(call, &served, status, wanted.as_str())?;
         }
     }
     Ok(())
@@ -47,13 +45,25 @@ fn is_flushed_by_line(served: &Served) -> bool {
     flushed == end && written == end
 }
 
-// Whether it ended so, at the fault of a sink or where there was none.
-fn ended_well(rt: &impl Abort, call: u64, served: &Served, whole: &str) {
+// A failure where it didn't end as it should at the fault of a sink, or where there was none.
+fn ended_well(call: u64, served: &Served, whole: &str) -> Result<(), Fail> {
     let written = served.sink.written();
-    holds(rt, call, whole.as_bytes().starts_with(written));
-    holds(rt, call, is_flushed_by_line(served));
+    holds_at(
+        call,
+        "what is written begins the replies",
+        whole.as_bytes().starts_with(written),
+    )?;
+    holds_at(
+        call,
+        "whole replies are flushed",
+        is_flushed_by_line(served),
+    )?;
     let is_whole = served.sink.flushed() == whole.len();
-    holds(rt, call, served.status == if is_whole { 0 } else { 4 });
+    holds_at(
+        call,
+        "the status tells whether all is flushed",
+        served.status == if is_whole { 0 } else { 4 },
+    )
 }
 
 #[test]
@@ -70,8 +80,12 @@ fn each_put_fails(rt: HostRuntime) -> Result<(), Fail> {
                 SWIFT,
                 Pace { step, fails: call },
             )?;
-            ended_well(&rt, call, &served, whole.as_str());
-            holds(&rt, call, (served.status == 4) == (call <= calls));
+            ended_well(call, &served, whole.as_str())?;
+            holds_at(
+                call,
+                "the status tells whether the call is made",
+                (served.status == 4) == (call <= calls),
+            )?;
         }
     }
     Ok(())

@@ -19,7 +19,7 @@ fn small_limits(rt: HostRuntime) -> Result<(), Fail> {
         (6, 0, two),
     ] {
         let served = serve_text(rt.alloc(), "1\n22\n", limit, SWIFT, SWIFT)?;
-        served_is(&rt, limit, &served, status, text);
+        served_is(limit, &served, status, text)?;
     }
     Ok(())
 }
@@ -34,7 +34,7 @@ fn each_limit(rt: HostRuntime) -> Result<(), Fail> {
             let status = if limit < text.len() { 6 } else { 0 };
             let served = serve_text(alloc, text.as_str(), limit as u64, pace, SWIFT)?;
             let wanted = replies(alloc, limit)?;
-            served_is(&rt, limit as u64, &served, status, wanted.as_str());
+            served_is(limit as u64, &served, status, wanted.as_str())?;
         }
     }
     Ok(())

@@ -3,9 +3,10 @@
 
 ghost use Rattle.std.specs.Prelude.{None};
 
-use crate::tests::stream::{LINES, holds, stream};
+use crate::tests::stream::{LINES, stream};
 use cdx_events::{Failed, Sink, Source};
 use cdx_gate::serve;
+use cdx_test_cases::checks::holds_at;
 use std::cell::Cell;
 use std::test::Fail;
 
@@ -91,9 +92,17 @@ fn answers_before_it_takes(rt: HostRuntime) -> Result<(), Fail> {
         };
         let mut sink = Flushes { count: &flushes };
         let status = serve(alloc, &[], MOST, &mut source, &mut sink);
-        holds(&rt, step as u64, status == 0);
-        holds(&rt, step as u64, source.late == 0);
-        holds(&rt, step as u64, flushes.get() == LINES.len() as u64);
+        holds_at(step as u64, "the stream ends with status 0", status == 0)?;
+        holds_at(
+            step as u64,
+            "each line is answered before more is taken",
+            source.late == 0,
+        )?;
+        holds_at(
+            step as u64,
+            "each reply is flushed",
+            flushes.get() == LINES.len() as u64,
+        )?;
     }
     Ok(())
 }

@@ -1,12 +1,12 @@
-//! Streams that are served over objects in memory, and what is expected of them. What ends a test: a call here takes far
-//! less to prove than an assertion in its place.
+//! Streams that are served over objects in memory, and what is expected of them.
 
 ghost use Rattle.std.specs.Prelude.{◌<◌, ◌+◌, ◌^◌};
 
 use cdx_events::{List, MemorySink, MemorySource};
 use cdx_gate::serve;
+use cdx_test_cases::checks::holds_at;
 use std::alloc::{AllocError, Global};
-use std::process::Abort;
+use std::test::Fail;
 
 /// The request of the first worked example.
 pub const REQUEST: &str =
@@ -18,11 +18,6 @@ pub const LINES: [(&str, &str); 3] = [
     ("x", r#"{"request":"not JSON"}"#),
     ("1", r#"{"request":"shape"}"#),
 ];
-
-/// Ends the test where something doesn't hold.
-pub fn holds(rt: &impl Abort, at: u64, is_so: bool) {
-    assert!(rt; is_so, "{at}");
-}
 
 /// The stream of the lines, each with a line feed after it.
 pub fn stream(alloc: Global) -> Result<String, AllocError> {
@@ -92,9 +87,17 @@ pub fn serve_text(
     Ok(Served { status, sink })
 }
 
-/// Ends the test where the status or what was written and flushed isn't as expected.
-pub fn served_is(rt: &impl Abort, at: u64, served: &Served, status: u8, text: &str) {
-    holds(rt, at, served.status == status);
-    holds(rt, at, served.sink.written() == text.as_bytes());
-    holds(rt, at, served.sink.flushed() == text.len());
+/// A failure where the status or what was written and flushed isn't as expected.
+pub fn served_is(at: u64, served: &Served, status: u8, text: &str) -> Result<(), Fail> {
+    holds_at(at, "the status is the stream's", served.status == status)?;
+    holds_at(
+        at,
+        "what is written is the replies",
+        served.sink.written() == text.as_bytes(),
+    )?;
+    holds_at(
+        at,
+        "the replies are flushed",
+        served.sink.flushed() == text.len(),
+    )
 }

@@ -1,8 +1,9 @@
 //! Streams and their replies.
 
-use crate::tests::stream::{Pace, REQUEST, SWIFT, holds, serve_text, served_is};
+use crate::tests::stream::{Pace, REQUEST, SWIFT, serve_text, served_is};
 use cdx_events::{List, MemorySink, SoundSource};
 use cdx_gate::serve;
+use cdx_test_cases::checks::holds;
 use std::test::Fail;
 
 const MOST: u64 = 1 << 40;
@@ -42,7 +43,7 @@ fn streams(rt: HostRuntime) -> Result<(), Fail> {
         for step in [1, 2, 4096] {
             let pace = Pace { step, fails: 0 };
             let served = serve_text(alloc, text, MOST, pace, pace)?;
-            served_is(&rt, at, &served, 0, wanted.as_str());
+            served_is(at, &served, 0, wanted.as_str())?;
         }
         at = at.saturating_add(1);
     }
@@ -55,10 +56,12 @@ fn a_request_and_more(rt: HostRuntime) -> Result<(), Fail> {
     let text = format!(in alloc; "{REQUEST}\nx")?;
     let wanted = format!(in alloc; "{DOCUMENTS}{NOT_JSON}")?;
     let served = serve_text(alloc, text.as_str(), MOST, SWIFT, SWIFT)?;
-    served_is(&rt, 0, &served, 0, wanted.as_str());
+    served_is(0, &served, 0, wanted.as_str())?;
     // a put and a flush for each reply
-    holds(&rt, 1, served.sink.calls() == 4);
-    Ok(())
+    holds(
+        "a put and a flush are made for each reply",
+        served.sink.calls() == 4,
+    )
 }
 
 #[test]
@@ -69,10 +72,15 @@ fn words(rt: HostRuntime) -> Result<(), Fail> {
     let mut sink = MemorySink::new(alloc, 64, 64, List::new(alloc))?;
     let status = serve(alloc, &words, MOST, &mut source, &mut sink);
     let wanted = "{\"request\":\"words\"}\n";
-    holds(&rt, 0, status == 2);
-    holds(&rt, 1, sink.written() == wanted.as_bytes());
-    holds(&rt, 2, sink.flushed() == wanted.len());
-    Ok(())
+    holds("words end with status 2", status == 2)?;
+    holds(
+        "what is written is the refusal of words",
+        sink.written() == wanted.as_bytes(),
+    )?;
+    holds(
+        "the refusal of words is flushed",
+        sink.flushed() == wanted.len(),
+    )
 }
 
 // A line longer than a request may be is passed over, and the next is answered.
@@ -84,8 +92,10 @@ fn long_line(rt: HostRuntime) -> Result<(), Fail> {
     let mut source = SoundSource::new(List::from_vec(bytes));
     let mut sink = MemorySink::new(alloc, 64, 64, List::new(alloc))?;
     let status = serve(alloc, &[], MOST, &mut source, &mut sink);
-    holds(&rt, 0, status == 0);
+    holds("a long line ends with status 0", status == 0)?;
     let wanted = "{\"request\":\"too long\"}\n{\"request\":\"shape\"}\n";
-    holds(&rt, 1, sink.written() == wanted.as_bytes());
-    Ok(())
+    holds(
+        "what is written is a reply for each line",
+        sink.written() == wanted.as_bytes(),
+    )
 }

@@ -3,33 +3,34 @@
 //! A table is a text of one row per line, with ` -> ` between what is asked and its answer. Blank lines and comments are
 //! passed over.
 
-use crate::tests::expect::{holds, row_holds};
 use cdx_events::{List, MemorySink, MemorySource, SoundSource};
 use cdx_losses::report;
+use cdx_test_cases::checks::{holds, row_holds};
 use cdx_test_cases::inputs::{bytes_of, words_of};
 use cdx_test_cases::rows::row;
 use std::alloc::{AllocError, Global};
-use std::process::Abort;
 use std::test::Fail;
 
-// Ends the test where the words and the input don't get the answer with this status, or it isn't flushed.
+// A failure where the words and the input don't get the answer with this status, or it isn't flushed.
 fn answered(
-    rt: &impl Abort,
     alloc: Global,
     words: &[&str],
     input: &str,
     status: u8,
     answer: &str,
-) -> Result<(), AllocError> {
+) -> Result<(), Fail> {
     let words = words_of(alloc, words)?;
     let mut source = SoundSource::new(bytes_of(alloc, input)?);
     let mut sink = MemorySink::new(alloc, 8192, 1000, List::new(alloc))?;
     let found = report(alloc, words.as_slice(), &mut source, &mut sink);
     let line = format!(in alloc; "{answer}\n")?;
-    row_holds(rt, input, sink.written() == line.as_bytes());
-    row_holds(rt, input, sink.flushed() == line.len());
-    row_holds(rt, input, found == status);
-    Ok(())
+    row_holds(
+        input,
+        "what is written is the answer",
+        sink.written() == line.as_bytes(),
+    )?;
+    row_holds(input, "the answer is flushed", sink.flushed() == line.len())?;
+    row_holds(input, "the status is the row's", found == status)
 }
 
 // ---- roads of a bill, and what they take
@@ -63,35 +64,29 @@ fn losses_of(alloc: Global, words: &str) -> Result<String, AllocError> {
     Ok(losses)
 }
 
-// Ends the test where the hops don't take these losses of the bill of 1.5 with the members.
-fn takes(
-    rt: &impl Abort,
-    alloc: Global,
-    members: &str,
-    hops: &str,
-    losses: &str,
-) -> Result<(), AllocError> {
+// A failure where the hops don't take these losses of the bill of 1.5 with the members.
+fn takes(alloc: Global, members: &str, hops: &str, losses: &str) -> Result<(), Fail> {
     let hops = hops_of(alloc, hops)?;
     let request = format!(in alloc;
         "{{\"from\":\"1.5\",\"doc\":{{\"json\":{{\"bomFormat\":\"CycloneDX\",\"specVersion\":\"1.5\",\"version\":1,{members}}}}},\"hops\":[{hops}]}}"
     )?;
     let losses = losses_of(alloc, losses)?;
     let answer = format!(in alloc; "{{\"losses\":[{losses}]}}")?;
-    answered(rt, alloc, &["losses"], request.as_str(), 0, answer.as_str())
+    answered(alloc, &["losses"], request.as_str(), 0, answer.as_str())
 }
 
 // One row: the hops and, after a `|`, the members of a bill; and the losses.
-fn row_takes(rt: &impl Abort, alloc: Global, line: &str) -> Result<(), AllocError> {
+fn row_takes(alloc: Global, line: &str) -> Result<(), Fail> {
     let Some((asked, losses)) = row(line) else {
         return Ok(());
     };
     let (hops, members) = asked.split_once('|').unwrap_or((asked, "no members"));
-    takes(rt, alloc, members.trim_ascii(), hops, losses)
+    takes(alloc, members.trim_ascii(), hops, losses)
 }
 
-fn all_take(rt: &impl Abort, alloc: Global, rows: &str) -> Result<(), AllocError> {
+fn all_take(alloc: Global, rows: &str) -> Result<(), Fail> {
     for line in rows.lines() {
-        row_takes(rt, alloc, line)?;
+        row_takes(alloc, line)?;
     }
     Ok(())
 }
@@ -135,7 +130,7 @@ const TO_XML: &str = r#"
 
 #[test]
 fn taken_by_xml(rt: HostRuntime) -> Result<(), Fail> {
-    Ok(all_take(&rt, rt.alloc(), TO_XML)?)
+    all_take(rt.alloc(), TO_XML)
 }
 
 const TO_VERSIONS: &str = r#"
@@ -158,7 +153,7 @@ const TO_VERSIONS: &str = r#"
 
 #[test]
 fn taken_by_versions(rt: HostRuntime) -> Result<(), Fail> {
-    Ok(all_take(&rt, rt.alloc(), TO_VERSIONS)?)
+    all_take(rt.alloc(), TO_VERSIONS)
 }
 
 const BELOW_1_5: &str = r#"
@@ -180,7 +175,7 @@ const BELOW_1_5: &str = r#"
 
 #[test]
 fn taken_below_1_5(rt: HostRuntime) -> Result<(), Fail> {
-    Ok(all_take(&rt, rt.alloc(), BELOW_1_5)?)
+    all_take(rt.alloc(), BELOW_1_5)
 }
 
 const AT_EACH_DEPTH: &str = r#"
@@ -190,7 +185,7 @@ const AT_EACH_DEPTH: &str = r#"
 
 #[test]
 fn taken_at_each_depth(rt: HostRuntime) -> Result<(), Fail> {
-    Ok(all_take(&rt, rt.alloc(), AT_EACH_DEPTH)?)
+    all_take(rt.alloc(), AT_EACH_DEPTH)
 }
 
 // The hops of a road in each order take the same, and so does the road twice over where it takes XML twice already.
@@ -209,22 +204,22 @@ const IN_EACH_ORDER: &str = r#"
 
 #[test]
 fn taken_in_each_order(rt: HostRuntime) -> Result<(), Fail> {
-    Ok(all_take(&rt, rt.alloc(), IN_EACH_ORDER)?)
+    all_take(rt.alloc(), IN_EACH_ORDER)
 }
 
 // ---- requests and statuses
 
-// Ends the test where a row's request doesn't get the row's answer with this status.
-fn row_answered(rt: &impl Abort, alloc: Global, status: u8, line: &str) -> Result<(), AllocError> {
+// A failure where a row's request doesn't get the row's answer with this status.
+fn row_answered(alloc: Global, status: u8, line: &str) -> Result<(), Fail> {
     let Some((request, answer)) = row(line) else {
         return Ok(());
     };
-    answered(rt, alloc, &["losses"], request, status, answer)
+    answered(alloc, &["losses"], request, status, answer)
 }
 
-fn all_answered(rt: &impl Abort, alloc: Global, status: u8, rows: &str) -> Result<(), AllocError> {
+fn all_answered(alloc: Global, status: u8, rows: &str) -> Result<(), Fail> {
     for line in rows.lines() {
-        row_answered(rt, alloc, status, line)?;
+        row_answered(alloc, status, line)?;
     }
     Ok(())
 }
@@ -265,10 +260,9 @@ const SHAPELESS: &str = r#"
 #[test]
 fn requests(rt: HostRuntime) -> Result<(), Fail> {
     let alloc = rt.alloc();
-    all_answered(&rt, alloc, 0, SERVED)?;
-    all_answered(&rt, alloc, 1, REFUSED)?;
-    all_answered(&rt, alloc, 2, SHAPELESS)?;
-    Ok(())
+    all_answered(alloc, 0, SERVED)?;
+    all_answered(alloc, 1, REFUSED)?;
+    all_answered(alloc, 2, SHAPELESS)
 }
 
 const NO_HOP: &str =
@@ -278,14 +272,13 @@ const NO_HOP: &str =
 fn words(rt: HostRuntime) -> Result<(), Fail> {
     let alloc = rt.alloc();
     let answer = "{\"request\":\"words\"}";
-    answered(&rt, alloc, &[], NO_HOP, 2, answer)?;
-    answered(&rt, alloc, &[""], NO_HOP, 2, answer)?;
-    answered(&rt, alloc, &["loss"], NO_HOP, 2, answer)?;
-    answered(&rt, alloc, &["Losses"], NO_HOP, 2, answer)?;
-    answered(&rt, alloc, &["road"], NO_HOP, 2, answer)?;
-    answered(&rt, alloc, &["losses", "1.5"], NO_HOP, 2, answer)?;
-    answered(&rt, alloc, &["losses"], "", 2, "{\"request\":\"not JSON\"}")?;
-    Ok(())
+    answered(alloc, &[], NO_HOP, 2, answer)?;
+    answered(alloc, &[""], NO_HOP, 2, answer)?;
+    answered(alloc, &["loss"], NO_HOP, 2, answer)?;
+    answered(alloc, &["Losses"], NO_HOP, 2, answer)?;
+    answered(alloc, &["road"], NO_HOP, 2, answer)?;
+    answered(alloc, &["losses", "1.5"], NO_HOP, 2, answer)?;
+    answered(alloc, &["losses"], "", 2, "{\"request\":\"not JSON\"}")
 }
 
 #[test]
@@ -296,14 +289,13 @@ fn one_byte_too_many(rt: HostRuntime) -> Result<(), Fail> {
     let mut source = SoundSource::new(List::from_vec(spaces));
     let mut sink = MemorySink::new(alloc, 64, 64, List::new(alloc))?;
     holds(
-        &rt,
+        "a byte too many ends with status 6",
         report(alloc, words.as_slice(), &mut source, &mut sink) == 6,
-    );
+    )?;
     holds(
-        &rt,
+        "what is written is the refusal",
         sink.written() == "{\"request\":\"too long\"}\n".as_bytes(),
-    );
-    Ok(())
+    )
 }
 
 // A source and a sink that fail in their second call, and no command, which takes nothing from the source.
@@ -316,18 +308,23 @@ fn failing_calls(rt: HostRuntime) -> Result<(), Fail> {
     let mut source = MemorySource::new(bytes_of(alloc, NO_HOP)?, 16, fails);
     let mut sink = MemorySink::new(alloc, 4096, 10, List::new(alloc))?;
     let status = report(alloc, words.as_slice(), &mut source, &mut sink);
-    holds(&rt, status == 3 && sink.written().is_empty());
+    holds(
+        "a source that fails ends it before anything is written",
+        status == 3 && sink.written().is_empty(),
+    )?;
     let fails = List::from_vec(second.to_vec(alloc)?);
     let mut source = SoundSource::new(bytes_of(alloc, NO_HOP)?);
     let mut sink = MemorySink::new(alloc, 4096, 10, fails)?;
     let status = report(alloc, words.as_slice(), &mut source, &mut sink);
     holds(
-        &rt,
+        "a sink that fails ends it after ten bytes",
         status == 4 && sink.written() == "{\"losses\":".as_bytes(),
-    );
+    )?;
     let mut source = MemorySource::new(bytes_of(alloc, NO_HOP)?, 16, List::new(alloc));
     let mut sink = MemorySink::new(alloc, 4096, 4096, List::new(alloc))?;
     let status = report(alloc, &[], &mut source, &mut sink);
-    holds(&rt, status == 2 && source.calls() == 0);
-    Ok(())
+    holds(
+        "nothing is taken without a word",
+        status == 2 && source.calls() == 0,
+    )
 }

@@ -1,10 +1,10 @@
 //! The whole bill, whose element is a document.
 
 use crate::calls::in_json;
-use crate::expect::{holds, text_is};
 use cdx_bom::Bom;
 use cdx_events::EventWriter;
 use cdx_leaf::FromXmlDocument;
+use cdx_test_cases::checks::{holds, text_is};
 use cdx_test_cases::documents::{document, line_of};
 use cdx_test_cases::forms::{V3, V4, V5, held, shown};
 use cdx_write::ToXml;
@@ -33,23 +33,29 @@ fn written<T: ToXml>(alloc: Global, held: &T) -> Result<String, Fail> {
 #[test]
 fn bills(rt: HostRuntime) -> Result<(), Fail> {
     let alloc = rt.alloc();
-    in_json::<Bom>(&rt, alloc, BILL)?;
+    in_json::<Bom>(alloc, BILL)?;
     let bill = held::<Bom>(alloc, BILL, V5)?;
-    holds(&rt, read_back(alloc)? == bill);
-    holds(&rt, bill.will_write());
-    text_is(&rt, written(alloc, &bill)?.as_str(), LINE);
-    holds(&rt, bill.fits(V4) && !bill.fits(V3));
-    Ok(())
+    let is_read = read_back(alloc)? == bill;
+    let (will_write, line) = (bill.will_write(), written(alloc, &bill)?);
+    let is_for_1_4 = bill.fits(V4) && !bill.fits(V3);
+    drop(bill);
+    holds("the document denotes the bill", is_read)?;
+    holds("a bill has something to write", will_write)?;
+    text_is(line.as_str(), LINE)?;
+    holds("the bill fits 1.4 and not 1.3", is_for_1_4)
 }
 
 #[test]
 fn bills_that_may_be_absent(rt: HostRuntime) -> Result<(), Fail> {
     let alloc = rt.alloc();
     let some = Some(held::<Bom>(alloc, BILL, V5)?);
-    text_is(&rt, written(alloc, &some)?.as_str(), LINE);
-    holds(&rt, some.will_write());
+    let (will_write, line) = (some.will_write(), written(alloc, &some)?);
+    drop(some);
+    text_is(line.as_str(), LINE)?;
+    holds("a bill that is there has something to write", will_write)?;
     let none: Option<Bom> = None;
-    text_is(&rt, shown(alloc, &none, V5)?.as_str(), "");
-    holds(&rt, !none.will_write());
-    Ok(())
+    let (will_write, line) = (none.will_write(), shown(alloc, &none, V5)?);
+    drop(none);
+    text_is(line.as_str(), "")?;
+    holds("no bill has nothing to write", !will_write)
 }

@@ -16,9 +16,9 @@ const COMMITS: &str = r#"[{"uid":"1"}] -> <commits|<commit|<uid|=1|>uid|>commit|
 #[test]
 fn commits(rt: HostRuntime) -> Result<(), Fail> {
     let alloc = rt.alloc();
-    named::<IdentifiableAction>(&rt, alloc, ACTION)?;
-    record::<Commit>(&rt, alloc, COMMIT)?;
-    record::<Commits>(&rt, alloc, COMMITS)
+    named::<IdentifiableAction>(alloc, ACTION)?;
+    record::<Commit>(alloc, COMMIT)?;
+    record::<Commits>(alloc, COMMITS)
 }
 
 const SOURCE: &str = r#"{"name":"n","url":"u"} -> <source|<name|=n|>name|<url|=u|>url|>source"#;
@@ -37,9 +37,9 @@ const PATCHES: &str = r#"[{"type":"monkey"}] -> <patches|<patch type=monkey|>pat
 #[test]
 fn issues_and_patches(rt: HostRuntime) -> Result<(), Fail> {
     let alloc = rt.alloc();
-    record::<Source>(&rt, alloc, SOURCE)?;
-    record::<Issue>(&rt, alloc, ISSUE)?;
-    record::<Diff>(&rt, alloc, DIFF)?;
-    record::<Patch>(&rt, alloc, PATCH)?;
-    record::<Patches>(&rt, alloc, PATCHES)
+    record::<Source>(alloc, SOURCE)?;
+    record::<Issue>(alloc, ISSUE)?;
+    record::<Diff>(alloc, DIFF)?;
+    record::<Patch>(alloc, PATCH)?;
+    record::<Patches>(alloc, PATCHES)
 }

@@ -17,9 +17,9 @@ const LICENSES: &str =
 #[test]
 fn licenses(rt: HostRuntime) -> Result<(), Fail> {
     let alloc = rt.alloc();
-    record::<Expression>(&rt, alloc, EXPRESSION)?;
-    record::<License>(&rt, alloc, LICENSE)?;
-    record::<Licenses>(&rt, alloc, LICENSES)
+    record::<Expression>(alloc, EXPRESSION)?;
+    record::<License>(alloc, LICENSE)?;
+    record::<Licenses>(alloc, LICENSES)
 }
 
 const CHOSEN_LICENSE: &str = r#"{"license":{"id":"MIT"}} -> <license|<id|=MIT|>id|>license"#;
@@ -30,10 +30,10 @@ const CHOSEN_EXPRESSION: &str = r#"{"expression":"MIT"} -> <expression|=MIT|>exp
 #[test]
 fn license_choices(rt: HostRuntime) -> Result<(), Fail> {
     let alloc = rt.alloc();
-    record::<LicenseIdentifier>(&rt, alloc, r#"{"id":"MIT"} -> <id|=MIT|>id"#)?;
-    record::<LicenseIdentifier>(&rt, alloc, r#"{"name":"M"} -> <name|=M|>name"#)?;
-    record::<LicenseChoice>(&rt, alloc, CHOSEN_LICENSE)?;
-    record::<LicenseChoice>(&rt, alloc, CHOSEN_EXPRESSION)
+    record::<LicenseIdentifier>(alloc, r#"{"id":"MIT"} -> <id|=MIT|>id"#)?;
+    record::<LicenseIdentifier>(alloc, r#"{"name":"M"} -> <name|=M|>name"#)?;
+    record::<LicenseChoice>(alloc, CHOSEN_LICENSE)?;
+    record::<LicenseChoice>(alloc, CHOSEN_EXPRESSION)
 }
 
 // By itself a signer has no element of its own.
@@ -52,11 +52,11 @@ const SIGNERS: &str =
 #[test]
 fn signatures(rt: HostRuntime) -> Result<(), Fail> {
     let alloc = rt.alloc();
-    in_json::<Algorithm>(&rt, alloc, r#""ES256""#)?;
-    in_json::<Algorithm>(&rt, alloc, r#""own""#)?;
-    lone::<Algorithm>(&rt, alloc, r#""ES256" -> ES256"#)?;
-    record::<Signer>(&rt, alloc, SIGNER)?;
-    record::<Signature>(&rt, alloc, SINGLE)?;
-    record::<Signature>(&rt, alloc, CHAIN)?;
-    record::<Signature>(&rt, alloc, SIGNERS)
+    in_json::<Algorithm>(alloc, r#""ES256""#)?;
+    in_json::<Algorithm>(alloc, r#""own""#)?;
+    lone::<Algorithm>(alloc, r#""ES256" -> ES256"#)?;
+    record::<Signer>(alloc, SIGNER)?;
+    record::<Signature>(alloc, SINGLE)?;
+    record::<Signature>(alloc, CHAIN)?;
+    record::<Signature>(alloc, SIGNERS)
 }

@@ -1,43 +1,41 @@
 //! Texts, booleans and numbers, and the records that stand in many others.
 
 use crate::calls::{in_both, in_json, lone, named, record};
-use crate::expect::text_is;
 use cdx_events::Text;
 use cdx_models::{
     AttachedText, ExternalReference, ExternalReferences, Hash, HashValue, Hashes,
     OrganizationalContact, OrganizationalEntity, Properties, Property, Tool, Uri, UrnUuid,
 };
+use cdx_test_cases::checks::text_is;
 use cdx_test_cases::forms::{V5, spelled};
 use std::test::Fail;
 
 #[test]
 fn texts_booleans_and_numbers(rt: HostRuntime) -> Result<(), Fail> {
     let alloc = rt.alloc();
-    in_both::<Text>(&rt, alloc, r#""x" -> <n|=x|>n"#)?;
-    in_both::<bool>(&rt, alloc, "true -> <n|=true|>n")?;
-    in_both::<bool>(&rt, alloc, "false -> <n|=0|>n")?;
-    in_both::<u32>(&rt, alloc, "7 -> <n|= 7 |>n")?;
+    in_both::<Text>(alloc, r#""x" -> <n|=x|>n"#)?;
+    in_both::<bool>(alloc, "true -> <n|=true|>n")?;
+    in_both::<bool>(alloc, "false -> <n|=0|>n")?;
+    in_both::<u32>(alloc, "7 -> <n|= 7 |>n")?;
     let text = spelled::<Text>(alloc, r#""x""#, V5, "n")?;
-    text_is(&rt, text.as_str(), "<n|=x|>n");
+    text_is(text.as_str(), "<n|=x|>n")?;
     let is_so = spelled::<bool>(alloc, "false", V5, "n")?;
-    text_is(&rt, is_so.as_str(), "<n|=false|>n");
-    Ok(())
+    text_is(is_so.as_str(), "<n|=false|>n")
 }
 
 #[test]
 fn values_that_are_one_text(rt: HostRuntime) -> Result<(), Fail> {
     let alloc = rt.alloc();
-    in_json::<UrnUuid>(&rt, alloc, r#""u""#)?;
-    in_json::<Uri>(&rt, alloc, r#""urn:cdx:x""#)?;
-    in_json::<HashValue>(&rt, alloc, r#""ab""#)?;
-    lone::<Text>(&rt, alloc, r#""x" -> x"#)?;
-    lone::<bool>(&rt, alloc, "true -> true")?;
-    lone::<u32>(&rt, alloc, "7 -> 7")?;
-    lone::<UrnUuid>(&rt, alloc, r#""u" -> u"#)?;
-    lone::<Uri>(&rt, alloc, r#""urn:cdx:x" -> urn:cdx:x"#)?;
+    in_json::<UrnUuid>(alloc, r#""u""#)?;
+    in_json::<Uri>(alloc, r#""urn:cdx:x""#)?;
+    in_json::<HashValue>(alloc, r#""ab""#)?;
+    lone::<Text>(alloc, r#""x" -> x"#)?;
+    lone::<bool>(alloc, "true -> true")?;
+    lone::<u32>(alloc, "7 -> 7")?;
+    lone::<UrnUuid>(alloc, r#""u" -> u"#)?;
+    lone::<Uri>(alloc, r#""urn:cdx:x" -> urn:cdx:x"#)?;
     let uri = spelled::<Uri>(alloc, r#""u""#, V5, "n")?;
-    text_is(&rt, uri.as_str(), "<n|=u|>n");
-    Ok(())
+    text_is(uri.as_str(), "<n|=u|>n")
 }
 
 const ATTACHED_TEXT: &str =
@@ -55,11 +53,11 @@ const PROPERTIES: &str =
 #[test]
 fn texts_hashes_and_properties(rt: HostRuntime) -> Result<(), Fail> {
     let alloc = rt.alloc();
-    named::<AttachedText>(&rt, alloc, ATTACHED_TEXT)?;
-    record::<Hash>(&rt, alloc, HASH)?;
-    record::<Hashes>(&rt, alloc, HASHES)?;
-    record::<Property>(&rt, alloc, PROPERTY)?;
-    record::<Properties>(&rt, alloc, PROPERTIES)
+    named::<AttachedText>(alloc, ATTACHED_TEXT)?;
+    record::<Hash>(alloc, HASH)?;
+    record::<Hashes>(alloc, HASHES)?;
+    record::<Property>(alloc, PROPERTY)?;
+    record::<Properties>(alloc, PROPERTIES)
 }
 
 const CONTACT: &str =
@@ -80,9 +78,9 @@ const TOOL: &str =
 #[test]
 fn organizations_references_and_tools(rt: HostRuntime) -> Result<(), Fail> {
     let alloc = rt.alloc();
-    named::<OrganizationalContact>(&rt, alloc, CONTACT)?;
-    named::<OrganizationalEntity>(&rt, alloc, ENTITY)?;
-    record::<ExternalReference>(&rt, alloc, REFERENCE)?;
-    record::<ExternalReferences>(&rt, alloc, REFERENCES)?;
-    record::<Tool>(&rt, alloc, TOOL)
+    named::<OrganizationalContact>(alloc, CONTACT)?;
+    named::<OrganizationalEntity>(alloc, ENTITY)?;
+    record::<ExternalReference>(alloc, REFERENCE)?;
+    record::<ExternalReferences>(alloc, REFERENCES)?;
+    record::<Tool>(alloc, TOOL)
 }

@@ -1,8 +1,8 @@
 //! Components, services, tools and metadata.
 
 use crate::calls::record;
-use crate::expect::row_holds;
 use cdx_nest::{Component, Components, Metadata, Pedigree, Service, Services, Tools};
+use cdx_test_cases::checks::row_holds;
 use cdx_test_cases::forms::{V3, V4, V5, held};
 use std::test::Fail;
 
@@ -18,9 +18,9 @@ const PEDIGREE: &str =
 #[test]
 fn components(rt: HostRuntime) -> Result<(), Fail> {
     let alloc = rt.alloc();
-    record::<Component>(&rt, alloc, COMPONENT)?;
-    record::<Components>(&rt, alloc, COMPONENTS)?;
-    record::<Pedigree>(&rt, alloc, PEDIGREE)
+    record::<Component>(alloc, COMPONENT)?;
+    record::<Components>(alloc, COMPONENTS)?;
+    record::<Pedigree>(alloc, PEDIGREE)
 }
 
 // A list of components is also written under other names.
@@ -29,7 +29,7 @@ const ANCESTORS: &str =
 
 #[test]
 fn components_inside(rt: HostRuntime) -> Result<(), Fail> {
-    record::<Components>(&rt, rt.alloc(), ANCESTORS)
+    record::<Components>(rt.alloc(), ANCESTORS)
 }
 
 const SERVICE: &str =
@@ -40,8 +40,8 @@ const SERVICES: &str = r#"[{"name":"n"}] -> <services|<service|<name|=n|>name|>s
 #[test]
 fn services(rt: HostRuntime) -> Result<(), Fail> {
     let alloc = rt.alloc();
-    record::<Service>(&rt, alloc, SERVICE)?;
-    record::<Services>(&rt, alloc, SERVICES)
+    record::<Service>(alloc, SERVICE)?;
+    record::<Services>(alloc, SERVICES)
 }
 
 const LISTED: &str = r#"[{"name":"n"}] -> <tools|<tool|<name|=n|>name|>tool|>tools"#;
@@ -55,9 +55,9 @@ const METADATA: &str =
 #[test]
 fn tools_and_metadata(rt: HostRuntime) -> Result<(), Fail> {
     let alloc = rt.alloc();
-    record::<Tools>(&rt, alloc, LISTED)?;
-    record::<Tools>(&rt, alloc, TOOLS)?;
-    record::<Metadata>(&rt, alloc, METADATA)
+    record::<Tools>(alloc, LISTED)?;
+    record::<Tools>(alloc, TOOLS)?;
+    record::<Metadata>(alloc, METADATA)
 }
 
 const ONE: &str = r#"{"name":"n","type":"file"}"#;
@@ -73,12 +73,19 @@ const VARIANTS: &str = r#"{"variants":[{"name":"n","type":"file"}]}"#;
 fn fitting(rt: HostRuntime) -> Result<(), Fail> {
     let alloc = rt.alloc();
     let component = held::<Component>(alloc, ONE, V5)?;
-    row_holds(&rt, ONE, component.fits(V4) && !component.fits(V3));
+    let is_so = component.fits(V4) && !component.fits(V3);
+    drop(component);
+    row_holds(ONE, "it fits 1.4 and not 1.3", is_so)?;
     let components = held::<Components>(alloc, BARE, V5)?;
-    row_holds(&rt, BARE, components.fits(V4) && !components.fits(V3));
+    let is_so = components.fits(V4) && !components.fits(V3);
+    drop(components);
+    row_holds(BARE, "it fits 1.4 and not 1.3", is_so)?;
     let pedigree = held::<Pedigree>(alloc, VARIANTS, V5)?;
-    row_holds(&rt, VARIANTS, pedigree.fits(V4) && !pedigree.fits(V3));
+    let is_so = pedigree.fits(V4) && !pedigree.fits(V3);
+    drop(pedigree);
+    row_holds(VARIANTS, "it fits 1.4 and not 1.3", is_so)?;
     let metadata = held::<Metadata>(alloc, MAIN, V5)?;
-    row_holds(&rt, MAIN, metadata.fits(V4) && !metadata.fits(V3));
-    Ok(())
+    let is_so = metadata.fits(V4) && !metadata.fits(V3);
+    drop(metadata);
+    row_holds(MAIN, "it fits 1.4 and not 1.3", is_so)
 }

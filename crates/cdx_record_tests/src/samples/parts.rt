@@ -11,11 +11,11 @@ const SWID: &str =
 #[test]
 fn names_and_tags(rt: HostRuntime) -> Result<(), Fail> {
     let alloc = rt.alloc();
-    in_json::<MimeType>(&rt, alloc, r#""text/plain""#)?;
-    lone::<MimeType>(&rt, alloc, r#""text/plain" -> text/plain"#)?;
-    lone::<Cpe>(&rt, alloc, r#""cpe:/a:b" -> cpe:/a:b"#)?;
-    record::<Cpe>(&rt, alloc, r#""cpe:/a:b" -> <cpe|=cpe:/a:b|>cpe"#)?;
-    record::<Swid>(&rt, alloc, SWID)
+    in_json::<MimeType>(alloc, r#""text/plain""#)?;
+    lone::<MimeType>(alloc, r#""text/plain" -> text/plain"#)?;
+    lone::<Cpe>(alloc, r#""cpe:/a:b" -> cpe:/a:b"#)?;
+    record::<Cpe>(alloc, r#""cpe:/a:b" -> <cpe|=cpe:/a:b|>cpe"#)?;
+    record::<Swid>(alloc, SWID)
 }
 
 const EVIDENCE: &str =
@@ -28,9 +28,9 @@ const COPYRIGHT_TEXTS: &str = r#"[{"text":"c"}] -> <copyright|<text|!c|>text|>co
 #[test]
 fn evidence(rt: HostRuntime) -> Result<(), Fail> {
     let alloc = rt.alloc();
-    record::<ComponentEvidence>(&rt, alloc, EVIDENCE)?;
-    record::<Copyright>(&rt, alloc, COPYRIGHT)?;
-    record::<CopyrightTexts>(&rt, alloc, COPYRIGHT_TEXTS)
+    record::<ComponentEvidence>(alloc, EVIDENCE)?;
+    record::<Copyright>(alloc, COPYRIGHT)?;
+    record::<CopyrightTexts>(alloc, COPYRIGHT_TEXTS)
 }
 
 const CLASSIFICATION: &str =
@@ -46,7 +46,7 @@ const DATA: &str =
 #[test]
 fn data(rt: HostRuntime) -> Result<(), Fail> {
     let alloc = rt.alloc();
-    record::<DataClassification>(&rt, alloc, CLASSIFICATION)?;
-    record::<ServiceData>(&rt, alloc, FLOW)?;
-    record::<Data>(&rt, alloc, DATA)
+    record::<DataClassification>(alloc, CLASSIFICATION)?;
+    record::<ServiceData>(alloc, FLOW)?;
+    record::<Data>(alloc, DATA)
 }

@@ -13,9 +13,9 @@ const DEPENDENCIES: &str =
 #[test]
 fn dependencies(rt: HostRuntime) -> Result<(), Fail> {
     let alloc = rt.alloc();
-    named::<BomReference>(&rt, alloc, r#""a" -> <n ref=a|>n"#)?;
-    record::<Dependency>(&rt, alloc, DEPENDENCY)?;
-    record::<Dependencies>(&rt, alloc, DEPENDENCIES)
+    named::<BomReference>(alloc, r#""a" -> <n ref=a|>n"#)?;
+    record::<Dependency>(alloc, DEPENDENCY)?;
+    record::<Dependencies>(alloc, DEPENDENCIES)
 }
 
 const COMPOSITION: &str =
@@ -27,6 +27,6 @@ const COMPOSITIONS: &str =
 #[test]
 fn compositions(rt: HostRuntime) -> Result<(), Fail> {
     let alloc = rt.alloc();
-    record::<Composition>(&rt, alloc, COMPOSITION)?;
-    record::<Compositions>(&rt, alloc, COMPOSITIONS)
+    record::<Composition>(alloc, COMPOSITION)?;
+    record::<Compositions>(alloc, COMPOSITIONS)
 }

@@ -1,8 +1,8 @@
 //! Questions about bills, and the components of a bill.
 
-use crate::tests::expect::holds;
 use cdx_inventory::inventory;
 use cdx_models::SpecVersion;
+use cdx_test_cases::checks::{holds, text_is};
 use cdx_tool::{NoBill, RequestError, read_question, take_bill};
 use serde_json::Value;
 use std::test::Fail;
@@ -13,15 +13,16 @@ const QUESTION: &str =
 #[test]
 fn entries(rt: HostRuntime) -> Result<(), Fail> {
     let alloc = rt.alloc();
-    let bill = take_bill(alloc, Value::from_str(alloc, QUESTION)?).expect(&rt, "a bill");
+    let bill = take_bill(alloc, Value::from_str(alloc, QUESTION)?)?;
     let all = inventory(alloc, &bill, None)?;
-    holds(&rt, all.len() == 2);
     let licensed = inventory(alloc, &bill, Some("E"))?;
-    holds(&rt, licensed.len() == 1);
+    drop(bill);
+    holds("two components are listed", all.len() == 2)?;
+    holds("one component is under the license", licensed.len() == 1)?;
     for entry in licensed.as_slice() {
-        holds(&rt, entry.path.print(alloc)?.as_str() == "/components/0");
-        holds(&rt, entry.name.as_str() == "a");
-        holds(&rt, entry.licenses.len() == 1);
+        text_is(entry.path.print(alloc)?.as_str(), "/components/0")?;
+        text_is(entry.name.as_str(), "a")?;
+        holds("it is under one license", entry.licenses.len() == 1)?;
     }
     Ok(())
 }
@@ -29,21 +30,13 @@ fn entries(rt: HostRuntime) -> Result<(), Fail> {
 #[test]
 fn questions(rt: HostRuntime) -> Result<(), Fail> {
     let alloc = rt.alloc();
-    let question = read_question(alloc, Value::from_str(alloc, QUESTION)?).expect(
-        &rt,
-        "a question",
+    let from = read_question(alloc, Value::from_str(alloc, QUESTION)?)?.from;
+    holds("the question is of 1.4", from == SpecVersion::V1_4)?;
+    let is_shapeless = matches!(read_question(alloc, Value::Null), Err(RequestError::Shape));
+    holds("null is no question", is_shapeless)?;
+    let is_shapeless = matches!(
+        take_bill(alloc, Value::Null),
+        Err(NoBill::Misread(RequestError::Shape))
     );
-    holds(&rt, question.from == SpecVersion::V1_4);
-    holds(
-        &rt,
-        matches!(read_question(alloc, Value::Null), Err(RequestError::Shape)),
-    );
-    holds(
-        &rt,
-        matches!(
-            take_bill(alloc, Value::Null),
-            Err(NoBill::Misread(RequestError::Shape))
-        ),
-    );
-    Ok(())
+    holds("null has no bill", is_shapeless)
 }

@@ -1,11 +1,10 @@
 //! The components of bills as the program answers them.
 
-use crate::tests::expect::{holds, row_holds};
 use cdx_events::{List, MemorySink, MemorySource, SoundSource};
 use cdx_inventory::stock;
+use cdx_test_cases::checks::{holds, row_holds};
 use cdx_test_cases::inputs::{bytes_of, words_of};
-use std::alloc::{AllocError, Global};
-use std::process::Abort;
+use std::alloc::Global;
 use std::test::Fail;
 
 // A question about the bill of a build tool.
@@ -207,47 +206,47 @@ const REFUSED: [(&str, &str); 8] = [
 const SHOP_IN_XML: &str =
     r#"{"from":"1.4","doc":{"xml":[{"document":"start"},{"element":"bom","default":"http://cyclonedx.org/schema/bom/1.4"},{"element":"metadata"},{"element":"component","attributes":[{"name":"type","value":"application"}]},{"element":"name"},{"text":"shop"},{"end":"name"},{"element":"version"},{"text":"1.0.0"},{"end":"version"},{"end":"component"},{"end":"metadata"},{"element":"components"},{"element":"component","attributes":[{"name":"type","value":"library"}]},{"element":"name"},{"text":"log"},{"end":"name"},{"element":"version"},{"text":"0.4.20"},{"end":"version"},{"element":"licenses"},{"element":"license"},{"element":"id"},{"text":"MIT"},{"end":"id"},{"end":"license"},{"element":"expression"},{"text":"MIT OR Apache-2.0"},{"end":"expression"},{"end":"licenses"},{"end":"component"},{"end":"components"},{"end":"bom"},{"document":"end"}]}}"#;
 
-// Ends the test where the program doesn't end so, or leaves something of its answer unwritten or not flushed.
+// A failure where the program doesn't end so, or leaves something of its answer unwritten or not flushed.
 fn ends_so(
-    rt: &impl Abort,
     alloc: Global,
     words: &[&str],
     question: &str,
     status: u8,
     answer: &str,
-) -> Result<(), AllocError> {
+) -> Result<(), Fail> {
     let words = words_of(alloc, words)?;
     let mut source = SoundSource::new(bytes_of(alloc, question)?);
     let mut sink = MemorySink::new(alloc, 4096, 10, List::new(alloc))?;
     let found = stock(alloc, words.as_slice(), &mut source, &mut sink);
     let text = format!(in alloc; "{answer}\n")?;
-    row_holds(rt, question, sink.written() == text.as_bytes());
-    row_holds(rt, question, sink.flushed() == text.len());
-    row_holds(rt, question, found == status);
-    Ok(())
+    row_holds(
+        question,
+        "what is written is the answer",
+        sink.written() == text.as_bytes(),
+    )?;
+    row_holds(
+        question,
+        "the answer is flushed",
+        sink.flushed() == text.len(),
+    )?;
+    row_holds(question, "the status is the row's", found == status)
 }
 
-// Ends the test where the program doesn't answer these components for the bill of 1.5 with these members.
-fn lists(
-    rt: &impl Abort,
-    alloc: Global,
-    words: &[&str],
-    members: &str,
-    components: &str,
-) -> Result<(), AllocError> {
+// A failure where the program doesn't answer these components for the bill of 1.5 with these members.
+fn lists(alloc: Global, words: &[&str], members: &str, components: &str) -> Result<(), Fail> {
     let head =
         r#"{"from":"1.5","doc":{"json":{"bomFormat":"CycloneDX","specVersion":"1.5","version":1,"#;
     let question = format!(in alloc; "{head}{members}}}}}}}")?;
     let answer = format!(in alloc; "{{\"components\":[{components}]}}")?;
-    ends_so(rt, alloc, words, question.as_str(), 0, answer.as_str())
+    ends_so(alloc, words, question.as_str(), 0, answer.as_str())
 }
 
 #[test]
 fn a_shop(rt: HostRuntime) -> Result<(), Fail> {
     let alloc = rt.alloc();
     for (words, answer) in &SHOP_LISTS {
-        ends_so(&rt, alloc, words, SHOP, 0, answer)?;
-        ends_so(&rt, alloc, words, SHOP_IN_XML, 0, answer)?;
+        ends_so(alloc, words, SHOP, 0, answer)?;
+        ends_so(alloc, words, SHOP_IN_XML, 0, answer)?;
     }
     Ok(())
 }
@@ -256,7 +255,7 @@ fn a_shop(rt: HostRuntime) -> Result<(), Fail> {
 fn components_in_each_place(rt: HostRuntime) -> Result<(), Fail> {
     let alloc = rt.alloc();
     for (members, components) in &PLACES {
-        lists(&rt, alloc, &["list"], members, components)?;
+        lists(alloc, &["list"], members, components)?;
     }
     Ok(())
 }
@@ -265,7 +264,7 @@ fn components_in_each_place(rt: HostRuntime) -> Result<(), Fail> {
 fn components_under_a_license(rt: HostRuntime) -> Result<(), Fail> {
     let alloc = rt.alloc();
     for (license, members, components) in &UNDER {
-        lists(&rt, alloc, &["list", license], members, components)?;
+        lists(alloc, &["list", license], members, components)?;
     }
     Ok(())
 }
@@ -280,11 +279,11 @@ fn other_words(rt: HostRuntime) -> Result<(), Fail> {
         let mut source = MemorySource::new(bytes_of(alloc, SHOP)?, 4096, fails);
         let mut sink = MemorySink::new(alloc, 4096, 10, List::new(alloc))?;
         let found = stock(alloc, words.as_slice(), &mut source, &mut sink);
-        holds(&rt, found == 2);
+        holds("other words end with status 2", found == 2)?;
         holds(
-            &rt,
+            "what is written is the refusal",
             sink.written() == "{\"request\":\"words\"}\n".as_bytes(),
-        );
+        )?;
     }
     Ok(())
 }
@@ -293,12 +292,12 @@ fn other_words(rt: HostRuntime) -> Result<(), Fail> {
 fn refusals(rt: HostRuntime) -> Result<(), Fail> {
     let alloc = rt.alloc();
     for (question, answer) in &NO_QUESTIONS {
-        ends_so(&rt, alloc, &["list"], question, 2, answer)?;
-        ends_so(&rt, alloc, &["list", "MIT"], question, 2, answer)?;
+        ends_so(alloc, &["list"], question, 2, answer)?;
+        ends_so(alloc, &["list", "MIT"], question, 2, answer)?;
     }
     for (question, answer) in &REFUSED {
-        ends_so(&rt, alloc, &["list"], question, 1, answer)?;
-        ends_so(&rt, alloc, &["list", "MIT"], question, 1, answer)?;
+        ends_so(alloc, &["list"], question, 1, answer)?;
+        ends_so(alloc, &["list", "MIT"], question, 1, answer)?;
     }
     Ok(())
 }
@@ -311,14 +310,13 @@ fn one_byte_too_many(rt: HostRuntime) -> Result<(), Fail> {
     let mut source = SoundSource::new(List::from_vec(spaces));
     let mut sink = MemorySink::new(alloc, 64, 64, List::new(alloc))?;
     holds(
-        &rt,
+        "a byte too many ends with status 6",
         stock(alloc, words.as_slice(), &mut source, &mut sink) == 6,
-    );
+    )?;
     holds(
-        &rt,
+        "what is written is the refusal",
         sink.written() == "{\"request\":\"too long\"}\n".as_bytes(),
-    );
-    Ok(())
+    )
 }
 
 // A call of the source and one of the sink fail, after which so many bytes of the answer are written.
@@ -337,9 +335,12 @@ fn failing_ends(rt: HostRuntime) -> Result<(), Fail> {
         let mut source = MemorySource::new(bytes_of(alloc, SHOP)?, 64, source_fails);
         let mut sink = MemorySink::new(alloc, 4096, 10, sink_fails)?;
         let found = stock(alloc, words.as_slice(), &mut source, &mut sink);
-        holds(&rt, found == status);
-        holds(&rt, sink.written().len() == written);
-        holds(&rt, answer.starts_with(sink.written()));
+        holds("the status tells whose call failed", found == status)?;
+        holds("so many bytes are written", sink.written().len() == written)?;
+        holds(
+            "what is written begins the answer",
+            answer.starts_with(sink.written()),
+        )?;
     }
     Ok(())
 }

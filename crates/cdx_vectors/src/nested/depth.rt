@@ -1,13 +1,12 @@
 //! How deep components and services may stand in each other: 32 are read, and one inside them isn't.
 
-use crate::expect::row_is;
 use cdx_json::{FromJson, ToJson};
 use cdx_leaf::FromXml;
 use cdx_nest::{Components, Services};
+use cdx_test_cases::checks::row_is;
 use cdx_test_cases::forms::{V5, again, chain, read};
 use cdx_test_cases::rows::row;
 use std::alloc::Global;
-use std::process::Abort;
 use std::test::Fail;
 
 // What stands before the next value inside, and after it, where dots stand for that.
@@ -17,20 +16,16 @@ fn ends(value: &str) -> (&str, &str) {
 
 // Lists of each value are read and written where 32 stand in each other, and 33 are refused at the last one's path, which
 // leads through so many of the row's steps.
-fn nest_in_json<T: FromJson + ToJson + Drop>(
-    rt: &impl Abort,
-    alloc: Global,
-    rows: &str,
-) -> Result<(), Fail> {
+fn nest_in_json<T: FromJson + ToJson + Drop>(alloc: Global, rows: &str) -> Result<(), Fail> {
     for line in rows.lines() {
         if let Some((value, step)) = row(line) {
             let shallow = chain(alloc, "[", ends(value), 32, "]")?;
             let answer = again::<T>(alloc, shallow.as_str(), V5)?;
-            row_is(rt, value, answer.as_str(), shallow.as_str());
+            row_is(value, answer.as_str(), shallow.as_str())?;
             let deep = chain(alloc, "[", ends(value), 33, "]")?;
             let answer = again::<T>(alloc, deep.as_str(), V5)?;
             let fault = chain(alloc, "TooDeep /0", (step, ""), 32, "")?;
-            row_is(rt, value, answer.as_str(), fault.as_str());
+            row_is(value, answer.as_str(), fault.as_str())?;
         }
     }
     Ok(())
@@ -48,17 +43,12 @@ const SERVICES: &str = r#"
 #[test]
 fn in_json(rt: HostRuntime) -> Result<(), Fail> {
     let alloc = rt.alloc();
-    nest_in_json::<Components>(&rt, alloc, COMPONENTS)?;
-    nest_in_json::<Services>(&rt, alloc, SERVICES)
+    nest_in_json::<Components>(alloc, COMPONENTS)?;
+    nest_in_json::<Services>(alloc, SERVICES)
 }
 
 // In the element of a list 32 of each element are read as the row's values, and 33 are refused as it says.
-fn nest_in_xml<T: FromXml + ToJson>(
-    rt: &impl Abort,
-    alloc: Global,
-    list: &str,
-    rows: &str,
-) -> Result<(), Fail> {
+fn nest_in_xml<T: FromXml + ToJson>(alloc: Global, list: &str, rows: &str) -> Result<(), Fail> {
     let (first, last) = ends(list);
     for line in rows.lines() {
         if let Some((element, answer)) = row(line) {
@@ -66,10 +56,10 @@ fn nest_in_xml<T: FromXml + ToJson>(
             let shallow = chain(alloc, first, ends(element), 32, last)?;
             let found = read::<T>(alloc, shallow.as_str(), V5)?;
             let values = chain(alloc, "[", ends(value), 32, "]")?;
-            row_is(rt, element, found.as_str(), values.as_str());
+            row_is(element, found.as_str(), values.as_str())?;
             let deep = chain(alloc, first, ends(element), 33, last)?;
             let found = read::<T>(alloc, deep.as_str(), V5)?;
-            row_is(rt, element, found.as_str(), fault);
+            row_is(element, found.as_str(), fault)?;
         }
     }
     Ok(())
@@ -89,6 +79,6 @@ const SERVICE_ELEMENTS: &str = r#"
 #[test]
 fn in_xml(rt: HostRuntime) -> Result<(), Fail> {
     let alloc = rt.alloc();
-    nest_in_xml::<Components>(&rt, alloc, "<components|...>components", COMPONENT_ELEMENTS)?;
-    nest_in_xml::<Services>(&rt, alloc, "<services|...>services", SERVICE_ELEMENTS)
+    nest_in_xml::<Components>(alloc, "<components|...>components", COMPONENT_ELEMENTS)?;
+    nest_in_xml::<Services>(alloc, "<services|...>services", SERVICE_ELEMENTS)
 }

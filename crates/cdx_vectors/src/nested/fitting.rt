@@ -1,7 +1,7 @@
 //! Which versions can hold a component without a version of its own, and lists of components and services.
 
-use crate::expect::{holds, row_holds};
 use cdx_nest::{Component, Components, Metadata, Pedigree, Service, Services};
+use cdx_test_cases::checks::{holds, row_holds};
 use cdx_test_cases::forms::{V3, V4, V5, held};
 use cdx_test_cases::rows::row;
 use std::alloc::Global;
@@ -33,14 +33,23 @@ fn versions_asked_in_1_3(rt: HostRuntime) -> Result<(), Fail> {
     let alloc = rt.alloc();
     for line in WITHOUT_VERSION.lines() {
         if let Some((text, _)) = row(line) {
-            row_holds(&rt, text, component_fits(alloc, text)? == (true, false));
+            row_holds(
+                text,
+                "it fits 1.4 and not 1.3",
+                component_fits(alloc, text)? == (true, false),
+            )?;
         }
     }
     let main = r#"{"component":{"name":"n","type":"file"}}"#;
-    holds(&rt, metadata_fits(alloc, main)? == (true, false));
+    holds(
+        "metadata with such a component fits 1.4 and not 1.3",
+        metadata_fits(alloc, main)? == (true, false),
+    )?;
     let tool = r#"{"tools":{"components":[{"name":"n","type":"file"}]}}"#;
-    holds(&rt, metadata_fits(alloc, tool)? == (true, true));
-    Ok(())
+    holds(
+        "metadata with such a tool fits both",
+        metadata_fits(alloc, tool)? == (true, true),
+    )
 }
 
 // The list of one component.
@@ -59,13 +68,19 @@ fn is_first(alloc: Global, text: &str) -> Result<bool, Fail> {
 #[test]
 fn lists_of_components(rt: HostRuntime) -> Result<(), Fail> {
     let alloc = rt.alloc();
-    holds(&rt, Components::new(alloc).len() == 0);
-    holds(&rt, is_first(alloc, BARE)?);
+    let is_empty = Components::new(alloc).len() == 0;
+    holds("a new list is empty", is_empty)?;
+    holds(
+        "the first of the list is the component",
+        is_first(alloc, BARE)?,
+    )?;
     let components = holding(alloc, BARE)?;
-    holds(&rt, components.as_slice().len() == 1);
-    holds(&rt, components.get(1).is_none());
-    holds(&rt, components == holding(alloc, BARE)?);
-    Ok(())
+    let is_equal = components == holding(alloc, BARE)?;
+    let (count, has_second) = (components.as_slice().len(), components.get(1).is_some());
+    drop(components);
+    holds("the list has one component", count == 1)?;
+    holds("the list has no second component", !has_second)?;
+    holds("two lists of one component are equal", is_equal)
 }
 
 #[test]
@@ -73,9 +88,12 @@ fn lists_of_services(rt: HostRuntime) -> Result<(), Fail> {
     let alloc = rt.alloc();
     let mut services = Services::new(alloc);
     services.push(held::<Service>(alloc, r#"{"name":"n"}"#, V5)?)?;
-    holds(&rt, services.len() == 1);
-    holds(&rt, services != Services::new(alloc));
-    holds(&rt, services.get(0).is_some());
-    holds(&rt, held::<Pedigree>(alloc, "{}", V5)?.fits(V3));
-    Ok(())
+    let (count, has_first) = (services.len(), services.get(0).is_some());
+    let is_new = services == Services::new(alloc);
+    drop(services);
+    holds("the list has one service", count == 1)?;
+    holds("the list has a first service", has_first)?;
+    holds("the list isn't a new one", !is_new)?;
+    let fits = held::<Pedigree>(alloc, "{}", V5)?.fits(V3);
+    holds("a pedigree of nothing fits 1.3", fits)
 }

@@ -88,8 +88,8 @@ const METADATA: &str = r#"
 #[test]
 fn components_services_tools_and_metadata(rt: HostRuntime) -> Result<(), Fail> {
     let alloc = rt.alloc();
-    records::<Component>(&rt, alloc, COMPONENT)?;
-    records::<Service>(&rt, alloc, SERVICE)?;
-    records::<Tools>(&rt, alloc, TOOLS)?;
-    records::<Metadata>(&rt, alloc, METADATA)
+    records::<Component>(alloc, COMPONENT)?;
+    records::<Service>(alloc, SERVICE)?;
+    records::<Tools>(alloc, TOOLS)?;
+    records::<Metadata>(alloc, METADATA)
 }

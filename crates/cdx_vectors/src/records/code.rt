@@ -94,12 +94,12 @@ const PATCHES: &str = r#"
 #[test]
 fn commits_issues_and_patches(rt: HostRuntime) -> Result<(), Fail> {
     let alloc = rt.alloc();
-    named::<IdentifiableAction>(&rt, alloc, IDENTIFIABLE_ACTION)?;
-    records::<Commit>(&rt, alloc, COMMIT)?;
-    records::<Commits>(&rt, alloc, COMMITS)?;
-    records::<Source>(&rt, alloc, SOURCE)?;
-    records::<Issue>(&rt, alloc, ISSUE)?;
-    records::<Diff>(&rt, alloc, DIFF)?;
-    records::<Patch>(&rt, alloc, PATCH)?;
-    records::<Patches>(&rt, alloc, PATCHES)
+    named::<IdentifiableAction>(alloc, IDENTIFIABLE_ACTION)?;
+    records::<Commit>(alloc, COMMIT)?;
+    records::<Commits>(alloc, COMMITS)?;
+    records::<Source>(alloc, SOURCE)?;
+    records::<Issue>(alloc, ISSUE)?;
+    records::<Diff>(alloc, DIFF)?;
+    records::<Patch>(alloc, PATCH)?;
+    records::<Patches>(alloc, PATCHES)
 }

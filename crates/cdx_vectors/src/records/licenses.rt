@@ -100,11 +100,11 @@ const SIGNATURE: &str = r#"
 #[test]
 fn licenses_and_signatures(rt: HostRuntime) -> Result<(), Fail> {
     let alloc = rt.alloc();
-    values::<Expression>(&rt, alloc, EXPRESSION)?;
-    readings::<License>(&rt, alloc, LICENSE)?;
-    records::<LicenseIdentifier>(&rt, alloc, LICENSE_IDENTIFIER)?;
-    records::<LicenseChoice>(&rt, alloc, LICENSE_CHOICE)?;
-    records::<Licenses>(&rt, alloc, LICENSES)?;
-    records::<Signer>(&rt, alloc, SIGNER)?;
-    records::<Signature>(&rt, alloc, SIGNATURE)
+    values::<Expression>(alloc, EXPRESSION)?;
+    readings::<License>(alloc, LICENSE)?;
+    records::<LicenseIdentifier>(alloc, LICENSE_IDENTIFIER)?;
+    records::<LicenseChoice>(alloc, LICENSE_CHOICE)?;
+    records::<Licenses>(alloc, LICENSES)?;
+    records::<Signer>(alloc, SIGNER)?;
+    records::<Signature>(alloc, SIGNATURE)
 }

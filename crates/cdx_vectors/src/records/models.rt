@@ -79,15 +79,15 @@ const PROPERTIES: &str = r#"
 #[test]
 fn values_hashes_and_properties(rt: HostRuntime) -> Result<(), Fail> {
     let alloc = rt.alloc();
-    values::<bool>(&rt, alloc, BOOLEANS)?;
-    values::<u32>(&rt, alloc, NUMBERS)?;
-    values::<UrnUuid>(&rt, alloc, URN_UUID)?;
-    values::<HashValue>(&rt, alloc, HASH_VALUE)?;
-    named::<AttachedText>(&rt, alloc, ATTACHED_TEXT)?;
-    records::<Hash>(&rt, alloc, HASH)?;
-    records::<Hashes>(&rt, alloc, HASHES)?;
-    records::<Property>(&rt, alloc, PROPERTY)?;
-    records::<Properties>(&rt, alloc, PROPERTIES)
+    values::<bool>(alloc, BOOLEANS)?;
+    values::<u32>(alloc, NUMBERS)?;
+    values::<UrnUuid>(alloc, URN_UUID)?;
+    values::<HashValue>(alloc, HASH_VALUE)?;
+    named::<AttachedText>(alloc, ATTACHED_TEXT)?;
+    records::<Hash>(alloc, HASH)?;
+    records::<Hashes>(alloc, HASHES)?;
+    records::<Property>(alloc, PROPERTY)?;
+    records::<Properties>(alloc, PROPERTIES)
 }
 
 const ORGANIZATIONAL_CONTACT: &str = r#"
@@ -174,9 +174,9 @@ const TOOL: &str = r#"
 #[test]
 fn organizations_references_and_tools(rt: HostRuntime) -> Result<(), Fail> {
     let alloc = rt.alloc();
-    named::<OrganizationalContact>(&rt, alloc, ORGANIZATIONAL_CONTACT)?;
-    named::<OrganizationalEntity>(&rt, alloc, ORGANIZATIONAL_ENTITY)?;
-    records::<ExternalReference>(&rt, alloc, EXTERNAL_REFERENCE)?;
-    records::<ExternalReferences>(&rt, alloc, EXTERNAL_REFERENCES)?;
-    records::<Tool>(&rt, alloc, TOOL)
+    named::<OrganizationalContact>(alloc, ORGANIZATIONAL_CONTACT)?;
+    named::<OrganizationalEntity>(alloc, ORGANIZATIONAL_ENTITY)?;
+    records::<ExternalReference>(alloc, EXTERNAL_REFERENCE)?;
+    records::<ExternalReferences>(alloc, EXTERNAL_REFERENCES)?;
+    records::<Tool>(alloc, TOOL)
 }

@@ -127,13 +127,13 @@ const DATA: &str = r#"
 #[test]
 fn tags_evidence_and_data(rt: HostRuntime) -> Result<(), Fail> {
     let alloc = rt.alloc();
-    records::<Swid>(&rt, alloc, SWID)?;
-    records::<Cpe>(&rt, alloc, CPE)?;
-    values::<MimeType>(&rt, alloc, MIME_TYPE)?;
-    records::<ComponentEvidence>(&rt, alloc, COMPONENT_EVIDENCE)?;
-    records::<Copyright>(&rt, alloc, COPYRIGHT)?;
-    records::<CopyrightTexts>(&rt, alloc, COPYRIGHT_TEXTS)?;
-    records::<DataClassification>(&rt, alloc, DATA_CLASSIFICATION)?;
-    records::<ServiceData>(&rt, alloc, SERVICE_DATA)?;
-    records::<Data>(&rt, alloc, DATA)
+    records::<Swid>(alloc, SWID)?;
+    records::<Cpe>(alloc, CPE)?;
+    values::<MimeType>(alloc, MIME_TYPE)?;
+    records::<ComponentEvidence>(alloc, COMPONENT_EVIDENCE)?;
+    records::<Copyright>(alloc, COPYRIGHT)?;
+    records::<CopyrightTexts>(alloc, COPYRIGHT_TEXTS)?;
+    records::<DataClassification>(alloc, DATA_CLASSIFICATION)?;
+    records::<ServiceData>(alloc, SERVICE_DATA)?;
+    records::<Data>(alloc, DATA)
 }

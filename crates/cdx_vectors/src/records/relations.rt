@@ -66,9 +66,9 @@ const COMPOSITIONS: &str = r#"
 #[test]
 fn dependencies_and_compositions(rt: HostRuntime) -> Result<(), Fail> {
     let alloc = rt.alloc();
-    named::<BomReference>(&rt, alloc, BOM_REFERENCE)?;
-    records::<Dependency>(&rt, alloc, DEPENDENCY)?;
-    records::<Dependencies>(&rt, alloc, DEPENDENCIES)?;
-    records::<Composition>(&rt, alloc, COMPOSITION)?;
-    records::<Compositions>(&rt, alloc, COMPOSITIONS)
+    named::<BomReference>(alloc, BOM_REFERENCE)?;
+    records::<Dependency>(alloc, DEPENDENCY)?;
+    records::<Dependencies>(alloc, DEPENDENCIES)?;
+    records::<Composition>(alloc, COMPOSITION)?;
+    records::<Compositions>(alloc, COMPOSITIONS)
 }

@@ -1,8 +1,8 @@
 //! Requests, events and budgets that end early, at each length.
 
-use crate::tests::expect::{holds_at, row_is};
 use crate::tests::hostile::tool::{EVENTS, LINE, REQUEST, only, run_road};
 use cdx_events::{GatherError, MemoryEventSource, gather};
+use cdx_test_cases::checks::{holds, holds_at, text_is};
 use cdx_test_cases::documents::{line_of, list_of};
 use cdx_tool::answer_bytes;
 use std::alloc::{AllocError, Global};
@@ -15,9 +15,21 @@ fn each_byte_is_the_last(rt: HostRuntime) -> Result<(), Fail> {
     let wanted = "{\"request\":\"not JSON\"}\n".as_bytes();
     for len in 0..request.len() {
         let ended = run_road(alloc, &request[..len], 0, 0)?;
-        holds_at(&rt, len as u64, ended.status == 2);
-        holds_at(&rt, len as u64, ended.sink.written() == wanted);
-        holds_at(&rt, len as u64, ended.sink.flushed() == wanted.len());
+        holds_at(
+            len as u64,
+            "what is no JSON ends with status 2",
+            ended.status == 2,
+        )?;
+        holds_at(
+            len as u64,
+            "what is written is the refusal",
+            ended.sink.written() == wanted,
+        )?;
+        holds_at(
+            len as u64,
+            "the refusal is flushed",
+            ended.sink.flushed() == wanted.len(),
+        )?;
     }
     Ok(())
 }
@@ -43,15 +55,23 @@ fn each_event_is_the_last(rt: HostRuntime) -> Result<(), Fail> {
     let alloc = rt.alloc();
     let whole = request_of(alloc, &EVENTS)?;
     let answer = answer_bytes(alloc, whole.as_bytes())?;
-    holds_at(&rt, 13, answer.status == 0);
+    holds("all events are a document", answer.status == 0)?;
     for len in 0..EVENTS.len() {
         let request = request_of(alloc, &EVENTS[..len])?;
         let ended = run_road(alloc, request.as_bytes(), 0, 0)?;
         let wanted = format!(in alloc;
             "{{\"refused\":{{\"cause\":\"unbalanced\",\"place\":{len}}}}}\n"
         )?;
-        holds_at(&rt, len as u64, ended.status == 1);
-        holds_at(&rt, len as u64, ended.sink.written() == wanted.as_bytes());
+        holds_at(
+            len as u64,
+            "events that break end with status 1",
+            ended.status == 1,
+        )?;
+        holds_at(
+            len as u64,
+            "what is written is the refusal",
+            ended.sink.written() == wanted.as_bytes(),
+        )?;
     }
     Ok(())
 }
@@ -64,18 +84,15 @@ fn each_budget_is_spent(rt: HostRuntime) -> Result<(), Fail> {
         let gathered = gather(alloc, &mut source, budget);
         let is_spent = matches!(gathered, Err(GatherError::Budget { taken }) if taken == budget);
         holds_at(
-            &rt,
             budget as u64,
+            "the fault tells the budget, which is spent",
             is_spent && source.calls() == budget as u64,
-        );
+        )?;
     }
     let mut source = MemoryEventSource::new(list_of(alloc, LINE)?, only(alloc, 0)?);
-    let events = gather(alloc, &mut source, 13).expect(&rt, "all events");
-    row_is(
-        &rt,
-        "13",
+    let events = gather(alloc, &mut source, 13)?;
+    text_is(
         line_of(alloc, events.into_list().as_slice())?.as_str(),
         LINE,
-    );
-    Ok(())
+    )
 }

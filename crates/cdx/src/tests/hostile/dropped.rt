@@ -1,9 +1,8 @@
 //! Documents without their empty texts.
 
-use crate::tests::expect::row_is;
-use crate::tests::hostile::short::{bill, bill_text, events, read};
-use cdx_bom::Bom;
+use crate::tests::hostile::short::{bill, bill_text, read};
 use cdx_events::without_empty_texts;
+use cdx_test_cases::checks::row_is;
 use cdx_test_cases::documents::{document, line_of};
 use cdx_test_cases::rows::row;
 use std::alloc::Global;
@@ -25,7 +24,7 @@ fn events_that_are_left(rt: HostRuntime) -> Result<(), Fail> {
         if let Some((given, wanted)) = row(line) {
             let left = without_empty_texts(alloc, &document(alloc, given)?)?;
             let found = line_of(alloc, left.into_list().as_slice())?;
-            row_is(&rt, line, found.as_str(), wanted);
+            row_is(line, found.as_str(), wanted)?;
         }
     }
     Ok(())
@@ -65,7 +64,7 @@ fn bills_that_are_read(rt: HostRuntime) -> Result<(), Fail> {
             } else {
                 answer
             };
-            row_is(&rt, line, found.as_str(), wanted);
+            row_is(line, found.as_str(), wanted)?;
         }
     }
     Ok(())

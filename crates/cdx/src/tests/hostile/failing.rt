@@ -1,12 +1,12 @@
 //! Each call of a source and of a sink fails in turn, through the last that a run without a fault makes.
 
-use crate::tests::expect::holds_at;
 use crate::tests::hostile::tool::{ANSWER, LINE, REQUEST, STEP, only, run_road};
 use cdx_bom::Bom;
 use cdx_events::{
     Events, Failed, MemoryEventSink, MemorySink, SendError, Sink, Text, WriteSink, send,
 };
 use cdx_models::SpecVersion;
+use cdx_test_cases::checks::{holds, holds_at};
 use cdx_test_cases::documents::{line_of, list_of};
 use cdx_tool::put_answer;
 use std::io::{Error, ErrorKind, Write};
@@ -21,14 +21,24 @@ fn each_take_fails(rt: HostRuntime) -> Result<(), Fail> {
     let alloc = rt.alloc();
     let request = REQUEST.as_bytes();
     let sound = run_road(alloc, request, 0, 0)?;
-    holds_at(&rt, 0, sound.status == 0);
-    holds_at(&rt, 0, sound.sink.written() == ANSWER.as_bytes());
-    holds_at(&rt, 0, sound.taken >= request.len().div_ceil(STEP) as u64);
+    holds("a run without a fault ends well", sound.status == 0)?;
+    holds(
+        "what is written is the answer",
+        sound.sink.written() == ANSWER.as_bytes(),
+    )?;
+    holds(
+        "each piece of the request is taken",
+        sound.taken >= request.len().div_ceil(STEP) as u64,
+    )?;
     for before in 0..sound.taken {
         let call = before + 1;
         let ended = run_road(alloc, request, call, 0)?;
-        holds_at(&rt, call, ended.status == 3 && ended.taken == call);
-        holds_at(&rt, call, ended.sink.calls() == 0);
+        holds_at(
+            call,
+            "the fault is told, and no more is taken",
+            ended.status == 3 && ended.taken == call,
+        )?;
+        holds_at(call, "nothing is put", ended.sink.calls() == 0)?;
     }
     Ok(())
 }
@@ -43,10 +53,18 @@ fn each_put_fails(rt: HostRuntime) -> Result<(), Fail> {
         let call = before + 1;
         let ended = run_road(alloc, REQUEST.as_bytes(), 0, call)?;
         let written = ended.sink.written();
-        holds_at(&rt, call, ended.status == 4);
-        holds_at(&rt, call, answer.starts_with(written));
-        holds_at(&rt, call, (written == answer) == (call == calls));
-        holds_at(&rt, call, ended.sink.flushed() == 0);
+        holds_at(call, "the fault is told", ended.status == 4)?;
+        holds_at(
+            call,
+            "what is written begins the answer",
+            answer.starts_with(written),
+        )?;
+        holds_at(
+            call,
+            "only the flush comes after the whole answer",
+            (written == answer) == (call == calls),
+        )?;
+        holds_at(call, "nothing is flushed", ended.sink.flushed() == 0)?;
     }
     Ok(())
 }
@@ -63,23 +81,28 @@ fn is_flushed_once(sink: &MemorySink, bytes: &[u8]) -> bool {
 fn one_flush_at_the_end(rt: HostRuntime) -> Result<(), Fail> {
     let alloc = rt.alloc();
     let ended = run_road(alloc, REQUEST.as_bytes(), 0, 0)?;
-    holds_at(&rt, 0, is_flushed_once(&ended.sink, ANSWER.as_bytes()));
+    holds(
+        "the answer of a run is flushed once",
+        is_flushed_once(&ended.sink, ANSWER.as_bytes()),
+    )?;
     let mut sink = MemorySink::new(alloc, 4096, STEP, only(alloc, 0)?)?;
-    holds_at(
-        &rt,
-        1,
+    holds(
+        "the answer is put",
         put_answer(&Text::new(alloc, ANSWER)?, &mut sink).is_ok(),
-    );
-    holds_at(&rt, 1, is_flushed_once(&sink, ANSWER.as_bytes()));
+    )?;
+    holds(
+        "the answer that is put is flushed once",
+        is_flushed_once(&sink, ANSWER.as_bytes()),
+    )?;
     let mut sink = MemorySink::new(alloc, 4096, STEP, only(alloc, 0)?)?;
     let bill = Bom::new(SpecVersion::V1_4);
-    holds_at(
-        &rt,
-        2,
-        bill.write_json(alloc, SpecVersion::V1_4, &mut sink).is_ok(),
-    );
-    holds_at(&rt, 2, is_flushed_once(&sink, BARE_BILL.as_bytes()));
-    Ok(())
+    let is_written = bill.write_json(alloc, SpecVersion::V1_4, &mut sink).is_ok();
+    drop(bill);
+    holds("the bill is written", is_written)?;
+    holds(
+        "the bill is flushed once",
+        is_flushed_once(&sink, BARE_BILL.as_bytes()),
+    )
 }
 
 #[test]
@@ -91,10 +114,22 @@ fn each_event_put_fails(rt: HostRuntime) -> Result<(), Fail> {
         let mut sink = MemoryEventSink::new(alloc, 13, only(alloc, call)?)?;
         let sent = send(events, &mut sink);
         let is_told = matches!(sent, Err(SendError { put: found }) if found == put);
-        holds_at(&rt, call, is_told && sink.calls() == call);
+        holds_at(
+            call,
+            "the fault tells how many events were put",
+            is_told && sink.calls() == call,
+        )?;
         let line = line_of(alloc, sink.events())?;
-        holds_at(&rt, call, sink.events().len() == put);
-        holds_at(&rt, call, LINE.starts_with(line.as_str()));
+        holds_at(
+            call,
+            "so many events stand in the sink",
+            sink.events().len() == put,
+        )?;
+        holds_at(
+            call,
+            "what stands in the sink begins the document",
+            LINE.starts_with(line.as_str()),
+        )?;
     }
     Ok(())
 }
@@ -120,10 +155,22 @@ impl Write for Second {
 }
 
 #[test]
-fn a_fault_is_counted_once(rt: HostRuntime) {
+fn a_fault_is_counted_once() -> Result<(), Fail> {
     let mut sink = WriteSink::new(Second { calls: 0 });
-    holds_at(&rt, 1, sink.put(b"ab") == Ok(1) && sink.count() == 0);
-    holds_at(&rt, 2, sink.put(b"b") == Err(Failed) && sink.count() == 1);
-    holds_at(&rt, 3, sink.put(b"b") == Ok(1) && sink.count() == 1);
-    holds_at(&rt, 4, sink.flush() == Ok(()) && sink.count() == 1);
+    holds(
+        "the first call writes one byte",
+        sink.put(b"ab") == Ok(1) && sink.count() == 0,
+    )?;
+    holds(
+        "the second call fails, and is counted",
+        sink.put(b"b") == Err(Failed) && sink.count() == 1,
+    )?;
+    holds(
+        "the third call writes one byte",
+        sink.put(b"b") == Ok(1) && sink.count() == 1,
+    )?;
+    holds(
+        "the flush doesn't fail",
+        sink.flush() == Ok(()) && sink.count() == 1,
+    )
 }

@@ -1,9 +1,9 @@
 //! Documents that are deep, and attributes that stand twice.
 
-use crate::tests::expect::{holds_at, row_is};
 use crate::tests::hostile::short::{bill_text, events, read};
 use cdx_bom::Bom;
 use cdx_models::SpecVersion;
+use cdx_test_cases::checks::{holds, row_is, text_is};
 use cdx_test_cases::forms::chain;
 use cdx_tool::answer_bytes;
 use serde_json::Value;
@@ -16,8 +16,9 @@ fn unknown_elements(rt: HostRuntime) -> Result<(), Fail> {
     let alloc = rt.alloc();
     let notes = chain(alloc, "", ("<note|", ">note|"), 50_000, "")?;
     let bill = Bom::parse_from_xml_v1_5(alloc, &events(alloc, notes.as_str())?)?;
-    holds_at(&rt, 50_000, bill == Bom::new(SpecVersion::V1_5));
-    Ok(())
+    let is_new = bill == Bom::new(SpecVersion::V1_5);
+    drop(bill);
+    holds("a bill of unknown elements is a new one", is_new)
 }
 
 // 32 components, each an ancestor of the one before, of which the last has a patch for an issue with a reference.
@@ -62,18 +63,15 @@ fn deepest_answer(rt: HostRuntime) -> Result<(), Fail> {
         bill.as_str()
     )?;
     let answer = answer_bytes(alloc, request.as_bytes())?;
-    holds_at(&rt, 0, answer.status == 0);
+    holds("the deepest bill is carried", answer.status == 0)?;
     let wanted = format!(in alloc; "{{\"documents\":[{{\"json\":{}}}]}}\n", bill.as_str())?;
-    row_is(&rt, "the deepest", answer.text.as_str(), wanted.as_str());
-    holds_at(&rt, 107, nesting(answer.text.as_str()) == 107);
+    text_is(answer.text.as_str(), wanted.as_str())?;
+    holds(
+        "its answer nests 107 deep",
+        nesting(answer.text.as_str()) == 107,
+    )?;
     let again = Value::from_str(alloc, answer.text.as_str())?.to_string(alloc)?;
-    row_is(
-        &rt,
-        "read again",
-        again.as_str(),
-        wanted.as_str().trim_ascii(),
-    );
-    Ok(())
+    text_is(again.as_str(), wanted.as_str().trim_ascii())
 }
 
 // Of an attached text's attributes the last of a name counts, and of others the first.
@@ -85,11 +83,5 @@ fn repeated_attributes(rt: HostRuntime) -> Result<(), Fail> {
     let wanted =
         r#""components":[{"name":"c","swid":{"name":"n","tagId":"t","text":{"content":"x","contentType":"q"}},"type":"a"}],"#;
     let found = read(alloc, &events(alloc, given)?)?;
-    row_is(
-        &rt,
-        given,
-        found.as_str(),
-        bill_text(alloc, wanted)?.as_str(),
-    );
-    Ok(())
+    row_is(given, found.as_str(), bill_text(alloc, wanted)?.as_str())
 }
