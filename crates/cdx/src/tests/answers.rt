@@ -1,9 +1,9 @@
 //! Tables of what is asked and of its answers: a text of one row per line, with ` -> ` between the two. Blank lines and
 //! comments are passed over.
 
-use cdx_events::{List, MemorySink, SoundSource};
+use cdx_events::{Sink, Source};
 use cdx_test_cases::checks::{row_holds, row_is};
-use cdx_test_cases::inputs::bytes_of;
+use cdx_test_cases::programs::{Program, answers};
 use cdx_tool::{answer_bytes, run};
 use std::alloc::{AllocError, Global};
 use std::test::Fail;
@@ -18,11 +18,11 @@ fn row(line: &str) -> Option<(&str, &str)> {
     Some((asked.strip_suffix(' ').unwrap_or(asked), answer))
 }
 
-/// The words that the program is called with, each after a `|`.
-pub fn words_in(alloc: Global, asked: &str) -> Result<Vec<String>, AllocError> {
+// The words that the program is called with, each after a `|`.
+fn words_in(alloc: Global, asked: &str) -> Result<Vec<&str>, AllocError> {
     let mut words = Vec::new(alloc);
     for word in asked.split('|').skip(1) {
-        words.push(String::from_str(alloc, word)?)?;
+        words.push(word)?;
     }
     Ok(words)
 }
@@ -44,22 +44,26 @@ pub fn answered(alloc: Global, status: u8, rows: &str) -> Result<(), Fail> {
     Ok(())
 }
 
+/// The program, by its call.
+pub struct Tool;
+
+impl Program for Tool {
+    fn call<S: Source, K: Sink>(
+        alloc: Global,
+        words: &[String],
+        source: &mut S,
+        sink: &mut K,
+    ) -> u8 {
+        run(alloc, words, source, sink)
+    }
+}
+
 /// Compares, for the words of each row, the status with which the program ends, what it writes, and that it flushes that.
 pub fn ended(alloc: Global, input: &str, status: u8, rows: &str) -> Result<(), Fail> {
     for line in rows.lines() {
         if let Some((asked, text)) = row(line) {
             let words = words_in(alloc, asked)?;
-            let mut source = SoundSource::new(bytes_of(alloc, input)?);
-            let mut sink = MemorySink::new(alloc, 4096, 10, List::new(alloc))?;
-            let found = run(alloc, words.as_slice(), &mut source, &mut sink);
-            let text = format!(in alloc; "{text}\n")?;
-            row_holds(
-                asked,
-                "what is written is the answer",
-                sink.written() == text.as_bytes(),
-            )?;
-            row_holds(asked, "the answer is flushed", sink.flushed() == text.len())?;
-            row_holds(asked, "the status is the table's", found == status)?;
+            answers::<Tool>(alloc, words.as_slice(), input, status, text)?;
         }
     }
     Ok(())

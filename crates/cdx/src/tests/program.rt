@@ -1,10 +1,7 @@
 //! The program by its words.
 
-use crate::tests::answers::{ended, words_in};
-use cdx_events::{List, MemorySink, MemorySource, SoundSource};
-use cdx_test_cases::checks::holds;
-use cdx_test_cases::inputs::bytes_of;
-use cdx_tool::run;
+use crate::tests::answers::{Tool, ended};
+use cdx_test_cases::programs::{refuses_a_byte_more, tells_failing_calls};
 use std::test::Fail;
 
 const NO_HOP: &str =
@@ -49,43 +46,10 @@ fn largest_bill_made(rt: HostRuntime) -> Result<(), Fail> {
 
 #[test]
 fn one_byte_too_many(rt: HostRuntime) -> Result<(), Fail> {
-    let alloc = rt.alloc();
-    let words = words_in(alloc, "|road")?;
-    let spaces = vec![in alloc; b' '; 67_108_865]?;
-    let mut source = SoundSource::new(List::from_vec(spaces));
-    let mut sink = MemorySink::new(alloc, 64, 64, List::new(alloc))?;
-    holds(
-        "a byte too many ends with status 6",
-        run(alloc, words.as_slice(), &mut source, &mut sink) == 6,
-    )?;
-    holds(
-        "what is written is the refusal",
-        sink.written() == "{\"request\":\"too long\"}\n".as_bytes(),
-    )
+    refuses_a_byte_more::<Tool>(rt.alloc(), &["road"])
 }
 
-// A call of the source and one of the sink fail, after which so many bytes of the answer are written.
 #[test]
-fn failing_ends(rt: HostRuntime) -> Result<(), Fail> {
-    let alloc = rt.alloc();
-    let words = words_in(alloc, "|road")?;
-    let answer = "{\"documents\":[]}\n".as_bytes();
-    for (source_fails, sink_fails, status, written) in [
-        (2u64, 99u64, 3u8, 0usize),
-        (99, 2, 4, 10),
-        (99, 99, 0, 17),
-    ] {
-        let source_fails = List::from_vec([source_fails].to_vec(alloc)?);
-        let sink_fails = List::from_vec([sink_fails].to_vec(alloc)?);
-        let mut source = MemorySource::new(bytes_of(alloc, NO_HOP)?, 16, source_fails);
-        let mut sink = MemorySink::new(alloc, 4096, 10, sink_fails)?;
-        let found = run(alloc, words.as_slice(), &mut source, &mut sink);
-        holds("the status tells whose call failed", found == status)?;
-        holds("so many bytes are written", sink.written().len() == written)?;
-        holds(
-            "what is written begins the answer",
-            answer.starts_with(sink.written()),
-        )?;
-    }
-    Ok(())
+fn failing_calls(rt: HostRuntime) -> Result<(), Fail> {
+    tells_failing_calls::<Tool>(rt.alloc(), &["road"], NO_HOP, "{\"documents\":[]}")
 }

@@ -4,9 +4,8 @@
 //! passed over.
 
 use cdx_canon::canonical;
-use cdx_events::{List, MemorySink, MemorySource, SoundSource};
-use cdx_test_cases::checks::{holds, row_holds};
-use cdx_test_cases::inputs::{bytes_of, words_of};
+use cdx_events::{Sink, Source};
+use cdx_test_cases::programs::{Program, answers, refuses_words, tells_failing_calls};
 use std::alloc::{AllocError, Global};
 use std::test::Fail;
 
@@ -19,26 +18,17 @@ fn row(line: &str) -> Option<(&str, &str)> {
     Some(line.split_once(" -> ").unwrap_or((line, "no answer")))
 }
 
-// A failure where the words and the input don't get the answer with this status, or it isn't flushed.
-fn answered(
-    alloc: Global,
-    words: &[&str],
-    input: &str,
-    status: u8,
-    answer: &str,
-) -> Result<(), Fail> {
-    let words = words_of(alloc, words)?;
-    let mut source = SoundSource::new(bytes_of(alloc, input)?);
-    let mut sink = MemorySink::new(alloc, 8192, 1000, List::new(alloc))?;
-    let found = canonical(alloc, words.as_slice(), &mut source, &mut sink);
-    let line = format!(in alloc; "{answer}\n")?;
-    row_holds(
-        input,
-        "what is written is the answer",
-        sink.written() == line.as_bytes(),
-    )?;
-    row_holds(input, "the answer is flushed", sink.flushed() == line.len())?;
-    row_holds(input, "the status is the row's", found == status)
+struct Canonical;
+
+impl Program for Canonical {
+    fn call<S: Source, K: Sink>(
+        alloc: Global,
+        words: &[String],
+        source: &mut S,
+        sink: &mut K,
+    ) -> u8 {
+        canonical(alloc, words, source, sink)
+    }
 }
 
 // A question about two bills, of a question for each side.
@@ -54,7 +44,7 @@ fn two_answered(
     answer: &str,
 ) -> Result<(), Fail> {
     let both = pair(alloc, left, right)?;
-    answered(alloc, &["equal"], both.as_str(), status, answer)
+    answers::<Canonical>(alloc, &["equal"], both.as_str(), status, answer)
 }
 
 // Questions about a bill, and its text.
@@ -85,9 +75,9 @@ fn texts(rt: HostRuntime) -> Result<(), Fail> {
     let alloc = rt.alloc();
     for line in TEXTS.lines() {
         if let Some((asked, text)) = row(line) {
-            answered(alloc, &["text"], asked, 0, text)?;
+            answers::<Canonical>(alloc, &["text"], asked, 0, text)?;
             let again = format!(in alloc; "{{\"from\":\"1.5\",\"doc\":{{\"json\":{text}}}}}")?;
-            answered(alloc, &["text"], again.as_str(), 0, text)?;
+            answers::<Canonical>(alloc, &["text"], again.as_str(), 0, text)?;
             let is_equal = "{\"equal\":true}";
             two_answered(alloc, (asked, again.as_str()), 0, is_equal)?;
         }
@@ -164,7 +154,7 @@ fn sided(alloc: Global, refusal: &str, side: &str) -> Result<String, AllocError>
 // beside it comes first.
 fn refused_so(alloc: Global, asked: &str, refusal: &str) -> Result<(), Fail> {
     let alone = format!(in alloc; "{{\"refused\":{refusal}}}")?;
-    answered(alloc, &["text"], asked, 1, alone.as_str())?;
+    answers::<Canonical>(alloc, &["text"], asked, 1, alone.as_str())?;
     let left = sided(alloc, refusal, "left")?;
     two_answered(alloc, (asked, BILL), 1, left.as_str())?;
     two_answered(alloc, (asked, asked), 1, left.as_str())?;
@@ -242,12 +232,12 @@ const UNPAIRED: &str = r#"
 fn shapes(rt: HostRuntime) -> Result<(), Fail> {
     let alloc = rt.alloc();
     for asked in SHAPELESS.trim_ascii().lines() {
-        answered(alloc, &["text"], asked, 2, SHAPE)?;
+        answers::<Canonical>(alloc, &["text"], asked, 2, SHAPE)?;
         two_answered(alloc, (asked, BILL), 2, SHAPE)?;
         two_answered(alloc, (BILL, asked), 2, SHAPE)?;
     }
     for asked in UNPAIRED.trim_ascii().lines() {
-        answered(alloc, &["equal"], asked, 2, SHAPE)?;
+        answers::<Canonical>(alloc, &["equal"], asked, 2, SHAPE)?;
     }
     Ok(())
 }
@@ -267,7 +257,7 @@ const OTHER_WORDS: [&[&str]; 8] = [
 fn other_words(rt: HostRuntime) -> Result<(), Fail> {
     let alloc = rt.alloc();
     for words in &OTHER_WORDS {
-        answered(alloc, words, BILL, 2, "{\"request\":\"words\"}")?;
+        refuses_words::<Canonical>(alloc, words, BILL)?;
     }
     Ok(())
 }
@@ -277,39 +267,14 @@ fn no_json(rt: HostRuntime) -> Result<(), Fail> {
     let alloc = rt.alloc();
     let answer = "{\"request\":\"not JSON\"}";
     for input in ["", "{", "\u{feff}{}", "{}{}", "nul"] {
-        answered(alloc, &["text"], input, 2, answer)?;
-        answered(alloc, &["equal"], input, 2, answer)?;
+        answers::<Canonical>(alloc, &["text"], input, 2, answer)?;
+        answers::<Canonical>(alloc, &["equal"], input, 2, answer)?;
     }
     Ok(())
 }
 
-// A source and a sink that fail in their second call, and no command, which takes nothing from the source.
 #[test]
 fn failing_calls(rt: HostRuntime) -> Result<(), Fail> {
-    let alloc = rt.alloc();
-    let second = [2u64];
-    let words = words_of(alloc, &["text"])?;
-    let fails = List::from_vec(second.to_vec(alloc)?);
-    let mut source = MemorySource::new(bytes_of(alloc, BILL)?, 16, fails);
-    let mut sink = MemorySink::new(alloc, 4096, 10, List::new(alloc))?;
-    let status = canonical(alloc, words.as_slice(), &mut source, &mut sink);
-    holds(
-        "a source that fails ends it before anything is written",
-        status == 3 && sink.written().is_empty(),
-    )?;
-    let fails = List::from_vec(second.to_vec(alloc)?);
-    let mut source = SoundSource::new(bytes_of(alloc, BILL)?);
-    let mut sink = MemorySink::new(alloc, 4096, 10, fails)?;
-    let status = canonical(alloc, words.as_slice(), &mut source, &mut sink);
-    holds(
-        "a sink that fails ends it after ten bytes",
-        status == 4 && sink.written() == "{\"bomForma".as_bytes(),
-    )?;
-    let mut source = MemorySource::new(bytes_of(alloc, BILL)?, 16, List::new(alloc));
-    let mut sink = MemorySink::new(alloc, 4096, 4096, List::new(alloc))?;
-    let status = canonical(alloc, &[], &mut source, &mut sink);
-    holds(
-        "nothing is taken without a word",
-        status == 2 && source.calls() == 0,
-    )
+    let text = r#"{"bomFormat":"CycloneDX","specVersion":"1.5","version":1}"#;
+    tells_failing_calls::<Canonical>(rt.alloc(), &["text"], BILL, text)
 }

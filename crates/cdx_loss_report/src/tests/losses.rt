@@ -3,34 +3,26 @@
 //! A table is a text of one row per line, with ` -> ` between what is asked and its answer. Blank lines and comments are
 //! passed over.
 
-use cdx_events::{List, MemorySink, MemorySource, SoundSource};
+use cdx_events::{Sink, Source};
 use cdx_losses::report;
-use cdx_test_cases::checks::{holds, row_holds};
-use cdx_test_cases::inputs::{bytes_of, words_of};
+use cdx_test_cases::programs::{
+    Program, answers, refuses_a_byte_more, refuses_words, tells_failing_calls,
+};
 use cdx_test_cases::rows::row;
 use std::alloc::{AllocError, Global};
 use std::test::Fail;
 
-// A failure where the words and the input don't get the answer with this status, or it isn't flushed.
-fn answered(
-    alloc: Global,
-    words: &[&str],
-    input: &str,
-    status: u8,
-    answer: &str,
-) -> Result<(), Fail> {
-    let words = words_of(alloc, words)?;
-    let mut source = SoundSource::new(bytes_of(alloc, input)?);
-    let mut sink = MemorySink::new(alloc, 8192, 1000, List::new(alloc))?;
-    let found = report(alloc, words.as_slice(), &mut source, &mut sink);
-    let line = format!(in alloc; "{answer}\n")?;
-    row_holds(
-        input,
-        "what is written is the answer",
-        sink.written() == line.as_bytes(),
-    )?;
-    row_holds(input, "the answer is flushed", sink.flushed() == line.len())?;
-    row_holds(input, "the status is the row's", found == status)
+struct LossReport;
+
+impl Program for LossReport {
+    fn call<S: Source, K: Sink>(
+        alloc: Global,
+        words: &[String],
+        source: &mut S,
+        sink: &mut K,
+    ) -> u8 {
+        report(alloc, words, source, sink)
+    }
 }
 
 // ---- roads of a bill, and what they take
@@ -72,7 +64,7 @@ fn takes(alloc: Global, members: &str, hops: &str, losses: &str) -> Result<(), F
     )?;
     let losses = losses_of(alloc, losses)?;
     let answer = format!(in alloc; "{{\"losses\":[{losses}]}}")?;
-    answered(alloc, &["losses"], request.as_str(), 0, answer.as_str())
+    answers::<LossReport>(alloc, &["losses"], request.as_str(), 0, answer.as_str())
 }
 
 // One row: the hops and, after a `|`, the members of a bill; and the losses.
@@ -214,7 +206,7 @@ fn row_answered(alloc: Global, status: u8, line: &str) -> Result<(), Fail> {
     let Some((request, answer)) = row(line) else {
         return Ok(());
     };
-    answered(alloc, &["losses"], request, status, answer)
+    answers::<LossReport>(alloc, &["losses"], request, status, answer)
 }
 
 fn all_answered(alloc: Global, status: u8, rows: &str) -> Result<(), Fail> {
@@ -268,63 +260,30 @@ fn requests(rt: HostRuntime) -> Result<(), Fail> {
 const NO_HOP: &str =
     r#"{"from":"1.5","doc":{"json":{"bomFormat":"CycloneDX","specVersion":"1.5","version":1}},"hops":[]}"#;
 
+const OTHER_WORDS: [&[&str]; 6] = [
+    &[],
+    &[""],
+    &["loss"],
+    &["Losses"],
+    &["road"],
+    &["losses", "1.5"],
+];
+
 #[test]
 fn words(rt: HostRuntime) -> Result<(), Fail> {
     let alloc = rt.alloc();
-    let answer = "{\"request\":\"words\"}";
-    answered(alloc, &[], NO_HOP, 2, answer)?;
-    answered(alloc, &[""], NO_HOP, 2, answer)?;
-    answered(alloc, &["loss"], NO_HOP, 2, answer)?;
-    answered(alloc, &["Losses"], NO_HOP, 2, answer)?;
-    answered(alloc, &["road"], NO_HOP, 2, answer)?;
-    answered(alloc, &["losses", "1.5"], NO_HOP, 2, answer)?;
-    answered(alloc, &["losses"], "", 2, "{\"request\":\"not JSON\"}")
+    for words in &OTHER_WORDS {
+        refuses_words::<LossReport>(alloc, words, NO_HOP)?;
+    }
+    answers::<LossReport>(alloc, &["losses"], "", 2, "{\"request\":\"not JSON\"}")
 }
 
 #[test]
 fn one_byte_too_many(rt: HostRuntime) -> Result<(), Fail> {
-    let alloc = rt.alloc();
-    let words = words_of(alloc, &["losses"])?;
-    let spaces = vec![in alloc; b' '; 67_108_865]?;
-    let mut source = SoundSource::new(List::from_vec(spaces));
-    let mut sink = MemorySink::new(alloc, 64, 64, List::new(alloc))?;
-    holds(
-        "a byte too many ends with status 6",
-        report(alloc, words.as_slice(), &mut source, &mut sink) == 6,
-    )?;
-    holds(
-        "what is written is the refusal",
-        sink.written() == "{\"request\":\"too long\"}\n".as_bytes(),
-    )
+    refuses_a_byte_more::<LossReport>(rt.alloc(), &["losses"])
 }
 
-// A source and a sink that fail in their second call, and no command, which takes nothing from the source.
 #[test]
 fn failing_calls(rt: HostRuntime) -> Result<(), Fail> {
-    let alloc = rt.alloc();
-    let second = [2u64];
-    let words = words_of(alloc, &["losses"])?;
-    let fails = List::from_vec(second.to_vec(alloc)?);
-    let mut source = MemorySource::new(bytes_of(alloc, NO_HOP)?, 16, fails);
-    let mut sink = MemorySink::new(alloc, 4096, 10, List::new(alloc))?;
-    let status = report(alloc, words.as_slice(), &mut source, &mut sink);
-    holds(
-        "a source that fails ends it before anything is written",
-        status == 3 && sink.written().is_empty(),
-    )?;
-    let fails = List::from_vec(second.to_vec(alloc)?);
-    let mut source = SoundSource::new(bytes_of(alloc, NO_HOP)?);
-    let mut sink = MemorySink::new(alloc, 4096, 10, fails)?;
-    let status = report(alloc, words.as_slice(), &mut source, &mut sink);
-    holds(
-        "a sink that fails ends it after ten bytes",
-        status == 4 && sink.written() == "{\"losses\":".as_bytes(),
-    )?;
-    let mut source = MemorySource::new(bytes_of(alloc, NO_HOP)?, 16, List::new(alloc));
-    let mut sink = MemorySink::new(alloc, 4096, 4096, List::new(alloc))?;
-    let status = report(alloc, &[], &mut source, &mut sink);
-    holds(
-        "nothing is taken without a word",
-        status == 2 && source.calls() == 0,
-    )
+    tells_failing_calls::<LossReport>(rt.alloc(), &["losses"], NO_HOP, "{\"losses\":[]}")
 }

@@ -1,9 +1,10 @@
 //! The components of bills as the program answers them.
 
-use cdx_events::{List, MemorySink, MemorySource, SoundSource};
+use cdx_events::{Sink, Source};
 use cdx_inventory::stock;
-use cdx_test_cases::checks::{holds, row_holds};
-use cdx_test_cases::inputs::{bytes_of, words_of};
+use cdx_test_cases::programs::{
+    Program, answers, refuses_a_byte_more, refuses_words, tells_failing_calls,
+};
 use std::alloc::Global;
 use std::test::Fail;
 
@@ -206,30 +207,17 @@ const REFUSED: [(&str, &str); 8] = [
 const SHOP_IN_XML: &str =
     r#"{"from":"1.4","doc":{"xml":[{"document":"start"},{"element":"bom","default":"http://cyclonedx.org/schema/bom/1.4"},{"element":"metadata"},{"element":"component","attributes":[{"name":"type","value":"application"}]},{"element":"name"},{"text":"shop"},{"end":"name"},{"element":"version"},{"text":"1.0.0"},{"end":"version"},{"end":"component"},{"end":"metadata"},{"element":"components"},{"element":"component","attributes":[{"name":"type","value":"library"}]},{"element":"name"},{"text":"log"},{"end":"name"},{"element":"version"},{"text":"0.4.20"},{"end":"version"},{"element":"licenses"},{"element":"license"},{"element":"id"},{"text":"MIT"},{"end":"id"},{"end":"license"},{"element":"expression"},{"text":"MIT OR Apache-2.0"},{"end":"expression"},{"end":"licenses"},{"end":"component"},{"end":"components"},{"end":"bom"},{"document":"end"}]}}"#;
 
-// A failure where the program doesn't end so, or leaves something of its answer unwritten or not flushed.
-fn ends_so(
-    alloc: Global,
-    words: &[&str],
-    question: &str,
-    status: u8,
-    answer: &str,
-) -> Result<(), Fail> {
-    let words = words_of(alloc, words)?;
-    let mut source = SoundSource::new(bytes_of(alloc, question)?);
-    let mut sink = MemorySink::new(alloc, 4096, 10, List::new(alloc))?;
-    let found = stock(alloc, words.as_slice(), &mut source, &mut sink);
-    let text = format!(in alloc; "{answer}\n")?;
-    row_holds(
-        question,
-        "what is written is the answer",
-        sink.written() == text.as_bytes(),
-    )?;
-    row_holds(
-        question,
-        "the answer is flushed",
-        sink.flushed() == text.len(),
-    )?;
-    row_holds(question, "the status is the row's", found == status)
+struct Stock;
+
+impl Program for Stock {
+    fn call<S: Source, K: Sink>(
+        alloc: Global,
+        words: &[String],
+        source: &mut S,
+        sink: &mut K,
+    ) -> u8 {
+        stock(alloc, words, source, sink)
+    }
 }
 
 // A failure where the program doesn't answer these components for the bill of 1.5 with these members.
@@ -238,15 +226,15 @@ fn lists(alloc: Global, words: &[&str], members: &str, components: &str) -> Resu
         r#"{"from":"1.5","doc":{"json":{"bomFormat":"CycloneDX","specVersion":"1.5","version":1,"#;
     let question = format!(in alloc; "{head}{members}}}}}}}")?;
     let answer = format!(in alloc; "{{\"components\":[{components}]}}")?;
-    ends_so(alloc, words, question.as_str(), 0, answer.as_str())
+    answers::<Stock>(alloc, words, question.as_str(), 0, answer.as_str())
 }
 
 #[test]
 fn a_shop(rt: HostRuntime) -> Result<(), Fail> {
     let alloc = rt.alloc();
     for (words, answer) in &SHOP_LISTS {
-        ends_so(alloc, words, SHOP, 0, answer)?;
-        ends_so(alloc, words, SHOP_IN_XML, 0, answer)?;
+        answers::<Stock>(alloc, words, SHOP, 0, answer)?;
+        answers::<Stock>(alloc, words, SHOP_IN_XML, 0, answer)?;
     }
     Ok(())
 }
@@ -269,21 +257,11 @@ fn components_under_a_license(rt: HostRuntime) -> Result<(), Fail> {
     Ok(())
 }
 
-// Nothing is read: the first call of the source would fail.
 #[test]
 fn other_words(rt: HostRuntime) -> Result<(), Fail> {
     let alloc = rt.alloc();
-    for asked in &OTHER_WORDS {
-        let words = words_of(alloc, asked)?;
-        let fails = List::from_vec([1u64].to_vec(alloc)?);
-        let mut source = MemorySource::new(bytes_of(alloc, SHOP)?, 4096, fails);
-        let mut sink = MemorySink::new(alloc, 4096, 10, List::new(alloc))?;
-        let found = stock(alloc, words.as_slice(), &mut source, &mut sink);
-        holds("other words end with status 2", found == 2)?;
-        holds(
-            "what is written is the refusal",
-            sink.written() == "{\"request\":\"words\"}\n".as_bytes(),
-        )?;
+    for words in &OTHER_WORDS {
+        refuses_words::<Stock>(alloc, words, SHOP)?;
     }
     Ok(())
 }
@@ -292,55 +270,23 @@ fn other_words(rt: HostRuntime) -> Result<(), Fail> {
 fn refusals(rt: HostRuntime) -> Result<(), Fail> {
     let alloc = rt.alloc();
     for (question, answer) in &NO_QUESTIONS {
-        ends_so(alloc, &["list"], question, 2, answer)?;
-        ends_so(alloc, &["list", "MIT"], question, 2, answer)?;
+        answers::<Stock>(alloc, &["list"], question, 2, answer)?;
+        answers::<Stock>(alloc, &["list", "MIT"], question, 2, answer)?;
     }
     for (question, answer) in &REFUSED {
-        ends_so(alloc, &["list"], question, 1, answer)?;
-        ends_so(alloc, &["list", "MIT"], question, 1, answer)?;
+        answers::<Stock>(alloc, &["list"], question, 1, answer)?;
+        answers::<Stock>(alloc, &["list", "MIT"], question, 1, answer)?;
     }
     Ok(())
 }
 
 #[test]
 fn one_byte_too_many(rt: HostRuntime) -> Result<(), Fail> {
-    let alloc = rt.alloc();
-    let words = words_of(alloc, &["list"])?;
-    let spaces = vec![in alloc; b' '; 67_108_865]?;
-    let mut source = SoundSource::new(List::from_vec(spaces));
-    let mut sink = MemorySink::new(alloc, 64, 64, List::new(alloc))?;
-    holds(
-        "a byte too many ends with status 6",
-        stock(alloc, words.as_slice(), &mut source, &mut sink) == 6,
-    )?;
-    holds(
-        "what is written is the refusal",
-        sink.written() == "{\"request\":\"too long\"}\n".as_bytes(),
-    )
+    refuses_a_byte_more::<Stock>(rt.alloc(), &["list"])
 }
 
-// A call of the source and one of the sink fail, after which so many bytes of the answer are written.
 #[test]
-fn failing_ends(rt: HostRuntime) -> Result<(), Fail> {
-    let alloc = rt.alloc();
-    let words = words_of(alloc, &["list", "Apache-2.0"])?;
-    let answer = "{\"components\":[]}\n".as_bytes();
-    for (source_fails, sink_fails, status, written) in [
-        (2u64, 99u64, 3u8, 0usize),
-        (99, 2, 4, 10),
-        (99, 99, 0, 18),
-    ] {
-        let source_fails = List::from_vec([source_fails].to_vec(alloc)?);
-        let sink_fails = List::from_vec([sink_fails].to_vec(alloc)?);
-        let mut source = MemorySource::new(bytes_of(alloc, SHOP)?, 64, source_fails);
-        let mut sink = MemorySink::new(alloc, 4096, 10, sink_fails)?;
-        let found = stock(alloc, words.as_slice(), &mut source, &mut sink);
-        holds("the status tells whose call failed", found == status)?;
-        holds("so many bytes are written", sink.written().len() == written)?;
-        holds(
-            "what is written begins the answer",
-            answer.starts_with(sink.written()),
-        )?;
-    }
-    Ok(())
+fn failing_calls(rt: HostRuntime) -> Result<(), Fail> {
+    let words = ["list", "Apache-2.0"];
+    tells_failing_calls::<Stock>(rt.alloc(), &words, SHOP, "{\"components\":[]}")
 }
