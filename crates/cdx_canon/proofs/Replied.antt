@@ -1,5 +1,5 @@
 -- The replies to questions about one bill and about two: their statuses, and what status 0 says.
-use Rattle.std.proofs.Common.{◌≡◌, ℕ, suc, nat_lt, List, [], ◌∷◌, ◌++◌, length, codes, true, false, Bool, ◌&&◌, cond, Option, Some, None, Result, Ok, Err, IfOk, inl, inr, refl, sym, ap, ◌∙◌, subst, arith}
+use Rattle.std.proofs.Common.{◌≡◌, ℕ, nat_lt, List, [], ◌∷◌, ◌++◌, length, codes, true, false, Bool, ◌&&◌, cond, Option, Some, None, Result, Ok, Err, IfOk, inl, inr, refl, sym, ap, ◌∙◌, subst}
 use Rattle.std.specs.Io.KnownBytes.{Appends, IsAtEnd}
 use Rattle.std.proofs.lemmas.Bool.{false≢true}
 use Rattle.std.specs.declared.alloc.AllocError.{AllocError}
@@ -9,12 +9,12 @@ use Rattle.cdx_models.specs.Trees.{Tree}
 use Rattle.cdx_models.specs.EqualLaws.{equal-Decides}
 use Rattle.cdx_request.specs.Refusals.{refused as refusal}
 use Rattle.cdx_request.specs.Requests.{Misread, not_json, shape, unbalanced, document_in_json}
-use Rattle.cdx_request.specs.Replies.{Reply, reply, line_of, no_request, reply_to_misread, limit}
+use Rattle.cdx_request.specs.Replies.{Reply, reply, line_of, reply_to_misread, limit}
 use Rattle.cdx_tool.specs.Owed.{reply_by, IsSettled}
 use Rattle.cdx_tool.specs.Run.{Tells, Ends}
 use Rattle.cdx_tool.specs.Shows.{reply_of}
 use Rattle.cdx_tool.specs.declared.answer.Answer.{Answer}
-use Rattle.cdx_tool.specs.Asks.{Inquiry, inquiry_of, WhyNoBill, misread, bill_refused, bill_of, bill_in, reply_to_no_bill, reply_to_bill, AsksFor}
+use Rattle.cdx_tool.specs.Asks.{Inquiry, inquiry_of, WhyNoBill, misread, bill_refused, bill_of, bill_in, AsksFor}
 use Rattle.cdx_tool.proofs.Statuses.{not_zero, bill_served, short_served, whole_reply}
 use Rattle.cdx_canon.specs.Canon.{plain, canon}
 use Rattle.cdx_canon.specs.Answers.{canonical_answer, is_equal, equality_answer, refused_on, Pair, pair_of, reply_on, reply_beside, reply_to_bills, is_shaped, reply_to_sides, reply_to_pair, reply_if_value, owed, AsksForBoth, TellsEqual}

@@ -1,5 +1,5 @@
 -- The paths of the listed components: they differ, each leads to its component, and none is left out.
-use Rattle.std.specs.Prelude.{◌≡◌, refl, ℕ, suc, ◌≤◌, List, [], ◌∷◌, ◌++◌, Bool, true, false, ◌&&◌, ◌||◌, Option, Some, None, option_and_then, codes, ◌⊎◌}
+use Rattle.std.specs.Prelude.{◌≡◌, refl, ℕ, suc, List, [], ◌∷◌, ◌++◌, Bool, true, false, ◌&&◌, ◌||◌, Option, Some, None, option_and_then, codes, ◌⊎◌}
 use Rattle.std.proofs.Common.{true≢false, inl, inr}
 use mathlib.Core.Path.{ap, sym, ◌∙◌, subst}
 use native.Mathlib.Omega.{arith}

@@ -1,18 +1,18 @@
 -- What the program of the inventory owes.
-use Rattle.std.proofs.Common.{◌≡◌, ℕ, ◌≤◌, List, [], ◌∷◌, length, map, Bool, true, false, cond, ltb, Option, Some, None, IsSome, option_map, option_copied, Bor, Result, Ok, Err, IfOk, ◌⊎◌, inl, inr, refl, sym, ap, subst, ◌∙◌, arith}
+use Rattle.std.proofs.Common.{◌≡◌, ℕ, ◌≤◌, List, [], ◌∷◌, length, map, Bool, false, ltb, Option, Some, None, IsSome, option_map, option_copied, Bor, Result, Ok, IfOk, ◌⊎◌, inl, inr, refl, ap, subst, ◌∙◌}
 use Rattle.std.specs.Io.KnownBytes.{Appends, IsAtEnd}
 use Rattle.std.proofs.lemmas.Bool.{le-ltb}
 use Rattle.serde_json.specs.Data.{Data, string}
 use Rattle.serde_json.specs.View.{items_of}
 use Rattle.serde_json.specs.Written.{has_float, items_have_float, members_have_float}
 use Rattle.cdx_models.specs.Trees.{Tree}
-use Rattle.cdx_request.specs.Requests.{Misread, not_json, shape, unbalanced, document_in_json}
-use Rattle.cdx_request.specs.Replies.{Reply, line_of, limit, reply_to_misread}
+use Rattle.cdx_request.specs.Requests.{document_in_json}
+use Rattle.cdx_request.specs.Replies.{Reply, line_of, limit}
 use Rattle.cdx_tool.specs.declared.answer.Answer.{Answer}
 use Rattle.cdx_tool.specs.Shows.{reply_of}
 use Rattle.cdx_tool.specs.Owed.{reply_by, IsSettled}
 use Rattle.cdx_tool.specs.Run.{Tells, Ends}
-use Rattle.cdx_tool.specs.Asks.{WhyNoBill, misread, bill_refused, bill_in, AsksFor, reply_to_bill, reply_if_read, reply_asking}
+use Rattle.cdx_tool.specs.Asks.{bill_in, AsksFor, reply_if_read, reply_asking}
 use Rattle.cdx_tool.proofs.Statuses.{bill_settled, answer_settled, bill_served, short_served, whole_reply}
 use Rattle.std.specs.declared.alloc.AllocError.{AllocError}
 use Rattle.cdx_inventory.specs.declared.entry.Entry.{Entry}

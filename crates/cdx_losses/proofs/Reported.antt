@@ -1,5 +1,5 @@
 -- What the program of losses owes to the bytes of a request and to words.
-use Rattle.std.proofs.Common.{◌≡◌, ℕ, suc, ◌≤◌, List, [], ◌∷◌, length, map, codes, Bool, true, false, cond, ltb, Option, Some, Result, Ok, Err, IfOk, ◌⊎◌, inl, inr, refl, sym, ap, subst, ◌∙◌, arith}
+use Rattle.std.proofs.Common.{◌≡◌, ℕ, ◌≤◌, List, [], ◌∷◌, length, map, codes, Bool, true, false, cond, ltb, Option, Some, Result, Ok, Err, IfOk, ◌⊎◌, inl, inr, refl, sym, ap, subst, ◌∙◌}
 use Rattle.std.specs.Io.KnownBytes.{Appends, IsAtEnd}
 use Rattle.std.proofs.lemmas.Bool.{le-ltb}
 use Rattle.std.specs.declared.alloc.AllocError.{AllocError}
@@ -17,8 +17,8 @@ use Rattle.cdx_bom.specs.declared.doc.RoadError.{RoadError}
 use Rattle.cdx_bom.specs.declared.doc.RoadError.TheVariants as error
 use Rattle.cdx_bom.specs.Docs.{Refuses, refusal_of}
 use Rattle.cdx_bom.specs.Hops.{DenotesBill}
-use Rattle.cdx_request.specs.Requests.{Misread, not_json, shape, unbalanced, Request, request_in}
-use Rattle.cdx_request.specs.Replies.{Reply, reply, line_of, no_request, limit, reply_to_misread}
+use Rattle.cdx_request.specs.Requests.{Misread, Request, request_in}
+use Rattle.cdx_request.specs.Replies.{Reply, reply, line_of, limit}
 use Rattle.cdx_request.specs.Served.{IsValid}
 use Rattle.cdx_request.proofs.AnswerFloats.{put_clear}
 use Rattle.cdx_tool.specs.Reads.{ReadsOwed, IsRequest}
