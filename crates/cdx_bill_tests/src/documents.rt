@@ -9,8 +9,9 @@
 //! - `carries`: the document, read by the version, goes along the road of the documents after it, or is refused.
 
 use crate::faults::of_road;
+use crate::last::in_pieces;
 use crate::short::{bill, hop_of, label, only, parse_xml, read, shown, whole};
-use cdx_bom::{Bom, Doc, Hop, RoadError, into_road, recode, road};
+use cdx_bom::{Bom, Doc, Hop, OpenRoad, RoadError, into_open_road, into_road, recode, road};
 use cdx_events::{EventSource, List, MemoryEventSource, XmlEvent};
 use cdx_json::{FromJson, Kept};
 use cdx_leaf::FromXmlDocument;
@@ -119,19 +120,36 @@ fn along(alloc: Global, shorts: &str) -> Result<(Vec<Hop>, String), AllocError> 
     Ok((hops, texts))
 }
 
-// The documents, each with a space before it, or the refusal.
+// The documents, each with a space before it.
+fn texts_of(alloc: Global, docs: &[Doc]) -> Result<String, AllocError> {
+    let mut texts = String::new(alloc);
+    for doc in docs {
+        texts.push(' ')?;
+        texts.push_str(text_of(alloc, doc)?.as_str())?;
+    }
+    Ok(texts)
+}
+
+// The documents, or the refusal.
 fn told_road(alloc: Global, answer: Result<List<Doc>, RoadError>) -> Result<String, AllocError> {
     match answer {
-        Ok(docs) => {
-            let mut texts = String::new(alloc);
-            for doc in docs.as_slice() {
-                texts.push(' ')?;
-                texts.push_str(text_of(alloc, doc)?.as_str())?;
-            }
-            Ok(texts)
-        }
+        Ok(docs) => texts_of(alloc, docs.as_slice()),
         Err(error) => of_road(alloc, &error),
     }
+}
+
+// The same, the last document made piece by piece.
+fn told_open(alloc: Global, answer: Result<OpenRoad, RoadError>) -> Result<String, AllocError> {
+    let road = match answer {
+        Ok(road) => road,
+        Err(error) => return of_road(alloc, &error),
+    };
+    let mut texts = texts_of(alloc, road.docs.as_slice())?;
+    if let Some(last) = &road.last {
+        texts.push(' ')?;
+        texts.push_str(in_pieces(alloc, &last.bill, last.hop)?.as_str())?;
+    }
+    Ok(texts)
 }
 
 // The same of the road of one hop.
@@ -145,7 +163,14 @@ fn recoded(alloc: Global, doc: &Doc, version: SpecVersion, hop: Hop) -> Result<S
 // By each of the calls.
 fn carried(alloc: Global, case: &Case<'_>) -> Result<String, Fail> {
     let (hops, _) = along(alloc, case.answer)?;
-    let doc = doc(alloc, whole(alloc, case.given)?.as_str())?;
+    let text = whole(alloc, case.given)?;
+    let open = into_open_road(
+        alloc,
+        doc(alloc, text.as_str())?,
+        case.version,
+        hops.as_slice(),
+    );
+    let doc = doc(alloc, text.as_str())?;
     let found = told_road(alloc, road(alloc, &doc, case.version, hops.as_slice()))?;
     if let [hop] = hops.as_slice() {
         if recoded(alloc, &doc, case.version, *hop)? != found {
@@ -154,6 +179,9 @@ fn carried(alloc: Global, case: &Case<'_>) -> Result<String, Fail> {
     }
     if told_road(alloc, into_road(alloc, doc, case.version, hops.as_slice()))? != found {
         return Err(Fail::new("carried otherwise"));
+    }
+    if told_open(alloc, open)? != found {
+        return Err(Fail::new("made otherwise in pieces"));
     }
     Ok(found)
 }
@@ -323,6 +351,11 @@ const CARRIED: &str = r#"
     1.5 carries json 1.5 "metadata":{"tools":[]}, -> xml 1.4 <metadata|<tools|>tools|>metadata| -> json 1.5 "metadata":{"tools":[]},
     1.5 carries json 1.5 "metadata":{"tools":{"components":[{"name":"a","type":"library"}]}}, -> json 1.3 "metadata":{"tools":[]}, -> json 1.5 "metadata":{"tools":[]},
     1.5 carries json 1.5 "components":[{"name":"a","type":"library"}], -> json 1.4 "components":[{"name":"a","type":"library"}],
+    1.5 carries json 1.5 "components":[{"name":"a","type":"library"},{"name":"b","type":"file"}],"services":[], -> xml 1.5 <components|<component type=library|<name|=a|>name|>component|<component type=file|<name|=b|>name|>component|>components|<services|>services| -> json 1.5 "components":[{"name":"a","type":"library"},{"name":"b","type":"file"}],"services":[],
+    1.5 carries json 1.5 "components":[{"name":"a","type":"library"},{"name":"b","type":"file"}],"services":[], -> json 1.4 "components":[{"name":"a","type":"library"},{"name":"b","type":"file"}],"services":[],
+    1.5 carries json 1.5 "components":[{"name":"a","type":"library"},{"name":"b","type":"file"}],"services":[], -> xml 1.4 <components|<component type=library|<name|=a|>name|>component|<component type=file|<name|=b|>name|>component|>components|<services|>services|
+    1.5 carries json 1.5 "components":[],"metadata":{"tools":[]}, -> xml 1.4 <metadata|<tools|>tools|>metadata|<components|>components|
+    1.5 carries json 1.5 "components":[], -> json 1.4 "components":[],
 
     // the document's fault comes before a version that is missing, whichever hop asks for it
     1.5 carries json 1.5 "components":[{"name":"a","type":"library"}], -> json 1.4 -> json 1.3 -> version missing in 1.3

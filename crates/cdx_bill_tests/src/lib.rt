@@ -6,6 +6,10 @@ mod documents;
 #[cfg(test)]
 mod faults;
 #[cfg(test)]
+mod last;
+#[cfg(test)]
+mod printed;
+#[cfg(test)]
 mod short;
 #[cfg(test)]
 mod values;

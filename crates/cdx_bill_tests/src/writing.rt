@@ -1,6 +1,7 @@
 //! Bills written in each version, and put into sinks that may fail.
 
 use crate::faults::{of_json_writing, of_xml_writing};
+use crate::last::in_pieces;
 use crate::short::{bill, hop_of, only, shown, whole, written};
 use cdx_bom::{Bom, Form, Hop, PutError, put_text};
 use cdx_events::{EventWriter, MemoryEventSink, MemorySink, Text};
@@ -31,7 +32,13 @@ fn is_written(alloc: Global, bill: &Bom) -> Result<(), Fail> {
         if let Some((short, _)) = row(line) {
             let hop = hop_of(short).ok_or("a row begins with no hop")?;
             let found = written(alloc, bill, hop)?;
-            row_is(line, found.as_str(), whole(alloc, short)?.as_str())?;
+            let expected = whole(alloc, short)?;
+            row_is(line, found.as_str(), expected.as_str())?;
+            row_is(
+                line,
+                in_pieces(alloc, bill, hop)?.as_str(),
+                expected.as_str(),
+            )?;
         }
     }
     Ok(())

@@ -27,12 +27,13 @@ use Rattle.cdx_bom.specs.declared.bom.Bom.{Bom}
 use Rattle.cdx_bom.specs.declared.doc.Doc.{Doc}
 use Rattle.cdx_bom.specs.declared.doc.Doc.TheVariants as doc
 use Rattle.cdx_bom.specs.declared.doc.Hop.{Hop}
+use Rattle.cdx_bom.specs.declared.doc.OpenRoad.{OpenRoad}
 use Rattle.cdx_bom.specs.declared.doc.RoadError.{RoadError}
 use Rattle.cdx_bom.specs.declared.doc.RoadError.TheVariants as error
 use Rattle.cdx_bom.specs.Trees.{bom_tree}
 use Rattle.cdx_bom.specs.Docs.{IsDoc, AreDocs, refusal_of, Refuses, AnswersDocs, alone, hop_of, hops_of}
 use Rattle.cdx_bom.specs.Refused.{of_json_error, of_xml_error}
-use Rattle.cdx_bom.specs.Hops.{any_first, hop_document, rewritten}
+use Rattle.cdx_bom.specs.Hops.{any_first, hop_document, last_documents, AnswersOpen}
 
 -- ---- refusals
 
@@ -84,69 +85,69 @@ xml_fault d events x v e is p h = by x (subst (λ z. IsDoc z x) is p)
 
 -- ---- the documents of a road
 
--- These documents and then the last one, in its version, stand for the road so far; the rest of the hops goes on from there.
-pub record IsAlong (bill : Bom) (hops rest : List Hop) (docs : List Doc) (final : Doc) (version : SpecVersion) : Type 0 where
+-- what the hops make of a bill, the first of which writes it
+abbrev from_bill : Tree → trips.Hop → List trips.Hop → Result (List roads.Doc) Refusal
+from_bill b h hs = hops_from (hop_document b h) h.version hs >>= λ more. Ok (hop_document b h ∷ more)
+
+-- These documents stand for the road so far; the hop and the rest of them go on from the bill.
+pub record IsAlong (start : Bom) (hops rest : List Hop) (docs : List Doc) (bill : Bom) (hop : Hop) : Type 0 where
   pub ys : List roads.Doc
-  pub z : roads.Doc
   pub are : AreDocs docs ys
-  pub is : IsDoc final z
-  pub whole : (x : roads.Doc) (v : SpecVersion) → denotes x v ≡ Ok (bom_tree bill) → hops_from x v (hops_of hops) ≡ (hops_from z version (hops_of rest) >>= λ more. Ok (ys ++ z ∷ more))
+  pub whole : (x : roads.Doc) (v : SpecVersion) → denotes x v ≡ Ok (bom_tree start) → hops_from x v (hops_of hops) ≡ (from_bill (bom_tree bill) (hop_of hop) (hops_of rest) >>= λ more. Ok (ys ++ more))
 
 append_again : {A : Type 0} (xs : List A) (y : A) (ys : List A) → xs ++ y ∷ ys ≡ (xs ++ y ∷ []) ++ ys
 append_again [] y ys = refl
 append_again (x ∷ xs) y ys = ap (x ∷◌) (append_again xs y ys)
 
-one_more_doc : (ds : List Doc) (ys : List roads.Doc) (d : Doc) (y : roads.Doc) → AreDocs ds ys → IsDoc d y → AreDocs (ds ++ d ∷ []) (ys ++ y ∷ [])
+pub one_more_doc : (ds : List Doc) (ys : List roads.Doc) (d : Doc) (y : roads.Doc) → AreDocs ds ys → IsDoc d y → AreDocs (ds ++ d ∷ []) (ys ++ y ∷ [])
 one_more_doc [] [] d y a i = (i, tt)
 one_more_doc [] (z ∷ ys) d y a i = absurd a
 one_more_doc (e ∷ ds) [] d y a i = absurd a
 one_more_doc (e ∷ ds) (z ∷ ys) d y a i = (a.0, one_more_doc ds ys d y a.1 i)
 
-module _ (bill : Bom) (hops : List Hop) where
+as_is : (r : Result (List roads.Doc) Refusal) → r ≡ (r >>= λ more. Ok ([] ++ more))
+as_is (Ok ys) = refl
+as_is (Err f) = refl
+
+module _ (start : Bom) (hops : List Hop) where
   -- the first hop
-  pub begins : (h : Hop) (rest : List Hop) (d : Doc) → hops ≡ h ∷ rest → IsDoc d (hop_document (bom_tree bill) (hop_of h)) → IsAlong bill hops rest [] d h.version
-  begins h rest d is p = record {
+  pub begins : (h : Hop) (rest : List Hop) → hops ≡ h ∷ rest → IsAlong start hops rest [] start h
+  begins h rest is = record {
     ys = [];
-    z = hop_document (bom_tree bill) (hop_of h);
     are = tt;
-    is = p;
-    whole = λ x v e. ap (λ hs. hops_from x v (hops_of hs)) is ∙ ap (λ r. r >>= λ b. hops_from (hop_document b (hop_of h)) h.version (hops_of rest) >>= λ more. Ok (hop_document b (hop_of h) ∷ more)) e;
+    whole = λ x v e. ap (λ hs. hops_from x v (hops_of hs)) is ∙ ap (λ r. r >>= λ b. from_bill b (hop_of h) (hops_of rest)) e ∙ as_is (from_bill (bom_tree start) (hop_of h) (hops_of rest));
   }
 
   -- one more
-  pub goes_on : (h : Hop) (rest : List Hop) (docs : List Doc) (final next : Doc) (v : SpecVersion) (a : IsAlong bill hops (h ∷ rest) docs final v) (y : roads.Doc) → rewritten a.z v (hop_of h) ≡ Ok y → IsDoc next y → IsAlong bill hops rest (docs ++ final ∷ []) next h.version
-  goes_on h rest docs final next v a y e p = record {
-    ys = a.ys ++ a.z ∷ [];
-    z = y;
-    are = one_more_doc docs a.ys final a.z a.are a.is;
-    is = p;
-    whole = λ x w d. a.whole x w d ∙ by (denotes a.z v) e;
+  pub goes_on : (next : Hop) (rest : List Hop) (docs : List Doc) (bill : Bom) (h : Hop) (a : IsAlong start hops (next ∷ rest) docs bill h) (d : Doc) (read : Bom) → IsDoc d (hop_document (bom_tree bill) (hop_of h)) → denotes (hop_document (bom_tree bill) (hop_of h)) h.version ≡ Ok (bom_tree read) → IsAlong start hops rest (docs ++ d ∷ []) read next
+  goes_on next rest docs bill h a d read p e = record {
+    ys = a.ys ++ y ∷ [];
+    are = one_more_doc docs a.ys d y a.are p;
+    whole = λ x w i. a.whole x w i ∙ ap (λ r. (r >>= λ b. from_bill b (hop_of next) (hops_of rest)) >>= (λ more. Ok (y ∷ more)) >>= λ more. Ok (a.ys ++ more)) e ∙ joined (from_bill (bom_tree read) (hop_of next) (hops_of rest));
   }
     where
-      by : (r : Result Tree Refusal) → (r >>= λ b. Ok (hop_document b (hop_of h))) ≡ Ok y
-          → ((r >>= λ b. hops_from (hop_document b (hop_of h)) h.version (hops_of rest) >>= λ more. Ok (hop_document b (hop_of h) ∷ more)) >>= λ more. Ok (a.ys ++ a.z ∷ more)) ≡ (hops_from y h.version (hops_of rest) >>= λ more. Ok ((a.ys ++ a.z ∷ []) ++ y ∷ more))
-      by (Ok b) i =
-          let same : hop_document b (hop_of h) ≡ y = cc in
-          ap (λ u. (hops_from u h.version (hops_of rest) >>= λ more. Ok (u ∷ more)) >>= λ more. Ok (a.ys ++ a.z ∷ more)) same ∙ joined (hops_from y h.version (hops_of rest))
-        where
-          joined : (r : Result (List roads.Doc) Refusal) → ((r >>= λ more. Ok (y ∷ more)) >>= λ more. Ok (a.ys ++ a.z ∷ more)) ≡ (r >>= λ more. Ok ((a.ys ++ a.z ∷ []) ++ y ∷ more))
-          joined (Ok more) = ap Ok (append_again a.ys a.z (y ∷ more))
-          joined (Err f) = refl
-      by (Err f) i = absurd cc
+      y : roads.Doc
+      y = hop_document (bom_tree bill) (hop_of h)
 
-  -- a hop is refused
-  pub stops : (h : Hop) (rest : List Hop) (docs : List Doc) (final : Doc) (v : SpecVersion) (a : IsAlong bill hops (h ∷ rest) docs final v) (e : RoadError) → Refuses (rewritten a.z v (hop_of h)) e
-      → (x : roads.Doc) (w : SpecVersion) → denotes x w ≡ Ok (bom_tree bill) → Refuses (hops_from x w (hops_of hops)) e
-  stops h rest docs final v a e r x w d = refused_as e (rewritten a.z v (hop_of h)) (hops_from x w (hops_of hops)) (λ f is. a.whole x w d ∙ by (denotes a.z v) f is) r
+      joined : (r : Result (List roads.Doc) Refusal) → ((r >>= λ more. Ok (y ∷ more)) >>= λ more. Ok (a.ys ++ more)) ≡ (r >>= λ more. Ok ((a.ys ++ y ∷ []) ++ more))
+      joined (Ok more) = ap Ok (append_again a.ys y more)
+      joined (Err f) = refl
+
+  -- what a hop has written is refused
+  pub stops : (next : Hop) (rest : List Hop) (docs : List Doc) (bill : Bom) (h : Hop) (a : IsAlong start hops (next ∷ rest) docs bill h) (e : RoadError) → Refuses (denotes (hop_document (bom_tree bill) (hop_of h)) h.version) e
+      → (x : roads.Doc) (w : SpecVersion) → denotes x w ≡ Ok (bom_tree start) → Refuses (hops_from x w (hops_of hops)) e
+  stops next rest docs bill h a e r x w d =
+      subst (λ q. Refuses q e) (sym (a.whole x w d))
+      (refused_on e (from_bill (bom_tree bill) (hop_of h) (hops_of (next ∷ rest))) (λ more. Ok (a.ys ++ more))
+      (refused_on e (hops_from y h.version (hops_of (next ∷ rest))) (λ more. Ok (y ∷ more))
+      (refused_on e (denotes y h.version) (λ b. from_bill b (hop_of next) (hops_of rest)) r)))
     where
-      by : (r : Result Tree Refusal) (f : Refusal) → (r >>= λ b. Ok (hop_document b (hop_of h))) ≡ Err f
-          → ((r >>= λ b. hops_from (hop_document b (hop_of h)) h.version (hops_of rest) >>= λ more. Ok (hop_document b (hop_of h) ∷ more)) >>= λ more. Ok (a.ys ++ a.z ∷ more)) ≡ Err f
-      by (Ok b) f i = absurd cc
-      by (Err g) f i = cc
+      y : roads.Doc
+      y = hop_document (bom_tree bill) (hop_of h)
 
-  -- no hop is left
-  pub ends : (docs : List Doc) (final : Doc) (v : SpecVersion) (a : IsAlong bill hops [] docs final v) (x : roads.Doc) (w : SpecVersion) → denotes x w ≡ Ok (bom_tree bill) → AnswersDocs (hops_from x w (hops_of hops)) (Ok (docs ++ final ∷ []))
-  ends docs final v a x w d = (a.ys ++ a.z ∷ [], a.whole x w d, one_more_doc docs a.ys final a.z a.are a.is)
+  -- no hop is left but the last
+  pub ends : (docs : List Doc) (bill : Bom) (h : Hop) (a : IsAlong start hops [] docs bill h) (x : roads.Doc) (w : SpecVersion) → denotes x w ≡ Ok (bom_tree start) → AnswersOpen (hops_from x w (hops_of hops)) (Ok (record { docs = docs; last = Some (record { bill = bill; hop = h }) }))
+  ends docs bill h a x w d = (a.ys, a.are, a.whole x w d)
 
 -- ---- versions
 
@@ -178,11 +179,17 @@ after_bill x v hs b = if fits_all hs b then hops_from x v hs else Err version_mi
 pub missing_then : (e : RoadError) (x : roads.Doc) (v : SpecVersion) (hs : List trips.Hop) (b : Tree) → denotes x v ≡ Ok b → fits_all hs b ≡ false → refusal_of e ≡ Some version_missing → Refuses (road x v hs) e
 missing_then e x v hs b d f r = this_refusal e version_missing (road x v hs) r (ap (λ q. q >>= after_bill x v hs) d ∙ ap (λ (c : Bool). if c then hops_from x v hs else Err version_missing) f)
 
+unless_missing : (x : roads.Doc) (v : SpecVersion) (hs : List trips.Hop) (b : Tree) → denotes x v ≡ Ok b → fits_all hs b ≡ true → road x v hs ≡ hops_from x v hs
+unless_missing x v hs b d f = ap (λ q. q >>= after_bill x v hs) d ∙ ap (λ (c : Bool). if c then hops_from x v hs else Err version_missing) f
+
 -- the hops make the documents
-pub hops_then : (result : Result (List Doc) RoadError) (x : roads.Doc) (v : SpecVersion) (hs : List trips.Hop) (b : Tree) → denotes x v ≡ Ok b → fits_all hs b ≡ true → AnswersDocs (hops_from x v hs) result → AnswersDocs (road x v hs) result
-hops_then result x v hs b d f h =
-    let same : road x v hs ≡ hops_from x v hs = ap (λ q. q >>= after_bill x v hs) d ∙ ap (λ (c : Bool). if c then hops_from x v hs else Err version_missing) f in
-    subst (λ r. AnswersDocs r result) (sym same) h
+pub hops_then : (result : Result OpenRoad RoadError) (x : roads.Doc) (v : SpecVersion) (hs : List trips.Hop) (b : Tree) → denotes x v ≡ Ok b → fits_all hs b ≡ true → AnswersOpen (hops_from x v hs) result → AnswersOpen (road x v hs) result
+hops_then result x v hs b d f h = subst (λ r. AnswersOpen r result) (sym (unless_missing x v hs b d f)) h
+
+-- ---- all documents of a road
+
+pub all_written : (made : OpenRoad) (docs : List Doc) (owed : Result (List roads.Doc) Refusal) → AnswersOpen owed (Ok made) → ((first : List roads.Doc) → AreDocs made.docs first → AreDocs docs (first ++ last_documents made.last)) → AnswersDocs owed (Ok docs)
+all_written made docs owed h are = (h.0 ++ last_documents made.last, h.2, are h.0 h.1)
 
 -- ---- roads of one hop
 
@@ -194,4 +201,5 @@ fits_one h b c e = alone_and (fits h.version b a_bill) ∙ e
     alone_and false = refl
 
 pub one_hop : (d : Doc) (x : roads.Doc) (v : SpecVersion) (h : trips.Hop) (b : Tree) → denotes x v ≡ Ok b → fits h.version b a_bill ≡ true → IsDoc d (hop_document b h) → AnswersDocs (road x v (h ∷ [])) (alone (Ok d))
-one_hop d x v h b e f i = hops_then (Ok (d ∷ [])) x v (h ∷ []) b e (fits_one h b true f) (hop_document b h ∷ [], ap (λ r. r >>= λ c. Ok (hop_document c h ∷ [])) e, (i, tt))
+one_hop d x v h b e f i =
+    (hop_document b h ∷ [], unless_missing x v (h ∷ []) b e (fits_one h b true f) ∙ ap (λ r. r >>= λ c. from_bill c h []) e, (i, tt))

@@ -95,9 +95,12 @@ bill_object : (w : SpecVersion) (ts : Trees) → object (rows_put ts w (rows bil
 unfolding jspell
 bill_object w ts = ap object (rows_put_are ts w (rows bill) (heading bill))
 
+pub bill_members : (b : Bom) (w : SpecVersion) → object (rows_put (relations b) w (group 1 bill) (rows_put (inventory_groups b) w (group 0 bill) (heading bill))) ≡ jspell (keep w (bom_tree b) a_bill) w a_bill
+bill_members b w =
+    let split = ap (λ rs. rows_put (inventory_groups b ⧺ relations b) w rs (heading bill)) bill_rows ∙ put_split w (inventory_groups b) (relations b) (group 0 bill) (group 1 bill) (heading bill) (inventory_count b) in
+    ap object (sym split) ∙ bill_object w (inventory_groups b ⧺ relations b) ∙ ap (λ t. jspell t w a_bill) (bill_kept_is w w (inventory_groups b ⧺ relations b))
+
 pub bill_put : (m : BTreeMap (String Global) Value) (b : Bom) (w : SpecVersion) (p q : Members) → q ≡ heading bill → p ≡ rows_put (inventory_groups b) w (group 0 bill) q → members_view m.entries ≡ rows_put (relations b) w (group 1 bill) p
     → view (object_of m) ≡ jspell (keep w (bom_tree b) a_bill) w a_bill
 bill_put m b w p q h i j =
-    let split = ap (λ rs. rows_put (inventory_groups b ⧺ relations b) w rs (heading bill)) bill_rows ∙ put_split w (inventory_groups b) (relations b) (group 0 bill) (group 1 bill) (heading bill) (inventory_count b) in
-    view-Object m ∙ ap object (j ∙ ap (rows_put (relations b) w (group 1 bill)) (i ∙ ap (rows_put (inventory_groups b) w (group 0 bill)) h) ∙ sym split)
-    ∙ bill_object w (inventory_groups b ⧺ relations b) ∙ ap (λ t. jspell t w a_bill) (bill_kept_is w w (inventory_groups b ⧺ relations b))
+    view-Object m ∙ ap object (j ∙ ap (rows_put (relations b) w (group 1 bill)) (i ∙ ap (rows_put (inventory_groups b) w (group 0 bill)) h)) ∙ bill_members b w

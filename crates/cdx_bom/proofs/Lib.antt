@@ -7,6 +7,8 @@ pub mod Nested
 pub mod Whole
 pub mod Fitting
 pub mod Grouped
+pub mod RowOrder
+pub mod Printed
 pub mod Labels
 pub mod Formats
 pub mod Floats
@@ -17,5 +19,6 @@ pub mod BillStart
 pub mod Readers
 pub mod BillWhole
 pub mod BillWritten
+pub mod Pieces
 pub mod EmptyTexts
 pub mod Carried

@@ -47,15 +47,6 @@ always_makes P (Err (write.Memory m)) w b n h = tt
 always_makes P (Err (write.JsonElementWriteError k)) w b n h = h
 always_makes P (Err (write.BomError e)) w b n h = never_lacks w b e n h
 
-abbrev pub failed : (X : Type 0) → JsonWriteError → Result X JsonWriteError
-failed X e = Err e
-
--- a refusal is one whatever was to be written
-pub refused_alike : {X Y : Type 0} (P : X → Type 0) (Q : Y → Type 0) (e : JsonWriteError) (w : SpecVersion) (b : Tree) → Outputs (failed X e) w b P → Outputs (failed Y e) w b Q
-refused_alike P Q (write.Memory m) w b h = tt
-refused_alike P Q (write.JsonElementWriteError n) w b h = h
-refused_alike P Q (write.BomError e) w b h = h
-
 -- no spelling holds a float
 pub spelled_clear : (x : Data) (w : SpecVersion) (b : Tree) → x ≡ kept_json w b → has_float x ≡ false
 spelled_clear x w b e = ap has_float e ∙ spelling_clear (keep w b a_bill) w a_bill

@@ -15,5 +15,6 @@ pub mod FrameLaws
 pub mod RootChecks
 pub mod BillReading
 pub mod BillWriting
+pub mod Pieces
 pub mod EmptyTexts
 pub mod Hops

@@ -25,6 +25,10 @@ bill_contents b = trees (present components_tree b.components ∷ present servic
 abbrev pub inventory_with : Tree → Bom → Trees
 inventory_with t b = identity b ⧺ more t (bill_contents b)
 
+-- with a tree that stands for the components
+abbrev pub inventory_beside : Tree → Bom → Trees
+inventory_beside t b = identity b ⧺ trees (present metadata_tree b.metadata ∷ t ∷ present services_tree b.services ∷ [])
+
 abbrev pub inventory_groups : Bom → Trees
 inventory_groups b = inventory_with (present metadata_tree b.metadata) b
 

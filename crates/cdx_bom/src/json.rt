@@ -15,6 +15,7 @@ ghost use Rattle.cdx_bom.specs.Stays.{kept_bill_there};
 mod floats;
 mod keeping;
 mod label;
+mod printing;
 mod reading;
 mod writing;
 
@@ -55,7 +56,7 @@ impl ToJson for Bom {
         let mut map = Map::new(alloc);
         put_format(alloc, &mut map)?;
         let target = Target { alloc, version };
-        put_inventory(self, &mut map, target)?;
+        put_inventory(self, &self.components, &mut map, target)?;
         put_relations(self, &mut map, target)?;
         Ok(Value::Object(map))
     }

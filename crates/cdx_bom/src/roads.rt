@@ -1,15 +1,15 @@
 //! Documents beside those of the schema, and roads.
 
-ghost use Rattle.std.specs.Prelude.{◌≡◌, IfOk, Ok, Some};
+ghost use Rattle.std.specs.Prelude.{◌≡◌, ◌++◌, List as Each, IfOk, Ok, Some};
 ghost use Rattle.cdx_models.specs.declared.bom.SpecVersion.{SpecVersion};
 ghost use Rattle.cdx_schema.specs.Roads as roads;
 ghost use Rattle.cdx_bom.specs.declared.doc.Doc.{Doc};
 ghost use Rattle.cdx_bom.specs.Trees.{bom_tree};
-ghost use Rattle.cdx_bom.specs.Docs.{IsDoc, hop_of, hops_of, refusal_of, AnswersDocs, AnswersRoad, AnswersHop};
-ghost use Rattle.cdx_bom.specs.Hops.{any_first, DenotesBill, hop_document, rewritten, AnswersDoc};
+ghost use Rattle.cdx_bom.specs.Docs.{IsDoc, AreDocs, hop_of, hops_of, refusal_of, AnswersRoad, AnswersHop};
+ghost use Rattle.cdx_bom.specs.Hops.{any_first, DenotesBill, hop_document, last_documents, AnswersOpen, AnswersOpenRoad};
 
 use crate::bom::Bom;
-use crate::doc::{Doc, Form, Hop, RoadError};
+use crate::doc::{Doc, Form, Hop, LastHop, OpenRoad, RoadError};
 use crate::refused::lacks_version;
 use crate::xml::writing::document_events;
 use cdx_events::List;
@@ -71,15 +71,6 @@ fn spell_freed(alloc: Global, bill: Bom, hop: Hop) -> Result<Doc, AllocError>
     answer
 }
 
-// The document that a hop makes of the one before it, which stands in the version.
-fn rewrite(alloc: Global, doc: &Doc, version: SpecVersion, hop: Hop) -> Result<Doc, RoadError>
-    ensures { (x : roads.Doc) → IsDoc doc.now x
-        → AnswersDoc (rewritten x version (hop_of hop)) result }
-{
-    let before = bill_of(alloc, doc, version)?;
-    Ok(spell_freed(alloc, before, hop)?)
-}
-
 // Whether a hop is written in 1.3, which asks each component for a version.
 fn asks_versions(hops: &[Hop]) -> bool
     ensures { result ≡ any_first (hops_of hops.now) }
@@ -108,39 +99,55 @@ pub fn version_missing() -> RoadError
     RoadError::Bom(lacks_version())
 }
 
-// The documents of the hops, each of the document before it, the first of which is one that denotes the bill.
-fn along(alloc: Global, bill: &Bom, hops: &[Hop]) -> Result<List<Doc>, RoadError>
-    ensures { (x : roads.Doc) (v : SpecVersion) → roads.denotes x v ≡ Ok (bom_tree bill.now)
-        → AnswersDocs (roads.hops_from x v (hops_of hops.now)) result }
+// The documents of the hops but the last, each of the document before it, and the bill that the last hop writes. The first
+// hop writes the bill.
+fn up_to_last(alloc: Global, start: Bom, hops: &[Hop]) -> Result<OpenRoad, RoadError>
+    ensures { (x : roads.Doc) (v : SpecVersion) → roads.denotes x v ≡ Ok (bom_tree start)
+        → AnswersOpen (roads.hops_from x v (hops_of hops.now)) result }
 {
     let mut docs = List::new(alloc);
     let Some((first, rest)) = hops.split_first() else {
-        return Ok(docs);
+        drop(start);
+        return Ok(OpenRoad { docs, last: None });
     };
-    let mut last = spell(alloc, bill, *first)?;
-    let mut version = first.version;
-    for hop in rest {
-        let next = rewrite(alloc, &last, version, *hop)?;
-        docs.push(last)?;
-        last = next;
-        version = hop.version;
+    let mut bill = start;
+    let mut hop = *first;
+    for next in rest {
+        let doc = spell_freed(alloc, bill, hop)?;
+        bill = bill_of(alloc, &doc, hop.version)?;
+        docs.push(doc)?;
+        hop = *next;
     }
-    docs.push(last)?;
-    Ok(docs)
+    Ok(OpenRoad {
+        docs,
+        last: Some(LastHop { bill, hop }),
+    })
 }
 
-// The documents of the hops from the bill on, unless a hop's version can't hold it.
-fn carry(alloc: Global, bill: Bom, hops: &[Hop]) -> Result<List<Doc>, RoadError>
+// The road of the hops from the bill on, unless a hop's version can't hold it.
+fn carry(alloc: Global, bill: Bom, hops: &[Hop]) -> Result<OpenRoad, RoadError>
     ensures { (x : roads.Doc) (v : SpecVersion) → roads.denotes x v ≡ Ok (bom_tree bill)
-        → AnswersDocs (roads.road x v (hops_of hops.now)) result }
+        → AnswersOpen (roads.road x v (hops_of hops.now)) result }
 {
     if !fits_all(&bill, hops) {
         drop(bill);
         return Err(version_missing());
     }
-    let answer = along(alloc, &bill, hops);
-    drop(bill);
-    answer
+    up_to_last(alloc, bill, hops)
+}
+
+// All documents of the road: the last one is written now.
+fn written(alloc: Global, road: OpenRoad) -> Result<List<Doc>, AllocError>
+    ensures { (first : Each roads.Doc) → AreDocs road.docs first
+        → IfOk result (λ docs. AreDocs docs (first ++ last_documents road.last)) }
+{
+    let OpenRoad { mut docs, last } = road;
+    let Some(LastHop { bill, hop }) = last else {
+        return Ok(docs);
+    };
+    let doc = spell_freed(alloc, bill, hop)?;
+    docs.push(doc)?;
+    Ok(docs)
 }
 
 /// The documents of a road: each hop reads the document before it, in the version in which that was written, and
@@ -158,7 +165,8 @@ pub fn road(
     ensures { AnswersRoad doc.now version hops.now result }
 {
     let bill = bill_of(alloc, doc, version)?;
-    carry(alloc, bill, hops)
+    let road = carry(alloc, bill, hops)?;
+    Ok(written(alloc, road)?)
 }
 
 /// The bill of a document, read in a version, or its first fault as `Json` or `Xml`. Nothing else needs the document, and
@@ -167,6 +175,21 @@ pub fn into_bill(alloc: Global, doc: Doc, version: SpecVersion) -> Result<Bom, R
     ensures { (x : roads.Doc) → IsDoc doc x → DenotesBill (roads.denotes x version) result }
 {
     bill_of(alloc, &doc, version)
+}
+
+/// `road` of a document that nothing else needs, up to its last document, which is still to be written: so it can be
+/// printed as it is made. The document is freed once its bill is read. Refused as `road` is, and want of memory comes only
+/// as `Memory`.
+pub fn into_open_road(
+    alloc: Global,
+    doc: Doc,
+    version: SpecVersion,
+    hops: &[Hop],
+) -> Result<OpenRoad, RoadError>
+    ensures { AnswersOpenRoad doc version hops.now result }
+{
+    let bill = into_bill(alloc, doc, version)?;
+    carry(alloc, bill, hops)
 }
 
 /// `road` of a document that nothing else needs. It is freed once its bill is read, so that its memory serves the
@@ -179,8 +202,8 @@ pub fn into_road(
 ) -> Result<List<Doc>, RoadError>
     ensures { AnswersRoad doc version hops.now result }
 {
-    let bill = into_bill(alloc, doc, version)?;
-    carry(alloc, bill, hops)
+    let road = into_open_road(alloc, doc, version, hops)?;
+    Ok(written(alloc, road)?)
 }
 
 /// The road of one hop: the document that it makes of `doc`, which stands in `version`. Refused as `road` is: for the

@@ -1,4 +1,5 @@
 //! Whole bills in XML.
 
+pub(crate) mod pieces;
 pub(crate) mod reading;
 pub(crate) mod writing;

@@ -24,13 +24,17 @@ fn balanced(alloc: Global, line: &str) -> Result<String, AllocError> {
     }
 }
 
-// The same, by `finish`.
-fn finished(alloc: Global, line: &str) -> Result<String, AllocError> {
+fn written(alloc: Global, line: &str) -> Result<EventWriter, AllocError> {
     let mut writer = EventWriter::new(alloc);
     for event in list_of(alloc, line)?.into_vec() {
         writer.write(event)?;
     }
-    match writer.finish() {
+    Ok(writer)
+}
+
+// The same, by `finish`.
+fn finished(alloc: Global, line: &str) -> Result<String, AllocError> {
+    match written(alloc, line)?.finish() {
         Ok(events) => line_of(alloc, events.into_list().as_slice()),
         Err(error) => format!(in alloc; "{error:?}"),
     }
@@ -97,6 +101,7 @@ const EVENTS: &str = r#"
     balance start|<a|>a|end -> start|<a|>a|end
     balance start|<a|>a|end|end -> Unbalanced { place: 4 }
     read start|<a|<b|=x|>b|>a|end -> start|<a|<b|=x|>b|>a|end
+    write =x|>a -> =x|>a
     gather 5 0 -> Budget { taken: 5 }
     gather 12 0 -> Budget { taken: 12 }
     gather 0 1 -> Budget { taken: 0 }
@@ -118,6 +123,7 @@ fn answer(alloc: Global, word: &str, given: &str) -> Result<String, Fail> {
             Ok(answer)
         }
         "read" => turned(alloc, given),
+        "write" => Ok(line_of(alloc, written(alloc, given)?.into_list().as_slice())?),
         "gather" => gathered(alloc, given),
         "send" => sent(alloc, given),
         _ => Err(Fail::new("no such word")),

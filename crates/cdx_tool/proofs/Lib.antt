@@ -8,5 +8,6 @@ pub mod Statuses
 pub mod MadeRoads
 pub mod MadeBills
 pub mod Printing
+pub mod InPieces
 pub mod LoneMember
 pub mod Asked

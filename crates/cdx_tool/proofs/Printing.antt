@@ -1,9 +1,9 @@
 -- What is printed piece by piece is the value's text.
-use Rattle.std.proofs.Common.{◌≡◌, ◌∙◌, ℕ, List, [], ◌∷◌, ◌++◌, map, codes, Bool, true, false, Option, Some, None, Result, Ok, Err, OnOk, refl, sym, ap, append_assoc}
+use Rattle.std.proofs.Common.{◌≡◌, ◌∙◌, ℕ, List, [], ◌∷◌, ◌++◌, map, codes, true, false, Option, Some, None, Result, Ok, Err, OnOk, refl, sym, ap, append_assoc}
 use Rattle.std.proofs.lemmas.Bool.{or_parts}
 use Rattle.serde_json.specs.Data.{Data, string, array, object, Items, Members, no_members, member, put}
 use Rattle.serde_json.specs.View.{items_of}
-use Rattle.serde_json.specs.Written.{comma_if, has_float, compact_text, items_text, members_text}
+use Rattle.serde_json.specs.Written.{has_float, items_have_float, compact_text, items_text, members_text}
 use Rattle.serde_json.proofs.OnLiterals.{serde_json_on_literals}
 use Rattle.cdx_events.specs.declared.event.XmlEvent.{XmlEvent}
 use Rattle.cdx_events.specs.declared.name.OwnedName.{OwnedName}
@@ -11,37 +11,9 @@ use Rattle.cdx_events.specs.declared.name.OwnedAttribute.{OwnedAttribute}
 use Rattle.cdx_request.specs.EventValues.{with_optional_text, with_name, attribute_value, with_attributes, only_text, event_value}
 use Rattle.cdx_request.specs.Refusals.{only}
 use Rattle.cdx_request.specs.Replies.{line_of}
-use Rattle.cdx_tool.specs.Prints.{then_text, then_text_if, then_name, then_default, then_attributes}
-
--- ---- an object, member by member
-
--- what starts a member
-abbrev key_text : Bool → List ℕ → List ℕ
-key_text later k = comma_if later ++ (compact_text (string k) ++ 58 ∷ [])
-
--- what was printed of an object, with a member more
-member_printed : (before start : List ℕ) (later : Bool) (k : List ℕ) (d : Data) (ms : Members) → start ≡ key_text later k → ((before ++ start) ++ compact_text d) ++ members_text true ms ≡ before ++ members_text later (member k d ms)
-member_printed before start later k d ms is =
-    let rest = compact_text d ++ members_text true ms in
-    append_assoc (before ++ start) (compact_text d) (members_text true ms)
-    ∙ append_assoc before start rest
-    ∙ ap (λ s. before ++ (s ++ rest)) is
-    ∙ ap (λ s. before ++ s) (append_assoc (comma_if later) (compact_text (string k) ++ 58 ∷ []) rest)
-    ∙ ap (λ s. before ++ (comma_if later ++ s)) (append_assoc (compact_text (string k)) (58 ∷ []) rest)
-
--- an object that is begun with its first member
-first_printed : (before start k : List ℕ) (d : Data) (ms : Members) → start ≡ 123 ∷ key_text false k → ((before ++ start) ++ compact_text d) ++ members_text true ms ≡ before ++ compact_text (object (member k d ms))
-first_printed before start k d ms is =
-    ap (λ s. ((before ++ s) ++ compact_text d) ++ members_text true ms) is
-    ∙ ap (λ s. (s ++ compact_text d) ++ members_text true ms) (sym (append_assoc before (123 ∷ []) (key_text false k)))
-    ∙ member_printed (before ++ 123 ∷ []) (key_text false k) false k d ms refl
-    ∙ append_assoc before (123 ∷ []) (members_text false (member k d ms))
-
--- a member that another follows, with its comma
-led_printed : (before start k : List ℕ) (d : Data) (l : List ℕ) (e : Data) (ms : Members) → start ≡ key_text false k
-    → (((before ++ start) ++ compact_text d) ++ codes ",") ++ members_text false (member l e ms) ≡ before ++ members_text false (member k d (member l e ms))
-led_printed before start k d l e ms is =
-    append_assoc ((before ++ start) ++ compact_text d) (44 ∷ []) (members_text false (member l e ms)) ∙ member_printed before start false k d (member l e ms) is
+use Rattle.cdx_print.specs.Prints.{then_text, key_text}
+use Rattle.cdx_print.proofs.Printing.{member_printed, first_printed, led_printed}
+use Rattle.cdx_tool.specs.Prints.{then_text_if, then_name, then_default, then_attributes}
 
 -- ---- the members of an event
 
@@ -210,10 +182,13 @@ xml_printed before d = first_printed before (codes "{\"xml\":") (codes "xml") d 
 pub free_inside : (name : List ℕ) (d : Data) → has_float (only name d) ≡ false → has_float d ≡ false
 free_inside name d free = (or_parts (has_float d) false free).0
 
-pub documents_printed : (text : List ℕ) (ds : Items) → text ++ 93 ∷ [] ≡ codes "{\"documents\":[" ++ items_text false ds → text ++ codes "]}\n" ≡ line_of (only (codes "documents") (array ds))
+pub first_free : (ds es : List Data) → items_have_float (items_of (ds ++ es)) ≡ false → items_have_float (items_of ds) ≡ false
+first_free [] es free = refl
+first_free (d ∷ ds) es free = let parts = or_parts (has_float d) (items_have_float (items_of (ds ++ es))) free in rw (parts.0, first_free ds es parts.1) refl
+
+pub documents_printed : (text : List ℕ) (ds : Items) → text ≡ codes "{\"documents\":[" ++ items_text false ds → text ++ codes "}\n" ≡ line_of (only (codes "documents") (array ds))
 unfolding serde_json_on_literals
 documents_printed text ds so_far =
-    sym (append_assoc text (93 ∷ []) (codes "}\n"))
-    ∙ ap (λ s. s ++ codes "}\n") so_far
+    ap (λ s. s ++ codes "}\n") so_far
     ∙ sym (append_assoc (codes "{\"documents\":" ++ compact_text (array ds)) (codes "}") (10 ∷ []))
     ∙ ap (λ s. s ++ 10 ∷ []) (first_printed [] (codes "{\"documents\":") (codes "documents") (array ds) no_members refl)

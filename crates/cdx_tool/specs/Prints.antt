@@ -1,15 +1,12 @@
--- JSON that is printed piece by piece, each piece after the text before it.
-use Rattle.std.specs.Prelude.{ℕ, List, [], ◌∷◌, ◌++◌, map, codes, Option, Some, None}
-use Rattle.serde_json.specs.Data.{string, array}
+-- Items and events that are printed as JSON piece by piece, each piece after the text before it.
+use Rattle.std.specs.Prelude.{◌≡◌, ℕ, List, [], ◌∷◌, ◌++◌, map, codes, Bool, Option, Some, None}
+use Rattle.serde_json.specs.Data.{Data, array}
 use Rattle.serde_json.specs.View.{items_of}
-use Rattle.serde_json.specs.Written.{compact_text}
+use Rattle.serde_json.specs.Written.{compact_text, items_text}
 use Rattle.cdx_events.specs.declared.name.OwnedName.{OwnedName}
 use Rattle.cdx_events.specs.declared.name.OwnedAttribute.{OwnedAttribute}
 use Rattle.cdx_request.specs.EventValues.{attribute_value}
-
--- what starts a member, and the member's text
-abbrev pub then_text : List ℕ → List ℕ → List ℕ → List ℕ
-then_text start s before = (before ++ start) ++ compact_text (string s)
+use Rattle.cdx_print.specs.Prints.{then_text}
 
 abbrev pub then_text_if : List ℕ → Option (List ℕ) → List ℕ → List ℕ
 then_text_if start None before = before
@@ -27,3 +24,10 @@ then_default (Some s) before = then_text (codes "\"default\":") s before ++ code
 abbrev pub then_attributes : List OwnedAttribute → List ℕ → List ℕ
 then_attributes [] before = before
 then_attributes (a ∷ more) before = ((before ++ codes "\"attributes\":") ++ compact_text (array (items_of (map attribute_value (a ∷ more))))) ++ codes ","
+
+-- ---- a list, some of its items at a time
+
+-- The items were printed behind a text, and behind another item where `first` says so. With any items after them, behind
+-- one where `later` says so, and with the bracket that follows, it is the text of all of them.
+abbrev pub PrintsItems : List Data → List ℕ → Bool → List ℕ → Bool → Type 0
+PrintsItems ds old first new later = (more : List Data) → new ++ items_text later (items_of more) ≡ old ++ items_text first (items_of (ds ++ more))

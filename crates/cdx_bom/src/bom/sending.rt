@@ -8,6 +8,7 @@ ghost use Rattle.cdx_bom.specs.Outputs.{compact_kept, Outputs, IsRefused};
 
 use crate::bom::Bom;
 use crate::putting::put_text;
+use crate::refused::lacks_version;
 use cdx_events::{Sink, Text};
 use cdx_models::{JsonWriteError, SpecVersion};
 use std::alloc::Global;
@@ -47,9 +48,12 @@ impl Bom {
         ensures { Outputs result version (bom_tree self.now)
             (λ t. t ≡ compact_kept version (bom_tree self.now)) }
     {
-        let value = self.output_json(alloc, version)?;
-        match value.to_string(alloc) {
-            Ok(text) => Ok(Text::from_string(text)),
+        if !self.fits(version) {
+            return Err(JsonWriteError::BomError(lacks_version()));
+        }
+        let mut text = String::new(alloc);
+        match self.print_json(alloc, version, &mut text) {
+            Ok(()) => Ok(Text::from_string(text)),
             Err(error) => Err(JsonWriteError::Memory(error)),
         }
     }

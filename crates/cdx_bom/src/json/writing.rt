@@ -2,22 +2,30 @@
 
 ghost use Rattle.std.specs.Prelude.{◌≡◌, OnOk};
 ghost use Rattle.serde_json.specs.View.{members_view};
-ghost use Rattle.cdx_models.specs.Trees.{bill};
+ghost use Rattle.cdx_models.specs.Trees.{bill, present};
 ghost use Rattle.cdx_schema.specs.Groups.{group};
 ghost use Rattle.cdx_json.specs.KeptRows.{rows_put};
-ghost use Rattle.cdx_bom.specs.Trees.{inventory_groups, relations};
+ghost use Rattle.cdx_nest.specs.Nested.{components_tree};
+ghost use Rattle.cdx_bom.specs.Trees.{inventory_beside, relations};
 
 use crate::bom::Bom;
 use crate::json::label::Label;
 use cdx_json::{Members, put_required, put_row, put_row_since};
 use cdx_models::SpecVersion;
+use cdx_nest::Components;
 use cdx_schema::Target;
 use std::alloc::AllocError;
 
-pub(crate) fn put_inventory(held: &Bom, map: &mut Members, target: Target) -> Result<(), AllocError>
+// With these components in the place of the bill's.
+pub(crate) fn put_inventory(
+    held: &Bom,
+    components: &Option<Components>,
+    map: &mut Members,
+    target: Target,
+) -> Result<(), AllocError>
     ensures { OnOk result (members_view map.new.entries
-        ≡ rows_put (inventory_groups held.now) target.version (group 0 bill)
-        (members_view map.old.entries)) }
+        ≡ rows_put (inventory_beside (present components_tree components.now) held.now)
+        target.version (group 0 bill) (members_view map.old.entries)) }
 {
     let label = Label {
         version: held.spec_version,
@@ -26,7 +34,7 @@ pub(crate) fn put_inventory(held: &Bom, map: &mut Members, target: Target) -> Re
     put_required(map, "version", &held.version, target)?;
     put_row(map, "serialNumber", &held.serial_number, target)?;
     put_row(map, "metadata", &held.metadata, target)?;
-    put_row(map, "components", &held.components, target)?;
+    put_row(map, "components", components, target)?;
     put_row(map, "services", &held.services, target)?;
     Ok(())
 }

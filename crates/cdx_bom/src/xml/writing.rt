@@ -4,4 +4,5 @@ mod calls;
 mod document;
 mod rows;
 
-pub(crate) use document::document_events;
+pub(crate) use document::{document_events, only_memory, write_end, write_root_start, write_start};
+pub(crate) use rows::write_relations_rows;

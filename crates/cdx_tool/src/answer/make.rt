@@ -1,10 +1,11 @@
 //! The answer to the bytes of a request.
 
-ghost use Rattle.std.specs.Prelude.{◌≡◌, List, false, option_map, IfOk, Result as Owed};
+ghost use Rattle.std.specs.Prelude.{◌≡◌, ◌++◌, List, false, option_map, IfOk, Result as Owed};
 ghost use Rattle.serde_json.specs.View.{view};
 ghost use Rattle.serde_json.specs.Written.{has_float};
 ghost use Rattle.cdx_schema.specs.Roads.{Doc as SchemaDoc, Refusal, road as road_of};
 ghost use Rattle.cdx_bom.specs.Docs.{AreDocs, Refuses};
+ghost use Rattle.cdx_bom.specs.Hops.{last_documents};
 ghost use Rattle.cdx_request.specs.Requests.{Request as Asked, document_in_json, request_of, request_in};
 ghost use Rattle.cdx_request.specs.Refusals.{imbalance_value as unbalanced_at};
 ghost use Rattle.cdx_request.specs.Replies.{line_of, reply, no_request, reply_to, reply_to_request, reply_to_road, documents_value as documents_in};
@@ -16,8 +17,8 @@ use super::text::documents_line;
 use super::{Answer, LIMIT};
 use crate::request::{Request, RequestError, take_request};
 use crate::status::Status;
-use cdx_bom::{Doc, RoadError, into_road};
-use cdx_events::{List as Items, Text};
+use cdx_bom::{OpenRoad, RoadError, into_open_road};
+use cdx_events::Text;
 use serde_json::{Category, Value, json};
 use std::alloc::{AllocError, Global};
 
@@ -82,12 +83,13 @@ fn answer_refused(alloc: Global, error: RoadError) -> Result<Answer, AllocError>
     }
 }
 
-fn answer_documents(alloc: Global, docs: &Items<Doc>) -> Result<Answer, AllocError>
-    requires { (xs : List SchemaDoc) × AreDocs docs.now xs × (has_float (documents_in xs) ≡ false) }
-    ensures { (xs : List SchemaDoc) → AreDocs docs.now xs
-        → IfOk result (λ a. reply_of a ≡ reply 0 (documents_in xs)) }
+fn answer_documents(alloc: Global, road: &OpenRoad) -> Result<Answer, AllocError>
+    requires { (first : List SchemaDoc) × AreDocs road.now.docs first
+        × (has_float (documents_in (first ++ last_documents road.now.last)) ≡ false) }
+    ensures { (first : List SchemaDoc) → AreDocs road.now.docs first → IfOk result
+        (λ a. reply_of a ≡ reply 0 (documents_in (first ++ last_documents road.now.last))) }
 {
-    let text = documents_line(alloc, docs)?;
+    let text = documents_line(alloc, road)?;
     Ok(Answer {
         status: Status::Served as u8,
         text,
@@ -102,8 +104,8 @@ fn answer_request(alloc: Global, request: Request) -> Result<Answer, AllocError>
 {
     cdx_request::no_floats();
     let Request { from, doc, hops } = request;
-    match into_road(alloc, doc, from, hops.as_slice()) {
-        Ok(docs) => answer_documents(alloc, &docs),
+    match into_open_road(alloc, doc, from, hops.as_slice()) {
+        Ok(road) => answer_documents(alloc, &road),
         Err(error) => answer_refused(alloc, error),
     }
 }

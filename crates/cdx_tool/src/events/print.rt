@@ -1,16 +1,19 @@
 //! Events printed as JSON, one after another.
 
-ghost use Rattle.std.specs.Prelude.{◌≡◌, ◌++◌, codes, map as each, OnOk, string_bytes};
+ghost use Rattle.std.specs.Prelude.{◌≡◌, ◌++◌, codes, map as each, IfOk, OnOk, string_bytes};
 ghost use Rattle.serde_json.specs.Data.{array};
 ghost use Rattle.serde_json.specs.View.{items_of};
 ghost use Rattle.serde_json.specs.Written.{compact_text};
+ghost use Rattle.cdx_bom.specs.Trees.{bom_tree};
+ghost use Rattle.cdx_bom.specs.BillWriting.{document_in};
+ghost use Rattle.cdx_print.specs.Prints.{then_text};
 ghost use Rattle.cdx_request.specs.EventValues.{attribute_value, event_value, events_value};
-ghost use Rattle.cdx_tool.specs.Prints.{then_text, then_text_if, then_name, then_default, then_attributes};
+ghost use Rattle.cdx_tool.specs.Prints.{then_text_if, then_name, then_default, then_attributes, PrintsItems};
 
-use crate::printed::{print_comma_if, print_text};
-use cdx_events::{
-    EventReader, Events, List as Items, OwnedAttribute, OwnedName, Text, XmlEvent as Event,
-};
+use cdx_bom::Bom;
+use cdx_events::{Events, List as Items, OwnedAttribute, OwnedName, Text, XmlEvent as Event};
+use cdx_models::SpecVersion;
+use cdx_print::{print_comma_if, print_text};
 use std::alloc::{AllocError, Global};
 
 fn print_text_if(
@@ -161,6 +164,25 @@ fn print_event(alloc: Global, out: &mut String, event: &Event) -> Result<(), All
     }
 }
 
+// The events, after others where one stands before them. It gives whether one stands before what follows.
+fn print_events_from(
+    alloc: Global,
+    out: &mut String,
+    events: &[Event],
+    is_later: bool,
+) -> Result<bool, AllocError>
+    ensures { IfOk result (λ later. PrintsItems (each event_value events.now)
+        (string_bytes out.old) is_later (string_bytes out.new) later) }
+{
+    let mut later = is_later;
+    for event in events {
+        print_comma_if(out, later)?;
+        print_event(alloc, out, event)?;
+        later = true;
+    }
+    Ok(later)
+}
+
 /// The text of `events_to_json`, without its value. Only want of memory refuses.
 pub(crate) fn print_events(
     alloc: Global,
@@ -170,13 +192,27 @@ pub(crate) fn print_events(
     ensures { OnOk result (string_bytes out.new
         ≡ string_bytes out.old ++ compact_text (events_value events.now.list)) }
 {
-    let mut reader = EventReader::new(events);
+    out.push_str("[")?;
+    print_events_from(alloc, out, events.as_slice(), false)?;
+    out.push_str("]")
+}
+
+/// The same of the document of what the version keeps of a bill. A piece of its events is made, printed and freed before
+/// the next. Only want of memory refuses.
+pub(crate) fn print_document(
+    alloc: Global,
+    out: &mut String,
+    bill: &Bom,
+    version: SpecVersion,
+) -> Result<(), AllocError>
+    ensures { OnOk result (string_bytes out.new ≡ string_bytes out.old
+        ++ compact_text (events_value (document_in version (bom_tree bill.now)))) }
+{
+    let mut pieces = bill.document_pieces(alloc, version);
     out.push_str("[")?;
     let mut is_later = false;
-    while let Some(event) = reader.next() {
-        print_comma_if(out, is_later)?;
-        print_event(alloc, out, event)?;
-        is_later = true;
+    while let Some(piece) = pieces.next()? {
+        is_later = print_events_from(alloc, out, piece.as_slice(), is_later)?;
     }
     out.push_str("]")
 }

@@ -8,4 +8,4 @@ pub returns-then-not-fits_all : goal.returns-then-not-fits_all
 returns-then-not-fits_all c = λ x v denoted. missing_then c.version_missing.result x v (hops_of c.args.hops.now) (bom_tree c.args.bill) denoted (sym c.fits_all.ensures ∙ c.if-not-fits_all.true) c.version_missing.ensures
 
 pub returns : goal.returns
-returns c = λ x v denoted. hops_then c.along-answer.result x v (hops_of c.args.hops.now) (bom_tree c.args.bill) denoted (sym c.fits_all.ensures ∙ c.if-not-fits_all.false) (c.along-answer.ensures x v denoted)
+returns c = λ x v denoted. hops_then c.up_to_last.result x v (hops_of c.args.hops.now) (bom_tree c.args.bill) denoted (sym c.fits_all.ensures ∙ c.if-not-fits_all.false) (c.up_to_last.ensures x v denoted)

@@ -1,6 +1,6 @@
 //! Whole documents of bills.
 
-ghost use Rattle.std.specs.Prelude.{◌≡◌, [], ◌∷◌, IfOk};
+ghost use Rattle.std.specs.Prelude.{◌≡◌, List, [], ◌∷◌, ◌++◌, IfOk, OnOk};
 ghost use Rattle.cdx_models.specs.Trees.{bill};
 ghost use Rattle.cdx_schema.specs.Kinds.{a_bill};
 ghost use Rattle.cdx_schema.specs.Keeping.{keep};
@@ -12,6 +12,7 @@ ghost use Rattle.cdx_write.specs.WrittenRows.{rows_written};
 ghost use Rattle.cdx_write.specs.Writing.{Appends};
 ghost use Rattle.cdx_bom.specs.Trees.{bom_tree};
 ghost use Rattle.cdx_bom.specs.BillWriting.{root_start};
+ghost use Rattle.cdx_bom.specs.Pieces.{OnlyMemory};
 
 use crate::bom::Bom;
 use crate::xml::writing::rows::{root_attributes, write_inventory_rows, write_relations_rows};
@@ -22,14 +23,14 @@ use cdx_schema::Target;
 use cdx_write::{HasContent, ToXml, WriteResult, write_close_tag};
 use std::alloc::{AllocError, Global};
 
-fn write_start(writer: &mut EventWriter) -> WriteResult
+pub(crate) fn write_start(writer: &mut EventWriter) -> WriteResult
     ensures { Appends writer.old writer.new (XmlEvent.StartDocument ∷ []) result }
 {
     writer.write(XmlEvent::StartDocument)?;
     Ok(())
 }
 
-fn write_end(writer: &mut EventWriter) -> WriteResult
+pub(crate) fn write_end(writer: &mut EventWriter) -> WriteResult
     ensures { Appends writer.old writer.new (XmlEvent.EndDocument ∷ []) result }
 {
     writer.write(XmlEvent::EndDocument)?;
@@ -37,7 +38,7 @@ fn write_end(writer: &mut EventWriter) -> WriteResult
 }
 
 // The version's namespace is the root's default.
-fn write_root_start(held: &Bom, writer: &mut EventWriter, target: Target) -> WriteResult
+pub(crate) fn write_root_start(held: &Bom, writer: &mut EventWriter, target: Target) -> WriteResult
     ensures { Appends writer.old writer.new (root_start (bom_tree held.now) target.version ∷ [])
         result }
 {
@@ -100,19 +101,29 @@ impl ToXml for Bom {
     }
 }
 
+/// The answer of a writer that only want of memory refuses, with that as its one error.
+pub(crate) fn only_memory(answer: WriteResult) -> Result<(), AllocError>
+    requires { OnlyMemory answer }
+    ensures { (old : List XmlEvent) (new : List XmlEvent) (spelling : List XmlEvent)
+        → Appends old new spelling answer → OnOk result (new ≡ old ++ spelling) }
+{
+    match answer {
+        Ok(()) => Ok(()),
+        Err(XmlWriteError::Memory(error)) => Err(error),
+        Err(XmlWriteError::BomError(_)) => unreachable!(),
+        Err(XmlWriteError::XmlElementWriteError { .. }) => unreachable!(),
+    }
+}
+
 /// The events of the document of what the version keeps. Only want of memory refuses.
+#[tactic(auto, using(crate::proofs::Pieces::appends_only_memory))]
 pub(crate) fn document_events(held: &Bom, target: Target) -> Result<Events, AllocError>
     ensures { IfOk result
         (λ e. e.list ≡ xml_document
         (keep target.version (bom_tree held.now) a_bill) target.version) }
 {
     let mut writer = EventWriter::new(target.alloc);
-    match write_document(held, &mut writer, target) {
-        Ok(()) => {}
-        Err(XmlWriteError::Memory(error)) => return Err(error),
-        Err(XmlWriteError::BomError(_)) => unreachable!(),
-        Err(XmlWriteError::XmlElementWriteError { .. }) => unreachable!(),
-    }
+    only_memory(write_document(held, &mut writer, target))?;
     match writer.finish() {
         Ok(events) => Ok(events),
         Err(EventsError::Memory(error)) => Err(error),

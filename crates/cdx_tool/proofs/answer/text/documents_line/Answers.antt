@@ -1,20 +1,21 @@
-use Rattle.std.proofs.Common.{rules, arith, ◌≡◌, ◌∙◌, ◌∷◌, ◌++◌, [], codes, false, ap, sym, string_bytes}
-use Rattle.std.proofs.lemmas.List.{drop_all}
-use Rattle.serde_json.specs.Data.{array}
+use Rattle.std.proofs.Common.{rules, ◌≡◌, ◌∙◌, ◌++◌, map, codes, false, ap, string_bytes}
 use Rattle.serde_json.specs.View.{items_of}
 use Rattle.serde_json.specs.Written.{items_text}
-use Rattle.cdx_request.specs.Replies.{line_of}
-use Rattle.cdx_request.specs.Refusals.{only}
-use Rattle.cdx_tool.specs.Shows.{docs_shown}
-use Rattle.cdx_tool.proofs.Answering.{docs_are}
+use Rattle.cdx_bom.specs.Hops.{last_documents}
+use Rattle.cdx_request.specs.Replies.{doc_value}
+use Rattle.cdx_tool.specs.Shows.{doc_shown}
+use Rattle.cdx_tool.proofs.Answering.{all_docs}
 use Rattle.cdx_tool.proofs.Printing.{documents_printed}
 use Rattle.cdx_tool.proofs.answer.text.documents_line.Goals as goal
 
 pub returns : goal.returns
-returns c = λ xs are.
-    let docs = c.args.docs.now in
-    let held = string_bytes c.loop-doc.text in
-    let none = drop_all c.loop-doc.doc-index c.as_slice-doc-items.result.now (omega (arith, c.loop-doc-test.false)) in
-    let so_far : held ++ 93 ∷ [] ≡ codes "{\"documents\":[" ++ items_text false (docs_shown docs) = sym (ap (λ ds. held ++ items_text c.loop-doc.is_later (docs_shown ds)) none) ∙ c.loop-doc.invariant.0 in
-    let text : c.from_string.result ≡ held ++ codes "]}\n" = search rules in
-    text ∙ documents_printed held (docs_shown docs) so_far ∙ ap (λ ds. line_of (only (codes "documents") (array (items_of ds)))) (docs_are docs xs are)
+returns c = λ first are.
+    let docs = c.args.road.now.docs in
+    let last = last_documents c.args.road.now.last in
+    let start = codes "{\"documents\":[" in
+    let before = c.in_ok-is_later.ensures (map doc_value last) in
+    let items = ap (λ ds. map doc_shown ds ++ map doc_value last) c.as_slice.ensures ∙ all_docs docs first last are in
+    let items_are = ap (λ vs. start ++ items_text false (items_of vs)) items in
+    let so_far : string_bytes c.push_end.new.text ≡ start ++ items_text false (items_of (map doc_value (first ++ last))) = search rules in
+    let text : c.from_string.result ≡ string_bytes c.push_end.new.text ++ codes "}\n" = search rules in
+    text ∙ documents_printed (string_bytes c.push_end.new.text) (items_of (map doc_value (first ++ last))) so_far

@@ -1,0 +1,31 @@
+//! The last document of a road, made piece by piece.
+
+use cdx_bom::{Bom, Form, Hop};
+use cdx_models::SpecVersion;
+use cdx_test_cases::documents::line_of;
+use std::alloc::{AllocError, Global};
+
+// The pieces of the document's events, each after the one before.
+fn joined(alloc: Global, bill: &Bom, version: SpecVersion) -> Result<String, AllocError> {
+    let mut pieces = bill.document_pieces(alloc, version);
+    let mut line = String::new(alloc);
+    while let Some(piece) = pieces.next()? {
+        if !line.is_empty() {
+            line.push('|')?;
+        }
+        line.push_str(line_of(alloc, piece.as_slice())?.as_str())?;
+    }
+    Ok(line)
+}
+
+/// The text of the document that the hop makes of the bill.
+pub(crate) fn in_pieces(alloc: Global, bill: &Bom, hop: Hop) -> Result<String, AllocError> {
+    match hop.form {
+        Form::Json => {
+            let mut text = String::new(alloc);
+            bill.print_json(alloc, hop.version, &mut text)?;
+            Ok(text)
+        }
+        Form::Xml => joined(alloc, bill, hop.version),
+    }
+}

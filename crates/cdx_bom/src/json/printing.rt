@@ -1,0 +1,62 @@
+//! Bills printed as JSON, piece by piece.
+
+ghost use Rattle.std.specs.Prelude.{◌≡◌, ◌++◌, OnOk, IfOk, string_bytes};
+ghost use Rattle.serde_json.specs.Data.{no_members};
+ghost use Rattle.serde_json.specs.View.{members_view};
+ghost use Rattle.cdx_models.specs.Trees.{bill, absent};
+ghost use Rattle.cdx_schema.specs.Groups.{group};
+ghost use Rattle.cdx_json.specs.KeptRows.{rows_put};
+ghost use Rattle.cdx_bom.specs.Trees.{bom_tree, inventory_beside, relations};
+ghost use Rattle.cdx_bom.specs.Outputs.{compact_kept};
+
+use crate::bom::Bom;
+use crate::json::writing::{put_inventory, put_relations};
+use cdx_json::{Members, ToJson};
+use cdx_models::SpecVersion;
+use cdx_print::{print_items, print_members, print_value};
+use cdx_schema::Target;
+use serde_json::Map;
+use std::alloc::{AllocError, Global};
+
+// What stands before a bill's components.
+const BEGINNING: &str = "{\"bomFormat\":\"CycloneDX\",\"components\":";
+
+impl Bom {
+    /// Prints what the version keeps of the bill after a text: the text that `serde_json` gives for the value of
+    /// `output_json`. Of a bill with components each one's value is freed before the next is made, so that no value of
+    /// the whole stands in memory. It doesn't ask whether the bill fits the version. Only want of memory refuses.
+    pub fn print_json(
+        &self,
+        alloc: Global,
+        version: SpecVersion,
+        out: &mut String,
+    ) -> Result<(), AllocError>
+        ensures { OnOk result (string_bytes out.new
+            ≡ string_bytes out.old ++ compact_kept version (bom_tree self.now)) }
+    {
+        match &self.components {
+            None => {
+                let value = self.to_value(alloc, version)?;
+                print_value(alloc, out, &value)
+            }
+            Some(components) => {
+                out.push_str(BEGINNING)?;
+                print_items(alloc, out, components.as_slice(), version)?;
+                let others = other_rows(self, Target { alloc, version })?;
+                print_members(alloc, out, &others, true)
+            }
+        }
+    }
+}
+
+// The members of the rows other than the components'.
+fn other_rows(held: &Bom, target: Target) -> Result<Members, AllocError>
+    ensures { IfOk result (λ m. members_view m.entries
+        ≡ rows_put (relations held.now) target.version (group 1 bill)
+        (rows_put (inventory_beside absent held.now) target.version (group 0 bill) no_members)) }
+{
+    let mut map = Map::new(target.alloc);
+    put_inventory(held, &None, &mut map, target)?;
+    put_relations(held, &mut map, target)?;
+    Ok(map)
+}

@@ -1,0 +1,48 @@
+//! The items of a list, printed one after another.
+
+ghost use Rattle.std.specs.Prelude.{◌≡◌, ◌++◌, map as each, OnOk, string_bytes};
+ghost use Rattle.serde_json.specs.Data.{array};
+ghost use Rattle.serde_json.specs.View.{items_of};
+ghost use Rattle.serde_json.specs.Written.{compact_text};
+ghost use Rattle.cdx_print.specs.Prints.{kept_value};
+
+use crate::pieces::{print_comma_if, print_value};
+use cdx_json::ToJson;
+use cdx_models::SpecVersion;
+use std::alloc::{AllocError, Global};
+
+// What the version keeps of the item. Its value is freed at the end.
+#[tactic(auto, using(cdx_schema::proofs::Clear::spelling_clear))]
+fn print_item<T: ToJson>(
+    alloc: Global,
+    out: &mut String,
+    item: &T,
+    version: SpecVersion,
+) -> Result<(), AllocError>
+    ensures { OnOk result (string_bytes out.new ≡ string_bytes out.old
+        ++ compact_text (kept_value T.tree T.kind version item.now)) }
+{
+    let value = item.to_value(alloc, version)?;
+    print_value(alloc, out, &value)
+}
+
+/// What the version keeps of the items, as an array, where each item's value is made, printed and freed before the
+/// next. Only want of memory refuses.
+pub fn print_items<T: ToJson>(
+    alloc: Global,
+    out: &mut String,
+    items: &[T],
+    version: SpecVersion,
+) -> Result<(), AllocError>
+    ensures { OnOk result (string_bytes out.new ≡ string_bytes out.old
+        ++ compact_text (array (items_of (each (kept_value T.tree T.kind version) items.now)))) }
+{
+    out.push_str("[")?;
+    let mut is_later = false;
+    for item in items {
+        print_comma_if(out, is_later)?;
+        print_item(alloc, out, item, version)?;
+        is_later = true;
+    }
+    out.push_str("]")
+}

@@ -1,0 +1,11 @@
+//! JSON printed piece by piece after a text, each piece by `serde_json`: what `Value::to_string` would give of the whole,
+//! without its value.
+#![tactic(auto)]
+
+mod items;
+mod members;
+mod pieces;
+
+pub use items::print_items;
+pub use members::print_members;
+pub use pieces::{print_comma_if, print_text, print_value};
