@@ -1,6 +1,8 @@
 //! Events as JSON values.
 
+mod known;
 mod print;
+mod printer;
 mod read;
 mod write;
 

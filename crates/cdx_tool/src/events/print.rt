@@ -10,14 +10,15 @@ ghost use Rattle.cdx_print.specs.Prints.{then_text};
 ghost use Rattle.cdx_request.specs.EventValues.{attribute_value, event_value, events_value};
 ghost use Rattle.cdx_tool.specs.Prints.{then_text_if, then_name, then_default, then_attributes, PrintsItems};
 
+use crate::events::printer::TextPrinter;
 use cdx_bom::Bom;
 use cdx_events::{Events, List as Items, OwnedAttribute, OwnedName, Text, XmlEvent as Event};
 use cdx_models::SpecVersion;
-use cdx_print::{print_comma_if, print_text};
+use cdx_print::print_comma_if;
 use std::alloc::{AllocError, Global};
 
 fn print_text_if(
-    alloc: Global,
+    printer: &mut TextPrinter,
     out: &mut String,
     start: &str,
     text: &Option<Text>,
@@ -27,13 +28,13 @@ fn print_text_if(
 {
     match text {
         None => Ok(()),
-        Some(text) => print_text(alloc, out, start, text.as_str()),
+        Some(text) => printer.print_text(out, start, text.as_str()),
     }
 }
 
 // The members of a name, in byte order as all members are.
 fn print_name(
-    alloc: Global,
+    printer: &mut TextPrinter,
     out: &mut String,
     start: &str,
     name: &OwnedName,
@@ -41,26 +42,26 @@ fn print_name(
     ensures { OnOk result
         (string_bytes out.new ≡ then_name start.now name.now (string_bytes out.old)) }
 {
-    print_text(alloc, out, start, name.local_name.as_str())?;
-    print_text_if(alloc, out, ",\"prefix\":", &name.prefix)?;
-    print_text_if(alloc, out, ",\"uri\":", &name.namespace)
+    printer.print_name(out, start, name.local_name.as_str())?;
+    print_text_if(printer, out, ",\"prefix\":", &name.prefix)?;
+    print_text_if(printer, out, ",\"uri\":", &name.namespace)
 }
 
 fn print_attribute(
-    alloc: Global,
+    printer: &mut TextPrinter,
     out: &mut String,
     attribute: &OwnedAttribute,
 ) -> Result<(), AllocError>
     ensures { OnOk result (string_bytes out.new
         ≡ string_bytes out.old ++ compact_text (attribute_value attribute.now)) }
 {
-    print_name(alloc, out, "{\"name\":", &attribute.name)?;
-    print_text(alloc, out, ",\"value\":", attribute.value.as_str())?;
+    print_name(printer, out, "{\"name\":", &attribute.name)?;
+    printer.print_text(out, ",\"value\":", attribute.value.as_str())?;
     out.push_str("}")
 }
 
 fn print_list(
-    alloc: Global,
+    printer: &mut TextPrinter,
     out: &mut String,
     attributes: &[OwnedAttribute],
 ) -> Result<(), AllocError>
@@ -71,7 +72,7 @@ fn print_list(
     let mut is_later = false;
     for attribute in attributes {
         print_comma_if(out, is_later)?;
-        print_attribute(alloc, out, attribute)?;
+        print_attribute(printer, out, attribute)?;
         is_later = true;
     }
     out.push_str("]")
@@ -79,7 +80,7 @@ fn print_list(
 
 // The attributes, where there are some, before the member that follows.
 fn print_attributes(
-    alloc: Global,
+    printer: &mut TextPrinter,
     out: &mut String,
     attributes: &Items<OwnedAttribute>,
 ) -> Result<(), AllocError>
@@ -90,28 +91,32 @@ fn print_attributes(
         [] => Ok(()),
         some => {
             out.push_str("\"attributes\":")?;
-            print_list(alloc, out, some)?;
+            print_list(printer, out, some)?;
             out.push_str(",")
         }
     }
 }
 
 // The default namespace, where there is one, before the member that follows.
-fn print_default(alloc: Global, out: &mut String, default: &Option<Text>) -> Result<(), AllocError>
+fn print_default(
+    printer: &mut TextPrinter,
+    out: &mut String,
+    default: &Option<Text>,
+) -> Result<(), AllocError>
     ensures { OnOk result
         (string_bytes out.new ≡ then_default default.now (string_bytes out.old)) }
 {
     match default {
         None => Ok(()),
         Some(text) => {
-            print_text(alloc, out, "\"default\":", text.as_str())?;
+            printer.print_text(out, "\"default\":", text.as_str())?;
             out.push_str(",")
         }
     }
 }
 
 fn print_start(
-    alloc: Global,
+    printer: &mut TextPrinter,
     out: &mut String,
     name: &OwnedName,
     attributes: &Items<OwnedAttribute>,
@@ -123,50 +128,59 @@ fn print_start(
         ++ codes "}") }
 {
     out.push_str("{")?;
-    print_attributes(alloc, out, attributes)?;
-    print_default(alloc, out, default)?;
-    print_name(alloc, out, "\"element\":", name)?;
+    print_attributes(printer, out, attributes)?;
+    print_default(printer, out, default)?;
+    print_name(printer, out, "\"element\":", name)?;
     out.push_str("}")
 }
 
-fn print_end(alloc: Global, out: &mut String, name: &OwnedName) -> Result<(), AllocError>
+fn print_end(
+    printer: &mut TextPrinter,
+    out: &mut String,
+    name: &OwnedName,
+) -> Result<(), AllocError>
     ensures { OnOk result (string_bytes out.new
         ≡ then_name (codes "{\"end\":") name.now (string_bytes out.old) ++ codes "}") }
 {
-    print_name(alloc, out, "{\"end\":", name)?;
+    print_name(printer, out, "{\"end\":", name)?;
     out.push_str("}")
 }
 
 // An object with this text alone.
-fn print_only(alloc: Global, out: &mut String, start: &str, text: &str) -> Result<(), AllocError>
+fn print_only(
+    printer: &mut TextPrinter,
+    out: &mut String,
+    start: &str,
+    text: &str,
+) -> Result<(), AllocError>
     ensures { OnOk result (string_bytes out.new
         ≡ then_text start.now text.now (string_bytes out.old) ++ codes "}") }
 {
-    print_text(alloc, out, start, text)?;
+    printer.print_text(out, start, text)?;
     out.push_str("}")
 }
 
-fn print_event(alloc: Global, out: &mut String, event: &Event) -> Result<(), AllocError>
+fn print_event(printer: &mut TextPrinter, out: &mut String, event: &Event) -> Result<(), AllocError>
     ensures { OnOk result (string_bytes out.new
         ≡ string_bytes out.old ++ compact_text (event_value event.now)) }
 {
     match event {
-        Event::StartDocument => print_only(alloc, out, "{\"document\":", "start"),
-        Event::EndDocument => print_only(alloc, out, "{\"document\":", "end"),
+        Event::StartDocument => print_only(printer, out, "{\"document\":", "start"),
+        Event::EndDocument => print_only(printer, out, "{\"document\":", "end"),
         Event::StartElement {
             name,
             attributes,
             namespace,
-        } => print_start(alloc, out, name, attributes, &namespace.default),
-        Event::EndElement { name } => print_end(alloc, out, name),
-        Event::Characters(text) => print_only(alloc, out, "{\"text\":", text.as_str()),
-        Event::CData(text) => print_only(alloc, out, "{\"cdata\":", text.as_str()),
+        } => print_start(printer, out, name, attributes, &namespace.default),
+        Event::EndElement { name } => print_end(printer, out, name),
+        Event::Characters(text) => print_only(printer, out, "{\"text\":", text.as_str()),
+        Event::CData(text) => print_only(printer, out, "{\"cdata\":", text.as_str()),
     }
 }
 
 // The events, after others where one stands before them. It gives whether one stands before what follows.
 fn print_events_from(
-    alloc: Global,
+    printer: &mut TextPrinter,
     out: &mut String,
     events: &[Event],
     is_later: bool,
@@ -177,7 +191,7 @@ fn print_events_from(
     let mut later = is_later;
     for event in events {
         print_comma_if(out, later)?;
-        print_event(alloc, out, event)?;
+        print_event(printer, out, event)?;
         later = true;
     }
     Ok(later)
@@ -192,8 +206,9 @@ pub(crate) fn print_events(
     ensures { OnOk result (string_bytes out.new
         ≡ string_bytes out.old ++ compact_text (events_value events.now.list)) }
 {
+    let mut printer = TextPrinter::new(alloc);
     out.push_str("[")?;
-    print_events_from(alloc, out, events.as_slice(), false)?;
+    print_events_from(&mut printer, out, events.as_slice(), false)?;
     out.push_str("]")
 }
 
@@ -209,10 +224,11 @@ pub(crate) fn print_document(
         ++ compact_text (events_value (document_in version (bom_tree bill.now)))) }
 {
     let mut pieces = bill.document_pieces(alloc, version);
+    let mut printer = TextPrinter::new(alloc);
     out.push_str("[")?;
     let mut is_later = false;
     while let Some(piece) = pieces.next()? {
-        is_later = print_events_from(alloc, out, piece.as_slice(), is_later)?;
+        is_later = print_events_from(&mut printer, out, piece.as_slice(), is_later)?;
     }
     out.push_str("]")
 }

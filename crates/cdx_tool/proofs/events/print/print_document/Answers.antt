@@ -8,23 +8,23 @@ use Rattle.cdx_request.specs.EventValues.{event_value, events_value}
 use Rattle.cdx_tool.proofs.InPieces.{begun, piece_printed}
 use Rattle.cdx_tool.proofs.events.print.print_document.Goals as goal
 
-pub loop-piece-init : goal.loop-piece-init
-loop-piece-init c =
+pub loop-printer-init : goal.loop-printer-init
+loop-printer-init c =
     let held = string_bytes c.push_str.new.self in
     let events = document_in c.args.version (bom_tree c.args.bill.now) in
     ap (λ es. held ++ items_text false (items_of (map event_value es))) c.document_pieces-pieces.ensures ∙ begun (map event_value events) (string_bytes c.args.out.now) held (search rules)
 
-pub loop-piece-preserved : goal.loop-piece-preserved
-loop-piece-preserved c =
-    let ahead = c.loop-piece.pieces in
+pub loop-printer-preserved : goal.loop-printer-preserved
+loop-printer-preserved c =
+    let ahead = c.loop-printer.pieces in
     let rest = c.next.new.self in
     let given : GivesPiece ahead rest (Some c.in-Some.piece) = search rules in
     let events = given.0 ∙ ap (λ es. es ++ rest.events) (sym c.as_slice.ensures) in
-    piece_printed event_value ahead.events c.as_slice.result.now rest.events _ _ _ _ _ events c.in_ok-is_later.ensures c.loop-piece.invariant
+    piece_printed event_value ahead.events c.as_slice.result.now rest.events _ _ _ _ _ events c.in_ok-is_later.ensures c.loop-printer.invariant
 
 pub returns : goal.returns
 returns c =
-    let held = string_bytes c.loop-piece.out in
-    let none : c.loop-piece.pieces.events ≡ [] = search rules in
-    let so_far : held ++ 93 ∷ [] ≡ string_bytes c.args.out.now ++ compact_text (events_value (document_in c.args.version (bom_tree c.args.bill.now))) = sym (ap (λ es. held ++ items_text c.loop-piece.is_later (items_of (map event_value es))) none) ∙ c.loop-piece.invariant in
+    let held = string_bytes c.loop-printer.out in
+    let none : c.loop-printer.pieces.events ≡ [] = search rules in
+    let so_far : held ++ 93 ∷ [] ≡ string_bytes c.args.out.now ++ compact_text (events_value (document_in c.args.version (bom_tree c.args.bill.now))) = sym (ap (λ es. held ++ items_text c.loop-printer.is_later (items_of (map event_value es))) none) ∙ c.loop-printer.invariant in
     search rules

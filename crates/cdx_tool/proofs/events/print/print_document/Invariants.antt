@@ -7,9 +7,9 @@ use Rattle.cdx_request.specs.EventValues.{event_value, events_value}
 use Rattle.cdx_tool.proofs.events.print.print_document.Given as goal
 
 -- the pieces so far, and then the events ahead
-abbrev pub invariant-loop-piece : goal.invariant-loop-piece
-invariant-loop-piece l =
+abbrev pub invariant-loop-printer : goal.invariant-loop-printer
+invariant-loop-printer l =
     string_bytes l.out ++ items_text l.is_later (items_of (map event_value l.pieces.events)) ≡ string_bytes l.fn.out ++ compact_text (events_value (document_in l.fn.version (bom_tree l.bill)))
 
-abbrev pub decreases-loop-piece : goal.decreases-loop-piece
-decreases-loop-piece l = l.pieces.pieces
+abbrev pub decreases-loop-printer : goal.decreases-loop-printer
+decreases-loop-printer l = l.pieces.pieces
