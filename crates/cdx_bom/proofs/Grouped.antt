@@ -1,11 +1,8 @@
 -- Bills, read, kept and written group by group.
-use Rattle.std.proofs.Common.{◌≡◌, [], ◌++◌, length, Some, None, Result, Global, BTreeMap, String, refl, sym, ap, ◌∙◌, subst}
+use Rattle.std.proofs.Common.{◌≡◌, [], ◌++◌, length, Some, None, Result, Vec, Global, refl, sym, ap, ◌∙◌, subst}
 use Rattle.serde_json.specs.Data.{Data, Members, object}
 use Rattle.serde_json.specs.Data as json
 use Rattle.serde_json.specs.Find.{as_object}
-use Rattle.serde_json.specs.View.{view, members_view}
-use Rattle.serde_json.specs.declared.value.Value.{Value, Object as object_of}
-use Rattle.serde_json.proofs.Views.{view-Object}
 use Rattle.cdx_models.specs.declared.bom.SpecVersion.{SpecVersion}
 use Rattle.cdx_models.specs.declared.bom.SpecVersion.TheVariants.{V1_3, V1_4, V1_5}
 use Rattle.cdx_models.specs.declared.errors.JsonReadError.{JsonReadError}
@@ -25,10 +22,13 @@ use Rattle.cdx_json.specs.ByRows.{rows_made, own_made, by_rows, as_record}
 use Rattle.cdx_json.specs.KeptRows.{rows_held, rows_put}
 use Rattle.cdx_schema.specs.Groups.{group}
 use Rattle.cdx_json.specs.Groups.{group_read}
+use Rattle.cdx_json.specs.Spellings.{spelling_data, spelling_members}
+use Rattle.cdx_json.specs.declared.spelling.Spelling.{Object as object_of}
 use Rattle.cdx_json.proofs.Rows.{fails_here}
 use Rattle.cdx_json.proofs.ByRowsLaws.{by_rows_are, rows_split, rows_then, then_same}
 use Rattle.cdx_json.proofs.KeptRowsLaws.{rows_held_are, rows_put_are}
 use Rattle.cdx_json.proofs.Groups.{held_split, two_equal, put_split}
+use Rattle.cdx_json.proofs.Setting.{Entry, spelling_data-Object}
 use Rattle.cdx_bom.specs.declared.bom.Bom.{Bom}
 use Rattle.cdx_bom.specs.Trees.{inventory_groups, relations, bom_tree}
 use Rattle.cdx_bom.specs.Groups.{format_of, bill_by_groups}
@@ -100,7 +100,7 @@ bill_members b w =
     let split = ap (λ rs. rows_put (inventory_groups b ⧺ relations b) w rs (heading bill)) bill_rows ∙ put_split w (inventory_groups b) (relations b) (group 0 bill) (group 1 bill) (heading bill) (inventory_count b) in
     ap object (sym split) ∙ bill_object w (inventory_groups b ⧺ relations b) ∙ ap (λ t. jspell t w a_bill) (bill_kept_is w w (inventory_groups b ⧺ relations b))
 
-pub bill_put : (m : BTreeMap (String Global) Value) (b : Bom) (w : SpecVersion) (p q : Members) → q ≡ heading bill → p ≡ rows_put (inventory_groups b) w (group 0 bill) q → members_view m.entries ≡ rows_put (relations b) w (group 1 bill) p
-    → view (object_of m) ≡ jspell (keep w (bom_tree b) a_bill) w a_bill
+pub bill_put : (m : Vec Entry Global) (b : Bom) (w : SpecVersion) (p q : Members) → q ≡ heading bill → p ≡ rows_put (inventory_groups b) w (group 0 bill) q → spelling_members m.items ≡ rows_put (relations b) w (group 1 bill) p
+    → spelling_data (object_of m) ≡ jspell (keep w (bom_tree b) a_bill) w a_bill
 bill_put m b w p q h i j =
-    view-Object m ∙ ap object (j ∙ ap (rows_put (relations b) w (group 1 bill)) (i ∙ ap (rows_put (inventory_groups b) w (group 0 bill)) h)) ∙ bill_members b w
+    spelling_data-Object m ∙ ap object (j ∙ ap (rows_put (relations b) w (group 1 bill)) (i ∙ ap (rows_put (inventory_groups b) w (group 0 bill)) h)) ∙ bill_members b w

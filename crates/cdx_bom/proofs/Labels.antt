@@ -1,8 +1,8 @@
--- A bill's label, read from its text.
-use Rattle.std.proofs.Common.{◌≡◌, ℕ, List, [], Bool, true, false, if◌then◌else◌, Some, None, Ok, refl, sym, ap, ◌∙◌}
+-- A bill's label, read from its text and written.
+use Rattle.std.proofs.Common.{◌≡◌, ℕ, List, [], Bool, true, false, if◌then◌else◌, Some, None, Ok, Bor, refl, sym, ap, ◌∙◌, rules}
 use Rattle.std.proofs.lemmas.Slice.Eq.{bytes_eq-Decides}
 use Rattle.std.specs.Str.{bytes_eq}
-use Rattle.serde_json.specs.Data.{Data}
+use Rattle.serde_json.specs.Data.{Data, string, Members, put}
 use Rattle.serde_json.specs.Data as json
 use Rattle.serde_json.specs.Find.{as_str}
 use Rattle.cdx_models.specs.declared.bom.SpecVersion.{SpecVersion}
@@ -15,8 +15,14 @@ use Rattle.cdx_schema.specs.Kinds.{a_version}
 use Rattle.cdx_schema.specs.Depth.{Depth}
 use Rattle.cdx_schema.specs.Faults.{here}
 use Rattle.cdx_schema.specs.JsonReading.{jread, version_read}
+use Rattle.cdx_schema.specs.JsonSpelling.{jspell}
+use Rattle.cdx_schema.specs.Keeping.{kept}
 use Rattle.cdx_json.specs.Gives.{Fails, IsFaultAt}
+use Rattle.cdx_json.specs.KeptRows.{put_kept}
+use Rattle.cdx_json.specs.Spellings.{spelling_data}
+use Rattle.cdx_json.specs.declared.spelling.Spelling.{Text as text_of, the_lemmas}
 use Rattle.cdx_json.proofs.Rows.{fails_here}
+use Rattle.cdx_bom.specs.Trees.{label_tree}
 
 labelled : (s : List ℕ) (w : SpecVersion) → Some w ≡ version_of s → version_read s ≡ Ok (text (label w))
 labelled s w e = by (bytes_eq s (label V1_3)) (bytes_eq s (label V1_4)) (bytes_eq s (label V1_5)) (bytes_eq-Decides s (label V1_3)).0 (bytes_eq-Decides s (label V1_4)).0 (bytes_eq-Decides s (label V1_5)).0 e
@@ -65,3 +71,12 @@ label_bad e x s v d is none at = fails_here e BadSpecVersion (jread x v a_versio
 
 pub label_wrong : (e : JsonReadError) (x : Data) (v : SpecVersion) (d : Depth) → None ≡ as_str x → IsFaultAt [] WrongKind e → Fails e (jread x v a_version d)
 label_wrong e x v d is at = fails_here e WrongKind (jread x v a_version d) at (version_wrong x v d is)
+
+-- ---- a label that is written is the version's
+
+spelled_text : (s : Bor (List ℕ)) → spelling_data (text_of s) ≡ string s.now
+spelled_text s = search (rules, the_lemmas)
+
+pub label_put : (name : List ℕ) (s : Bor (List ℕ)) (l w : SpecVersion) (ms new : Members) → s.now ≡ label w → new ≡ put name (spelling_data (text_of s)) ms → new ≡ put_kept name a_version (label_tree l) w ms
+unfolding put_kept kept jspell
+label_put name s l w ms new is e = e ∙ ap (λ d. put name d ms) (spelled_text s ∙ ap string is)

@@ -1,7 +1,5 @@
 -- What a bill is written as, and why it may not be.
-use Rattle.std.proofs.Common.{◌≡◌, Bool, true, false, Result, Ok, Err, refl, sym, ap, ◌∙◌}
-use Rattle.serde_json.specs.Data.{Data}
-use Rattle.serde_json.specs.Written.{has_float}
+use Rattle.std.proofs.Common.{◌≡◌, Bool, true, false, Result, Ok, Err, refl, sym, ◌∙◌}
 use Rattle.cdx_models.specs.declared.bom.SpecVersion.{SpecVersion}
 use Rattle.cdx_models.specs.declared.bom.SpecVersion.TheVariants.{V1_3, V1_4, V1_5}
 use Rattle.cdx_models.specs.declared.errors.Lack.TheVariants.{VersionMissing}
@@ -12,10 +10,9 @@ use Rattle.cdx_models.specs.declared.errors.JsonWriteError.TheVariants as write
 use Rattle.cdx_models.specs.Trees.{Tree}
 use Rattle.cdx_models.specs.Versions.{is_first}
 use Rattle.cdx_schema.specs.Kinds.{a_bill}
-use Rattle.cdx_schema.specs.Keeping.{keep, fits}
-use Rattle.cdx_schema.proofs.Clear.{spelling_clear}
+use Rattle.cdx_schema.specs.Keeping.{fits}
 use Rattle.cdx_json.specs.Gives.{Makes}
-use Rattle.cdx_bom.specs.Outputs.{LacksVersion, Outputs, kept_json}
+use Rattle.cdx_bom.specs.Outputs.{LacksVersion, Outputs}
 
 misfit : (w : SpecVersion) (b : Tree) → fits w b a_bill ≡ false → w ≡ V1_3
 misfit V1_3 b h = refl
@@ -46,7 +43,3 @@ always_makes P (Ok x) w b n h = h.1
 always_makes P (Err (write.Memory m)) w b n h = tt
 always_makes P (Err (write.JsonElementWriteError k)) w b n h = h
 always_makes P (Err (write.BomError e)) w b n h = never_lacks w b e n h
-
--- no spelling holds a float
-pub spelled_clear : (x : Data) (w : SpecVersion) (b : Tree) → x ≡ kept_json w b → has_float x ≡ false
-spelled_clear x w b e = ap has_float e ∙ spelling_clear (keep w b a_bill) w a_bill

@@ -1,8 +1,8 @@
 -- A bill's text: what is printed before its components, they, and the other members.
-use Rattle.std.proofs.Common.{◌≡◌, ℕ, List, [], ◌∷◌, ◌++◌, append_assoc, map, codes, Bool, true, false, ◌||◌, true≢false, Some, refl, sym, ap, ◌∙◌}
+use Rattle.std.proofs.Common.{◌≡◌, ℕ, List, [], ◌∷◌, ◌++◌, append_assoc, map, codes, true, false, Some, refl, sym, ap, ◌∙◌}
 use Rattle.serde_json.specs.Data.{Data, string, array, object, item, Members, no_members, member}
 use Rattle.serde_json.specs.View.{items_of}
-use Rattle.serde_json.specs.Written.{has_float, compact_text, members_text}
+use Rattle.serde_json.specs.Written.{compact_text, members_text}
 use Rattle.serde_json.proofs.OnLiterals.{serde_json_on_literals}
 use Rattle.cdx_models.specs.declared.bom.SpecVersion.{SpecVersion}
 use Rattle.cdx_models.specs.Trees.{bill, component, Tree, number, absent, each, list_tree, present, is_absent}
@@ -21,7 +21,6 @@ use Rattle.cdx_bom.specs.declared.bom.Bom.{Bom}
 use Rattle.cdx_bom.specs.Trees.{label_tree, inventory_beside, relations, bom_tree}
 use Rattle.cdx_bom.specs.Outputs.{kept_json, compact_kept}
 use Rattle.cdx_bom.proofs.Grouped.{bill_members}
-use Rattle.cdx_bom.proofs.Outputs.{spelled_clear}
 use Rattle.cdx_bom.proofs.RowOrder.{stands_beside}
 
 -- ---- the components
@@ -72,25 +71,11 @@ in_pieces : (c : Data) (ms : Members) → compact_text (with_components c ms) �
 unfolding serde_json_on_literals
 in_pieces c ms = refl
 
-second_false : (a b : Bool) → (a || b) ≡ false → b ≡ false
-second_false true b h = absurd (true≢false h)
-second_false false b h = h
-
--- no member of the other rows holds a float, since the bill holds none
-others_clear : (b : Bom) (cs : Components) (w : SpecVersion) → b.components ≡ Some cs → has_float (object (others w b)) ≡ false
-others_clear b cs w is =
-    second_false (has_float (values w (component_items cs))) (has_float (object (others w b))) (ap has_float (sym (bill_is b cs w is)) ∙ spelled_clear (kept_json w (bom_tree b)) w (bom_tree b) refl)
-
 -- the text after one step after another
 pub printed : (b : Bom) (cs : Components) (w : SpecVersion) (xs : List Component) (ms : Members) (old begun listed new : List ℕ) → b.components ≡ Some cs → xs ≡ component_items cs → ms ≡ others w b
-    → begun ≡ old ++ beginning → listed ≡ begun ++ compact_text (values w xs) → (has_float (object ms) ≡ false → new ≡ listed ++ members_text true ms) → new ≡ old ++ compact_kept w (bom_tree b)
+    → begun ≡ old ++ beginning → listed ≡ begun ++ compact_text (values w xs) → new ≡ listed ++ members_text true ms → new ≡ old ++ compact_kept w (bom_tree b)
 printed b cs w xs ms old begun listed new is items other e f g =
-    g (ap (λ m. has_float (object m)) other ∙ others_clear b cs w is)
-    ∙ ap (λ s. s ++ members_text true ms) (f ∙ ap (λ s. s ++ compact_text (values w xs)) e)
+    g ∙ ap (λ s. s ++ members_text true ms) (f ∙ ap (λ s. s ++ compact_text (values w xs)) e)
     ∙ append_assoc (old ++ beginning) (compact_text (values w xs)) (members_text true ms)
     ∙ append_assoc old beginning (compact_text (values w xs) ++ members_text true ms)
     ∙ ap (λ s. old ++ s) (sym (in_pieces (values w xs) ms) ∙ ap (λ y. compact_text (with_components (values w y) ms)) items ∙ ap (λ m. compact_text (with_components (values w (component_items cs)) m)) other ∙ ap compact_text (sym (bill_is b cs w is)))
-
--- the text of the whole value
-pub printed_whole : (b : Bom) (w : SpecVersion) (x : Data) (old new : List ℕ) → x ≡ kept_json w (bom_tree b) → (has_float x ≡ false → new ≡ old ++ compact_text x) → new ≡ old ++ compact_kept w (bom_tree b)
-printed_whole b w x old new is f = f (spelled_clear x w (bom_tree b) is) ∙ ap (λ d. old ++ compact_text d) is

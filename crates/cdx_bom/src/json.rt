@@ -2,7 +2,7 @@
 
 ghost use Rattle.std.specs.Prelude.{◌≡◌, OnOk};
 ghost use Rattle.serde_json.specs.Data.{no_members};
-ghost use Rattle.serde_json.specs.View.{members_view};
+ghost use Rattle.cdx_json.specs.Spellings.{spelling_members};
 ghost use Rattle.cdx_models.specs.Trees.{bill};
 ghost use Rattle.cdx_schema.specs.JsonReading.{seen};
 ghost use Rattle.cdx_schema.specs.JsonSpelling.{heading};
@@ -11,6 +11,7 @@ ghost use Rattle.cdx_json.specs.Gives.{Gives};
 ghost use Rattle.cdx_bom.specs.Trees.{bom_tree};
 ghost use Rattle.cdx_bom.specs.Groups.{format_text, format_of, bill_by_groups};
 ghost use Rattle.cdx_bom.specs.Stays.{kept_bill_there};
+ghost use Rattle.cdx_json.specs.SeenOf.{seen_of};
 
 mod floats;
 mod keeping;
@@ -22,13 +23,16 @@ mod writing;
 use crate::bom::Bom;
 use crate::bom::parts::assemble;
 use cdx_events::Text;
-use cdx_json::{Context, FromJson, Keeping, Kept, Members, ToJson, at_member, here, required_row};
+use cdx_json::{
+    Context, FromJson, Keeping, Kept, Members, SeenMembers, Spelling, ToJson, at_member, here, put,
+    required_row,
+};
 use cdx_models::{JsonKind, JsonReadError, SpecVersion};
 use cdx_schema::Target;
 pub(crate) use floats::refuse_floats;
 use keeping::{keep_inventory, keep_relations};
 use reading::{read_inventory, read_relations};
-use serde_json::{Map, Value};
+use serde_json::Value;
 use std::alloc::{AllocError, Global};
 use writing::{put_inventory, put_relations};
 
@@ -36,7 +40,10 @@ impl FromJson for Bom {
     fn from_json_at(value: &Value, context: Context) -> Result<Bom, JsonReadError> {
         match value.as_object() {
             None => Err(here(context.alloc, JsonKind::WrongKind)),
-            Some(map) => bom_from_members(map, context),
+            Some(map) => {
+                let members = SeenMembers::of(context.alloc, map)?;
+                bom_from_members(&members, context)
+            }
         }
     }
 }
@@ -52,20 +59,20 @@ impl Kept for Bom {
 }
 
 impl ToJson for Bom {
-    fn to_value(&self, alloc: Global, version: SpecVersion) -> Result<Value, AllocError> {
-        let mut map = Map::new(alloc);
-        put_format(alloc, &mut map)?;
+    fn spelling(&self, alloc: Global, version: SpecVersion) -> Result<Spelling<'_>, AllocError> {
+        let mut map = Vec::new(alloc);
+        put_format(&mut map)?;
         let target = Target { alloc, version };
-        put_inventory(self, &self.components, &mut map, target)?;
+        put_inventory(self, self.components.as_ref(), &mut map, target)?;
         put_relations(self, &mut map, target)?;
-        Ok(Value::Object(map))
+        Ok(Spelling::Object(map))
     }
 }
 
 // The bill whose members these are, or the first fault.
-fn bom_from_members(map: &Members, context: Context) -> Result<Bom, JsonReadError>
+fn bom_from_members(map: &SeenMembers<'_>, context: Context) -> Result<Bom, JsonReadError>
     ensures { Gives bom_tree result
-        (bill_by_groups (seen (members_view map.now.entries)) context.version
+        (bill_by_groups (seen (seen_of map.now.members.items)) context.version
         (depth_of context.depth)) }
 {
     check_format(map, context)?;
@@ -82,9 +89,9 @@ fn bom_from_members(map: &Members, context: Context) -> Result<Bom, JsonReadErro
 // The format's name, which each bill in JSON tells.
 const FORMAT: &str = "CycloneDX";
 
-fn check_format(map: &Members, context: Context) -> Result<(), JsonReadError>
+fn check_format(map: &SeenMembers<'_>, context: Context) -> Result<(), JsonReadError>
     ensures { Gives format_text result
-        (format_of (seen (members_view map.now.entries)) context.version (depth_of context.depth)) }
+        (format_of (seen (seen_of map.now.members.items)) context.version (depth_of context.depth)) }
 {
     let format: Text = required_row(map, "bomFormat", context)?;
     if format.is(FORMAT) {
@@ -98,9 +105,9 @@ fn check_format(map: &Members, context: Context) -> Result<(), JsonReadError>
     }
 }
 
-fn put_format(alloc: Global, map: &mut Members) -> Result<(), AllocError>
-    requires { members_view map.now.entries ≡ no_members }
-    ensures { OnOk result (members_view map.new.entries ≡ heading bill) }
+fn put_format(map: &mut Members<'_>) -> Result<(), AllocError>
+    requires { spelling_members map.now.items ≡ no_members }
+    ensures { OnOk result (spelling_members map.new.items ≡ heading bill) }
 {
-    serde_json::put(map, alloc, "bomFormat", Value::try_from_str(alloc, FORMAT)?)
+    put(map, "bomFormat", Spelling::Text(FORMAT))
 }

@@ -5,8 +5,8 @@ ghost use Rattle.cdx_json.specs.Stays.{list_stays};
 
 use crate::{Commit, Commits, IdentifiableAction};
 use cdx_json::{
-    Context, FromJson, JsonRecord, Keeping, Kept, Members, ToJson, keep_list, keep_row,
-    list_from_value, list_to_value, optional_row, put_row,
+    Context, FromJson, JsonRecord, Keeping, Kept, Members, SeenMembers, Spelling, ToJson,
+    keep_list, keep_row, list_from_value, list_spelling, optional_row, put_row,
 };
 use cdx_models::{JsonReadError, SpecVersion};
 use cdx_schema::Target;
@@ -15,7 +15,10 @@ use std::alloc::{AllocError, Global};
 
 #[tactic(auto, unfolding(cdx_json::proofs::OnRows::on_rows))]
 impl JsonRecord for IdentifiableAction {
-    fn from_members(map: &Members, context: Context) -> Result<IdentifiableAction, JsonReadError> {
+    fn from_members(
+        map: &SeenMembers<'_>,
+        context: Context,
+    ) -> Result<IdentifiableAction, JsonReadError> {
         let timestamp = optional_row(map, "timestamp", context)?;
         let name = optional_row(map, "name", context)?;
         let email = optional_row(map, "email", context)?;
@@ -34,7 +37,7 @@ impl JsonRecord for IdentifiableAction {
         })
     }
 
-    fn put_members(&self, map: &mut Members, target: Target) -> Result<(), AllocError> {
+    fn put_members<'b>(&'b self, map: &mut Members<'b>, target: Target) -> Result<(), AllocError> {
         put_row(map, "timestamp", &self.timestamp, target)?;
         put_row(map, "name", &self.name, target)?;
         put_row(map, "email", &self.email, target)
@@ -43,7 +46,7 @@ impl JsonRecord for IdentifiableAction {
 
 #[tactic(auto, unfolding(cdx_json::proofs::OnRows::on_rows))]
 impl JsonRecord for Commit {
-    fn from_members(map: &Members, context: Context) -> Result<Commit, JsonReadError> {
+    fn from_members(map: &SeenMembers<'_>, context: Context) -> Result<Commit, JsonReadError> {
         let uid = optional_row(map, "uid", context)?;
         let url = optional_row(map, "url", context)?;
         let author = optional_row(map, "author", context)?;
@@ -68,7 +71,7 @@ impl JsonRecord for Commit {
         })
     }
 
-    fn put_members(&self, map: &mut Members, target: Target) -> Result<(), AllocError> {
+    fn put_members<'b>(&'b self, map: &mut Members<'b>, target: Target) -> Result<(), AllocError> {
         put_row(map, "uid", &self.uid, target)?;
         put_row(map, "url", &self.url, target)?;
         put_row(map, "author", &self.author, target)?;
@@ -96,7 +99,7 @@ impl Kept for Commits {
 
 impl ToJson for Commits {
     #[tactic(auto, unfolding(cdx_schema::specs::Table::list))]
-    fn to_value(&self, alloc: Global, version: SpecVersion) -> Result<Value, AllocError> {
-        list_to_value(alloc, &self.0, version)
+    fn spelling(&self, alloc: Global, version: SpecVersion) -> Result<Spelling<'_>, AllocError> {
+        list_spelling(alloc, &self.0, version)
     }
 }

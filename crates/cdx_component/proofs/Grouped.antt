@@ -1,8 +1,6 @@
 -- Components, read, kept and written group by group.
-use Rattle.std.proofs.Common.{◌≡◌, ◌++◌, length, Global, BTreeMap, String, refl, sym, ap, ◌∙◌}
+use Rattle.std.proofs.Common.{◌≡◌, ◌++◌, length, Vec, Global, refl, sym, ap, ◌∙◌}
 use Rattle.serde_json.specs.Data.{no_members}
-use Rattle.serde_json.specs.View.{view, members_view}
-use Rattle.serde_json.specs.declared.value.Value.{Value, Object as object_of}
 use Rattle.cdx_models.specs.declared.bom.SpecVersion.{SpecVersion}
 use Rattle.cdx_models.specs.Trees.{component, pedigree, Tree, fields, Trees, ◌⧺◌}
 use Rattle.cdx_models.proofs.Lists.{count}
@@ -14,8 +12,11 @@ use Rattle.cdx_schema.specs.JsonReading.{Object}
 use Rattle.cdx_schema.specs.JsonSpelling.{jspell}
 use Rattle.cdx_json.specs.ByRows.{rows_made, own_made, by_rows, as_record}
 use Rattle.cdx_json.specs.KeptRows.{rows_held, rows_put}
+use Rattle.cdx_json.specs.Spellings.{spelling_data, spelling_members}
+use Rattle.cdx_json.specs.declared.spelling.Spelling.{Object as object_of}
 use Rattle.cdx_json.proofs.ByRowsLaws.{rows_split, rows_then, then_same}
 use Rattle.cdx_json.proofs.KeptRowsLaws.{record_held}
+use Rattle.cdx_json.proofs.Setting.{Entry}
 use Rattle.cdx_component.specs.declared.component.Component.{Component}
 use Rattle.cdx_component.specs.declared.component.Component.TheOpen.{Component-F, Pedigree-F}
 use Rattle.cdx_component.specs.declared.component.Component.TheViews.{out-Component, out-Pedigree, roll-Pedigree}
@@ -68,9 +69,9 @@ pub pedigree_kept : (w l : SpecVersion) (x : Pedigree-F Component Components Ped
 pedigree_kept w l x p e =
     pedigree_tree-roll x ∙ ap (fields pedigree) e ∙ record_held w l pedigree (fields pedigree (pedigree_fields components_tree (out-Pedigree p))) refl ∙ ap (λ u. kept w l u (a_record pedigree)) (sym (pedigree_tree-out p))
 
-pub component_spelled : (m : BTreeMap (String Global) Value) (c : Component) (w : SpecVersion)
-    → members_view m.entries ≡ rows_put (component_contents components_tree pedigree_tree (out-Component c)) w (group 3 component) (rows_put (marks (out-Component c)) w (group 2 component) (rows_put (naming (out-Component c)) w (group 1 component) (rows_put (origin (out-Component c)) w (group 0 component) no_members)))
-    → view (object_of m) ≡ jspell (keep w (component_tree c) (a_record component)) w (a_record component)
+pub component_spelled : (m : Vec Entry Global) (c : Component) (w : SpecVersion)
+    → spelling_members m.items ≡ rows_put (component_contents components_tree pedigree_tree (out-Component c)) w (group 3 component) (rows_put (marks (out-Component c)) w (group 2 component) (rows_put (naming (out-Component c)) w (group 1 component) (rows_put (origin (out-Component c)) w (group 0 component) no_members)))
+    → spelling_data (object_of m) ≡ jspell (keep w (component_tree c) (a_record component)) w (a_record component)
 unfolding rows
 component_spelled m c w e =
     let x = out-Component c in
@@ -80,7 +81,7 @@ component_spelled m c w e =
     ∙ put_split w (naming x) (marks x ⧺ last) (group 1 component) (group 2 component ++ group 3 component) _ refl
     ∙ put_split w (marks x) last (group 2 component) (group 3 component) _ refl))
 
-pub pedigree_spelled : (m : BTreeMap (String Global) Value) (p : Pedigree) (w : SpecVersion)
-    → members_view m.entries ≡ rows_put (pedigree_fields components_tree (out-Pedigree p)) w (rows pedigree) no_members
-    → view (object_of m) ≡ jspell (keep w (pedigree_tree p) (a_record pedigree)) w (a_record pedigree)
+pub pedigree_spelled : (m : Vec Entry Global) (p : Pedigree) (w : SpecVersion)
+    → spelling_members m.items ≡ rows_put (pedigree_fields components_tree (out-Pedigree p)) w (rows pedigree) no_members
+    → spelling_data (object_of m) ≡ jspell (keep w (pedigree_tree p) (a_record pedigree)) w (a_record pedigree)
 pedigree_spelled m p w e = tree_spelled m pedigree w (pedigree_tree p) (pedigree_fields components_tree (out-Pedigree p)) (pedigree_tree-out p) refl e

@@ -7,7 +7,7 @@ mod reading;
 mod writing;
 
 use crate::component::{Component, Components, Pedigree};
-use cdx_json::{Context, FromJson, Keeping, Kept, ToJson};
+use cdx_json::{Context, FromJson, Keeping, Kept, Spelling, ToJson};
 use cdx_models::{JsonReadError, SpecVersion};
 use cdx_schema::Target;
 use keeping::{keep_component, keep_components, keep_pedigree};
@@ -31,7 +31,7 @@ impl Kept for Component {
 }
 
 impl ToJson for Component {
-    fn to_value(&self, alloc: Global, version: SpecVersion) -> Result<Value, AllocError> {
+    fn spelling(&self, alloc: Global, version: SpecVersion) -> Result<Spelling<'_>, AllocError> {
         write_component(self, Target { alloc, version })
     }
 }
@@ -51,7 +51,7 @@ impl Kept for Components {
 }
 
 impl ToJson for Components {
-    fn to_value(&self, alloc: Global, version: SpecVersion) -> Result<Value, AllocError> {
+    fn spelling(&self, alloc: Global, version: SpecVersion) -> Result<Spelling<'_>, AllocError> {
         write_components(self, Target { alloc, version })
     }
 }
@@ -71,7 +71,7 @@ impl Kept for Pedigree {
 }
 
 impl ToJson for Pedigree {
-    fn to_value(&self, alloc: Global, version: SpecVersion) -> Result<Value, AllocError> {
+    fn spelling(&self, alloc: Global, version: SpecVersion) -> Result<Spelling<'_>, AllocError> {
         write_pedigree(self, Target { alloc, version })
     }
 }

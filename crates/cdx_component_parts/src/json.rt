@@ -6,8 +6,9 @@ ghost use Rattle.cdx_json.specs.Stays.{text_stays, list_stays};
 use crate::component::{ComponentEvidence, Copyright, CopyrightTexts, Cpe, MimeType, Swid};
 use cdx_events::Text;
 use cdx_json::{
-    Context, FromJson, JsonRecord, Keeping, Kept, Members, ToJson, keep_list, keep_row,
-    list_from_value, list_to_value, optional_row, put_required, put_row, required_row,
+    Context, FromJson, JsonRecord, Keeping, Kept, Members, SeenMembers, Spelling, ToJson,
+    keep_list, keep_row, list_from_value, list_spelling, optional_row, put_required, put_row,
+    required_row,
 };
 use cdx_models::{HasTree, JsonReadError, SpecVersion};
 use cdx_schema::Target;
@@ -16,7 +17,7 @@ use std::alloc::{AllocError, Global};
 
 #[tactic(auto, unfolding(cdx_json::proofs::OnRows::on_rows))]
 impl JsonRecord for Swid {
-    fn from_members(map: &Members, context: Context) -> Result<Swid, JsonReadError> {
+    fn from_members(map: &SeenMembers<'_>, context: Context) -> Result<Swid, JsonReadError> {
         let tag_id = required_row(map, "tagId", context)?;
         let name = required_row(map, "name", context)?;
         let held_version = optional_row(map, "version", context)?;
@@ -47,7 +48,7 @@ impl JsonRecord for Swid {
         })
     }
 
-    fn put_members(&self, map: &mut Members, target: Target) -> Result<(), AllocError> {
+    fn put_members<'b>(&'b self, map: &mut Members<'b>, target: Target) -> Result<(), AllocError> {
         put_required(map, "tagId", &self.tag_id, target)?;
         put_required(map, "name", &self.name, target)?;
         put_row(map, "version", &self.version, target)?;
@@ -76,8 +77,8 @@ impl Kept for Cpe {
 
 impl ToJson for Cpe {
     #[tactic(auto, unfolding(cdx_json::proofs::OnRows::on_spelled))]
-    fn to_value(&self, alloc: Global, version: SpecVersion) -> Result<Value, AllocError> {
-        Value::try_from_str(alloc, self.0.as_str())
+    fn spelling(&self, alloc: Global, version: SpecVersion) -> Result<Spelling<'_>, AllocError> {
+        Ok(Spelling::Text(self.0.as_str()))
     }
 }
 
@@ -98,14 +99,17 @@ impl Kept for MimeType {
 
 impl ToJson for MimeType {
     #[tactic(auto, unfolding(cdx_json::proofs::OnRows::on_spelled))]
-    fn to_value(&self, alloc: Global, version: SpecVersion) -> Result<Value, AllocError> {
-        Value::try_from_str(alloc, self.0.as_str())
+    fn spelling(&self, alloc: Global, version: SpecVersion) -> Result<Spelling<'_>, AllocError> {
+        Ok(Spelling::Text(self.0.as_str()))
     }
 }
 
 #[tactic(auto, unfolding(cdx_json::proofs::OnRows::on_rows))]
 impl JsonRecord for ComponentEvidence {
-    fn from_members(map: &Members, context: Context) -> Result<ComponentEvidence, JsonReadError> {
+    fn from_members(
+        map: &SeenMembers<'_>,
+        context: Context,
+    ) -> Result<ComponentEvidence, JsonReadError> {
         let licenses = optional_row(map, "licenses", context)?;
         let copyright = optional_row(map, "copyright", context)?;
         Ok(ComponentEvidence {
@@ -121,7 +125,7 @@ impl JsonRecord for ComponentEvidence {
         })
     }
 
-    fn put_members(&self, map: &mut Members, target: Target) -> Result<(), AllocError> {
+    fn put_members<'b>(&'b self, map: &mut Members<'b>, target: Target) -> Result<(), AllocError> {
         put_row(map, "licenses", &self.licenses, target)?;
         put_row(map, "copyright", &self.copyright, target)
     }
@@ -129,7 +133,7 @@ impl JsonRecord for ComponentEvidence {
 
 #[tactic(auto, unfolding(cdx_json::proofs::OnRows::on_rows))]
 impl JsonRecord for Copyright {
-    fn from_members(map: &Members, context: Context) -> Result<Copyright, JsonReadError> {
+    fn from_members(map: &SeenMembers<'_>, context: Context) -> Result<Copyright, JsonReadError> {
         let text = required_row(map, "text", context)?;
         Ok(Copyright { text })
     }
@@ -140,7 +144,7 @@ impl JsonRecord for Copyright {
         })
     }
 
-    fn put_members(&self, map: &mut Members, target: Target) -> Result<(), AllocError> {
+    fn put_members<'b>(&'b self, map: &mut Members<'b>, target: Target) -> Result<(), AllocError> {
         put_required(map, "text", &self.text, target)
     }
 }
@@ -163,7 +167,7 @@ impl Kept for CopyrightTexts {
 
 impl ToJson for CopyrightTexts {
     #[tactic(auto, unfolding(cdx_schema::specs::Table::list))]
-    fn to_value(&self, alloc: Global, version: SpecVersion) -> Result<Value, AllocError> {
-        list_to_value(alloc, &self.0, version)
+    fn spelling(&self, alloc: Global, version: SpecVersion) -> Result<Spelling<'_>, AllocError> {
+        list_spelling(alloc, &self.0, version)
     }
 }

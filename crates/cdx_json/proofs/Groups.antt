@@ -1,8 +1,6 @@
 -- The rows of a wide record, kept and written group by group.
-use Rattle.std.proofs.Common.{◌≡◌, ℕ, suc, ◌+◌, List, [], ◌∷◌, ◌++◌, length, Global, BTreeMap, String, refl, sym, ap, ◌∙◌, arith}
+use Rattle.std.proofs.Common.{◌≡◌, ℕ, suc, ◌+◌, List, [], ◌∷◌, ◌++◌, length, Vec, Global, refl, sym, ap, ◌∙◌, arith}
 use Rattle.serde_json.specs.Data.{Members, no_members}
-use Rattle.serde_json.specs.View.{view, members_view}
-use Rattle.serde_json.specs.declared.value.Value.{Value, Object as object_of}
 use Rattle.cdx_models.specs.declared.bom.SpecVersion.{SpecVersion}
 use Rattle.cdx_models.specs.Trees.{Name, Tree, fields, Trees, none, more, ◌⧺◌}
 use Rattle.cdx_models.proofs.Lists.{count}
@@ -11,6 +9,9 @@ use Rattle.cdx_schema.specs.Table.{rows}
 use Rattle.cdx_schema.specs.Keeping.{kept, keep}
 use Rattle.cdx_schema.specs.JsonSpelling.{jspell, heading}
 use Rattle.cdx_json.specs.KeptRows.{kept_since, rows_held, rows_put}
+use Rattle.cdx_json.specs.Spellings.{spelling_data, spelling_members}
+use Rattle.cdx_json.specs.declared.spelling.Spelling.{Object as object_of}
+use Rattle.cdx_json.proofs.Setting.{Entry}
 use Rattle.cdx_json.proofs.Spelled.{record_spelled}
 
 pub held_split : (w l : SpecVersion) (ts us : Trees) (rs ss : List Row) → count ts ≡ length rs → rows_held w l (ts ⧺ us) (rs ++ ss) ≡ rows_held w l ts rs ⧺ rows_held w l us ss
@@ -50,8 +51,8 @@ put_split w (more t ts) us [] ss ms e = absurd (omega arith)
 put_split w (more t ts) us (r ∷ rs) ss ms e = put_split w ts us rs ss _ (omega arith)
 
 -- an object whose members are those of a record's rows
-pub tree_spelled : (m : BTreeMap (String Global) Value) (n : Name) (w : SpecVersion) (t : Tree) (ts : Trees) → t ≡ fields n ts → heading n ≡ no_members
-    → members_view m.entries ≡ rows_put ts w (rows n) no_members → view (object_of m) ≡ jspell (keep w t (a_record n)) w (a_record n)
+pub tree_spelled : (m : Vec Entry Global) (n : Name) (w : SpecVersion) (t : Tree) (ts : Trees) → t ≡ fields n ts → heading n ≡ no_members
+    → spelling_members m.items ≡ rows_put ts w (rows n) no_members → spelling_data (object_of m) ≡ jspell (keep w t (a_record n)) w (a_record n)
 tree_spelled m n w t ts is plain e = record_spelled m n w (fields n ts) refl plain e ∙ ap (λ u. jspell (keep w u (a_record n)) w (a_record n)) (sym is)
 
 -- ---- one level deeper

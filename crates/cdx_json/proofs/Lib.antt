@@ -6,3 +6,6 @@ pub mod Loops
 pub mod KeptRowsLaws
 pub mod Spelled
 pub mod Groups
+pub mod Following
+pub mod Setting
+pub mod InOrder

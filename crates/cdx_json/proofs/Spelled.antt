@@ -1,10 +1,8 @@
 -- What the writers build is the spelling of what is kept.
-use Rattle.std.proofs.Common.{◌≡◌, Bool, true, false, ℕ, ◌≤◌, IfOk, if◌then◌else◌, None, Result, Ok, Err, OnOk, List, [], ◌∷◌, length, map, take, Vec, Global, BTreeMap, String, refl, sym, ap, ◌∙◌, arith}
+use Rattle.std.proofs.Common.{◌≡◌, Bool, true, false, ℕ, ◌≤◌, IfOk, if◌then◌else◌, None, Result, Ok, Err, OnOk, List, [], ◌∷◌, length, map, take, Vec, Global, refl, sym, ap, ◌∙◌, arith}
 use Rattle.std.proofs.lemmas.List.{take_all}
 use Rattle.serde_json.specs.Data.{Data, put, item, array, Members, no_members, object}
-use Rattle.serde_json.specs.View.{view, items_of, members_view}
-use Rattle.serde_json.specs.declared.value.Value.{Value, Array, Object}
-use Rattle.serde_json.proofs.Views.{view-Array, view-Object}
+use Rattle.serde_json.specs.View.{items_of}
 use Rattle.cdx_models.specs.declared.bom.SpecVersion.{SpecVersion}
 use Rattle.cdx_models.specs.declared.bom.SpecVersion.TheVariants.{V1_3, V1_4, V1_5}
 use Rattle.cdx_models.specs.Versions.{knows}
@@ -15,7 +13,10 @@ use Rattle.cdx_schema.specs.Keeping.{kept, keep, items_kept}
 use Rattle.cdx_schema.specs.JsonSpelling.{jspell, heading, items_spelled}
 use Rattle.cdx_json.specs.ByRows.{json_kind, IsJsonListOf}
 use Rattle.cdx_json.specs.KeptRows.{put_kept, put_filled, late_put, late_kept, rows_put}
+use Rattle.cdx_json.specs.Spellings.{spelling_data, spelling_members}
+use Rattle.cdx_json.specs.declared.spelling.Spelling.{Spelling, Array, Object}
 use Rattle.cdx_json.proofs.KeptRowsLaws.{record_put}
+use Rattle.cdx_json.proofs.Setting.{Entry, spelling_data-Array, spelling_data-Object}
 
 -- ---- a reference is kept and written as a text
 
@@ -73,11 +74,11 @@ items_each f k m w [] e = refl
 items_each f k m w (x ∷ xs) e = ap (λ y. item y (items_of (map (spelled f k w) xs))) (sym (alike_spelled m k w (f x) e)) ∙ ap (item (spelled f m w x)) (items_each f k m w xs e)
 
 -- a list whose items are spelled, at the end of a loop over it
-pub list_spelled : {A : Type 0} (f : A → Tree) (k : Kind) (l : Lists) (w : SpecVersion) (v : Vec Value Global) (xs ys : List A) (i : ℕ) → IsJsonListOf k l → xs ≡ ys → length xs ≤ i → map view v.items ≡ map (spelled f k w) (take i xs)
-    → view (Array v) ≡ jspell (keep w (list_tree f ys) (a_list l)) w (a_list l)
+pub list_spelled : {A : Type 0} (f : A → Tree) (k : Kind) (l : Lists) (w : SpecVersion) (v : Vec Spelling Global) (xs ys : List A) (i : ℕ) → IsJsonListOf k l → xs ≡ ys → length xs ≤ i → map spelling_data v.items ≡ map (spelled f k w) (take i xs)
+    → spelling_data (Array v) ≡ jspell (keep w (list_tree f ys) (a_list l)) w (a_list l)
 unfolding jspell kept
 list_spelled f k l w v xs ys i is same all e =
-    view-Array v ∙ ap (λ ds. array (items_of ds)) (e ∙ ap (map (spelled f k w)) (take_all i xs all ∙ same)) ∙ ap array (items_each f k (list l).kind w ys is)
+    spelling_data-Array v ∙ ap (λ ds. array (items_of ds)) (e ∙ ap (map (spelled f k w)) (take_all i xs all ∙ same)) ∙ ap array (items_each f k (list l).kind w ys is)
 
 kept_each : {A : Type 0} (f : A → Tree) (k m : Kind) (w l : SpecVersion) (xs : List A) → json_kind m ≡ json_kind k → trees (map (λ x. kept w l (f x) k) xs) ≡ items_kept w l (each f xs) m
 unfolding kept
@@ -94,9 +95,9 @@ list_kept f k i w l new xs ys n is same all e =
 
 -- ---- records
 
-pub record_spelled : (m : BTreeMap (String Global) Value) (n : Name) (w : SpecVersion) (t : Tree) → t ≡ fields n (fields_of t) → heading n ≡ no_members
-    → members_view m.entries ≡ rows_put (fields_of t) w (rows n) no_members → view (Object m) ≡ jspell (keep w t (a_record n)) w (a_record n)
-record_spelled m n w t is json_kind e = view-Object m ∙ ap object e ∙ record_put n w t is json_kind
+pub record_spelled : (m : Vec Entry Global) (n : Name) (w : SpecVersion) (t : Tree) → t ≡ fields n (fields_of t) → heading n ≡ no_members
+    → spelling_members m.items ≡ rows_put (fields_of t) w (rows n) no_members → spelling_data (Object m) ≡ jspell (keep w t (a_record n)) w (a_record n)
+record_spelled m n w t is json_kind e = spelling_data-Object m ∙ ap object e ∙ record_put n w t is json_kind
 
 -- ---- a field that is there
 

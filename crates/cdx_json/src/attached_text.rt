@@ -3,7 +3,9 @@
 use crate::context::Context;
 use crate::keeping::Keeping;
 use crate::reading::{optional_row, required_row};
-use crate::traits::{JsonRecord, Kept, Members};
+use crate::seen::SeenMembers;
+use crate::spelling::members::Members;
+use crate::traits::{JsonRecord, Kept};
 use crate::writing::{keep_row, put_required, put_row};
 use cdx_models::{AttachedText, JsonReadError};
 use cdx_schema::Target;
@@ -11,7 +13,10 @@ use std::alloc::AllocError;
 
 impl JsonRecord for AttachedText {
     #[tactic(auto, unfolding(crate::proofs::OnRows::on_rows))]
-    fn from_members(map: &Members, context: Context) -> Result<AttachedText, JsonReadError> {
+    fn from_members(
+        map: &SeenMembers<'_>,
+        context: Context,
+    ) -> Result<AttachedText, JsonReadError> {
         let content_type = optional_row(map, "contentType", context)?;
         let encoding = optional_row(map, "encoding", context)?;
         let content = required_row(map, "content", context)?;
@@ -32,7 +37,7 @@ impl JsonRecord for AttachedText {
     }
 
     #[tactic(auto, unfolding(crate::proofs::OnRows::on_rows))]
-    fn put_members(&self, map: &mut Members, target: Target) -> Result<(), AllocError> {
+    fn put_members<'b>(&'b self, map: &mut Members<'b>, target: Target) -> Result<(), AllocError> {
         put_row(map, "contentType", &self.content_type, target)?;
         put_row(map, "encoding", &self.encoding, target)?;
         put_required(map, "content", &self.content, target)

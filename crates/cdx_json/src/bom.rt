@@ -4,6 +4,7 @@ ghost use Rattle.cdx_json.specs.Stays.{text_stays};
 
 use crate::context::Context;
 use crate::keeping::Keeping;
+use crate::spelling::Spelling;
 use crate::traits::{FromJson, Kept, ToJson};
 use cdx_events::Text;
 use cdx_models::{HasTree, JsonReadError, SpecVersion, UrnUuid};
@@ -27,7 +28,7 @@ impl Kept for UrnUuid {
 
 impl ToJson for UrnUuid {
     #[tactic(auto, unfolding(crate::proofs::OnRows::on_spelled))]
-    fn to_value(&self, alloc: Global, version: SpecVersion) -> Result<Value, AllocError> {
-        Value::try_from_str(alloc, self.0.as_str())
+    fn spelling(&self, alloc: Global, version: SpecVersion) -> Result<Spelling<'_>, AllocError> {
+        Ok(Spelling::Text(self.0.as_str()))
     }
 }

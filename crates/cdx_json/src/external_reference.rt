@@ -16,8 +16,11 @@ use crate::context::Context;
 use crate::fault::here;
 use crate::keeping::Keeping;
 use crate::reading::{list_from_value, optional_row, required_row};
-use crate::traits::{FromJson, JsonRecord, Kept, Members, ToJson};
-use crate::writing::{keep_list, keep_row, list_to_value, put_required, put_row};
+use crate::seen::SeenMembers;
+use crate::spelling::Spelling;
+use crate::spelling::members::Members;
+use crate::traits::{FromJson, JsonRecord, Kept, ToJson};
+use crate::writing::{keep_list, keep_row, list_spelling, put_required, put_row};
 use cdx_events::Text;
 use cdx_models::{
     ExternalReference, ExternalReferences, HasTree, JsonKind, JsonReadError, SpecVersion, Uri,
@@ -56,14 +59,17 @@ impl Kept for Uri {
 
 impl ToJson for Uri {
     #[tactic(auto, unfolding(crate::proofs::OnRows::on_spelled))]
-    fn to_value(&self, alloc: Global, version: SpecVersion) -> Result<Value, AllocError> {
-        Value::try_from_str(alloc, self.as_str())
+    fn spelling(&self, alloc: Global, version: SpecVersion) -> Result<Spelling<'_>, AllocError> {
+        Ok(Spelling::Text(self.as_str()))
     }
 }
 
 impl JsonRecord for ExternalReference {
     #[tactic(auto, unfolding(crate::proofs::OnRows::on_rows))]
-    fn from_members(map: &Members, context: Context) -> Result<ExternalReference, JsonReadError> {
+    fn from_members(
+        map: &SeenMembers<'_>,
+        context: Context,
+    ) -> Result<ExternalReference, JsonReadError> {
         let external_reference_type = required_row(map, "type", context)?;
         let url = required_row(map, "url", context)?;
         let comment = optional_row(map, "comment", context)?;
@@ -87,7 +93,7 @@ impl JsonRecord for ExternalReference {
     }
 
     #[tactic(auto, unfolding(crate::proofs::OnRows::on_rows))]
-    fn put_members(&self, map: &mut Members, target: Target) -> Result<(), AllocError> {
+    fn put_members<'b>(&'b self, map: &mut Members<'b>, target: Target) -> Result<(), AllocError> {
         put_required(map, "type", &self.external_reference_type, target)?;
         put_required(map, "url", &self.url, target)?;
         put_row(map, "comment", &self.comment, target)?;
@@ -113,7 +119,7 @@ impl Kept for ExternalReferences {
 
 impl ToJson for ExternalReferences {
     #[tactic(auto, unfolding(cdx_schema::specs::Table::list))]
-    fn to_value(&self, alloc: Global, version: SpecVersion) -> Result<Value, AllocError> {
-        list_to_value(alloc, &self.0, version)
+    fn spelling(&self, alloc: Global, version: SpecVersion) -> Result<Spelling<'_>, AllocError> {
+        list_spelling(alloc, &self.0, version)
     }
 }

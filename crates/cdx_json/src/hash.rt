@@ -6,8 +6,11 @@ ghost use Rattle.cdx_json.specs.Stays.{text_stays, list_stays};
 use crate::context::Context;
 use crate::keeping::Keeping;
 use crate::reading::{list_from_value, required_row};
-use crate::traits::{FromJson, JsonRecord, Kept, Members, ToJson};
-use crate::writing::{keep_list, list_to_value, put_required};
+use crate::seen::SeenMembers;
+use crate::spelling::Spelling;
+use crate::spelling::members::Members;
+use crate::traits::{FromJson, JsonRecord, Kept, ToJson};
+use crate::writing::{keep_list, list_spelling, put_required};
 use cdx_events::Text;
 use cdx_models::{HasTree, Hash, HashValue, Hashes, JsonReadError, SpecVersion};
 use cdx_schema::Target;
@@ -31,14 +34,14 @@ impl Kept for HashValue {
 
 impl ToJson for HashValue {
     #[tactic(auto, unfolding(crate::proofs::OnRows::on_spelled))]
-    fn to_value(&self, alloc: Global, version: SpecVersion) -> Result<Value, AllocError> {
-        Value::try_from_str(alloc, self.0.as_str())
+    fn spelling(&self, alloc: Global, version: SpecVersion) -> Result<Spelling<'_>, AllocError> {
+        Ok(Spelling::Text(self.0.as_str()))
     }
 }
 
 impl JsonRecord for Hash {
     #[tactic(auto, unfolding(crate::proofs::OnRows::on_rows))]
-    fn from_members(map: &Members, context: Context) -> Result<Hash, JsonReadError> {
+    fn from_members(map: &SeenMembers<'_>, context: Context) -> Result<Hash, JsonReadError> {
         let alg = required_row(map, "alg", context)?;
         let content = required_row(map, "content", context)?;
         Ok(Hash { alg, content })
@@ -53,7 +56,7 @@ impl JsonRecord for Hash {
     }
 
     #[tactic(auto, unfolding(crate::proofs::OnRows::on_rows))]
-    fn put_members(&self, map: &mut Members, target: Target) -> Result<(), AllocError> {
+    fn put_members<'b>(&'b self, map: &mut Members<'b>, target: Target) -> Result<(), AllocError> {
         put_required(map, "alg", &self.alg, target)?;
         put_required(map, "content", &self.content, target)
     }
@@ -77,7 +80,7 @@ impl Kept for Hashes {
 
 impl ToJson for Hashes {
     #[tactic(auto, unfolding(cdx_schema::specs::Table::list))]
-    fn to_value(&self, alloc: Global, version: SpecVersion) -> Result<Value, AllocError> {
-        list_to_value(alloc, &self.0, version)
+    fn spelling(&self, alloc: Global, version: SpecVersion) -> Result<Spelling<'_>, AllocError> {
+        list_spelling(alloc, &self.0, version)
     }
 }

@@ -11,6 +11,9 @@ pub mod keeping;
 pub mod organization;
 pub mod property;
 pub mod reading;
+pub mod seen;
+pub mod seen_member;
+pub mod spelling;
 pub mod tool;
 pub mod traits;
 pub mod writing;
@@ -23,9 +26,13 @@ pub use reading::{
     member, member_not_null, optional_list_row, optional_list_row_since, optional_row,
     optional_row_since, required_row,
 };
-pub use traits::{FromJson, JsonRecord, Kept, Members, ToJson};
+pub use seen::SeenMembers;
+pub use seen_member::SeenMember;
+pub use spelling::Spelling;
+pub use spelling::members::{Members, put};
+pub use traits::{FromJson, JsonRecord, Kept, ToJson};
 pub use writing::{
     keep_list, keep_optional_list, keep_optional_list_since, keep_row, keep_row_since,
-    list_to_value, put_list, put_optional_list, put_optional_list_since, put_required,
+    list_spelling, put_list, put_optional_list, put_optional_list_since, put_required,
     put_required_list, put_row, put_row_since,
 };

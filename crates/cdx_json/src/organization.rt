@@ -5,7 +5,9 @@ ghost use Rattle.cdx_models.specs.Trees.{contact};
 use crate::context::Context;
 use crate::keeping::Keeping;
 use crate::reading::{first_or_old, optional_list_row, optional_row};
-use crate::traits::{JsonRecord, Members};
+use crate::seen::SeenMembers;
+use crate::spelling::members::Members;
+use crate::traits::JsonRecord;
 use crate::writing::{keep_optional_list, keep_row, put_optional_list, put_row};
 use cdx_models::{JsonReadError, OrganizationalContact, OrganizationalEntity};
 use cdx_schema::Target;
@@ -14,7 +16,7 @@ use std::alloc::AllocError;
 impl JsonRecord for OrganizationalContact {
     #[tactic(auto, unfolding(crate::proofs::OnRows::on_rows))]
     fn from_members(
-        map: &Members,
+        map: &SeenMembers<'_>,
         context: Context,
     ) -> Result<OrganizationalContact, JsonReadError> {
         let reference = first_or_old(map, "bom-ref", "bomRef");
@@ -41,7 +43,7 @@ impl JsonRecord for OrganizationalContact {
     }
 
     #[tactic(auto, unfolding(crate::proofs::OnRows::on_rows))]
-    fn put_members(&self, map: &mut Members, target: Target) -> Result<(), AllocError> {
+    fn put_members<'b>(&'b self, map: &mut Members<'b>, target: Target) -> Result<(), AllocError> {
         put_row(map, "bom-ref", &self.bom_ref, target)?;
         put_row(map, "name", &self.name, target)?;
         put_row(map, "email", &self.email, target)?;
@@ -52,7 +54,7 @@ impl JsonRecord for OrganizationalContact {
 impl JsonRecord for OrganizationalEntity {
     #[tactic(auto, unfolding(crate::proofs::OnRows::on_rows))]
     fn from_members(
-        map: &Members,
+        map: &SeenMembers<'_>,
         context: Context,
     ) -> Result<OrganizationalEntity, JsonReadError> {
         let reference = first_or_old(map, "bom-ref", "bomRef");
@@ -79,7 +81,7 @@ impl JsonRecord for OrganizationalEntity {
     }
 
     #[tactic(auto, unfolding(crate::proofs::OnRows::on_rows))]
-    fn put_members(&self, map: &mut Members, target: Target) -> Result<(), AllocError> {
+    fn put_members<'b>(&'b self, map: &mut Members<'b>, target: Target) -> Result<(), AllocError> {
         put_row(map, "bom-ref", &self.bom_ref, target)?;
         put_row(map, "name", &self.name, target)?;
         put_optional_list(map, "url", &self.url, target)?;

@@ -6,8 +6,11 @@ ghost use Rattle.cdx_json.specs.Stays.{list_stays};
 use crate::context::Context;
 use crate::keeping::Keeping;
 use crate::reading::{list_from_value, required_row};
-use crate::traits::{FromJson, JsonRecord, Kept, Members, ToJson};
-use crate::writing::{keep_list, list_to_value, put_required};
+use crate::seen::SeenMembers;
+use crate::spelling::Spelling;
+use crate::spelling::members::Members;
+use crate::traits::{FromJson, JsonRecord, Kept, ToJson};
+use crate::writing::{keep_list, list_spelling, put_required};
 use cdx_models::{JsonReadError, Properties, Property, SpecVersion};
 use cdx_schema::Target;
 use serde_json::Value;
@@ -15,7 +18,7 @@ use std::alloc::{AllocError, Global};
 
 impl JsonRecord for Property {
     #[tactic(auto, unfolding(crate::proofs::OnRows::on_rows))]
-    fn from_members(map: &Members, context: Context) -> Result<Property, JsonReadError> {
+    fn from_members(map: &SeenMembers<'_>, context: Context) -> Result<Property, JsonReadError> {
         let name = required_row(map, "name", context)?;
         let value = required_row(map, "value", context)?;
         Ok(Property { name, value })
@@ -30,7 +33,7 @@ impl JsonRecord for Property {
     }
 
     #[tactic(auto, unfolding(crate::proofs::OnRows::on_rows))]
-    fn put_members(&self, map: &mut Members, target: Target) -> Result<(), AllocError> {
+    fn put_members<'b>(&'b self, map: &mut Members<'b>, target: Target) -> Result<(), AllocError> {
         put_required(map, "name", &self.name, target)?;
         put_required(map, "value", &self.value, target)
     }
@@ -54,7 +57,7 @@ impl Kept for Properties {
 
 impl ToJson for Properties {
     #[tactic(auto, unfolding(cdx_schema::specs::Table::list))]
-    fn to_value(&self, alloc: Global, version: SpecVersion) -> Result<Value, AllocError> {
-        list_to_value(alloc, &self.0, version)
+    fn spelling(&self, alloc: Global, version: SpecVersion) -> Result<Spelling<'_>, AllocError> {
+        list_spelling(alloc, &self.0, version)
     }
 }

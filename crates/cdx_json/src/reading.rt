@@ -2,7 +2,7 @@
 
 ghost use Rattle.std.specs.Prelude.{◌≡◌, option_map};
 ghost use Rattle.serde_json.specs.Find.{get_member};
-ghost use Rattle.serde_json.specs.View.{view, items_view, members_view};
+ghost use Rattle.serde_json.specs.View.{view, items_view};
 ghost use Rattle.cdx_models.specs.Trees.{present, list_tree};
 ghost use Rattle.cdx_schema.specs.Kinds.{Lists, a_list, optional, required, else_empty, required_first};
 ghost use Rattle.cdx_schema.specs.JsonReading.{jread, seen};
@@ -10,26 +10,28 @@ ghost use Rattle.cdx_schema.specs.JsonReading as reading;
 ghost use Rattle.cdx_schema.specs.Depths.{depth_of};
 ghost use Rattle.cdx_json.specs.ByRows.{IsJsonListOf, member_of, late_read, list_read};
 ghost use Rattle.cdx_json.specs.Gives.{Gives, is_member_there, is_found, non_null};
+ghost use Rattle.cdx_json.specs.SeenOf.{seen_of};
 
 use crate::context::Context;
 use crate::fault::{at_item, at_member, here, missing};
-use crate::traits::{FromJson, Members};
+use crate::seen::SeenMembers;
+use crate::traits::FromJson;
 use cdx_events::{List, Text};
 use cdx_models::{JsonKind, JsonReadError, SpecVersion};
 use serde_json::Value;
 
 /// The member of that name.
-pub fn member<'v>(map: &'v Members, name: &str) -> Option<&'v Value>
+pub fn member<'v>(map: &SeenMembers<'v>, name: &str) -> Option<&'v Value>
     ensures { option_map (λ v. view v.now) result
-        ≡ get_member name.now (members_view map.now.entries) }
+        ≡ get_member name.now (seen_of map.now.members.items) }
 {
     map.get(name)
 }
 
 /// The member of that name, where it is not null.
-pub fn member_not_null<'v>(map: &'v Members, name: &str) -> Option<&'v Value>
+pub fn member_not_null<'v>(map: &SeenMembers<'v>, name: &str) -> Option<&'v Value>
     ensures { option_map (λ v. view v.now) result
-        ≡ non_null (get_member name.now (members_view map.now.entries)) }
+        ≡ non_null (get_member name.now (seen_of map.now.members.items)) }
 {
     match member(map, name) {
         None => None,
@@ -38,24 +40,24 @@ pub fn member_not_null<'v>(map: &'v Members, name: &str) -> Option<&'v Value>
 }
 
 /// Whether there is a member of that name, maybe a null.
-pub fn has_member(map: &Members, name: &str) -> bool
-    ensures { result ≡ is_member_there (seen (members_view map.now.entries) name.now) }
+pub fn has_member(map: &SeenMembers<'_>, name: &str) -> bool
+    ensures { result ≡ is_member_there (seen (seen_of map.now.members.items) name.now) }
 {
     member(map, name).is_some()
 }
 
 /// Whether there is a member of that name that is not null.
-pub fn has_value(map: &Members, name: &str) -> bool
-    ensures { result ≡ is_found (seen (members_view map.now.entries) name.now) }
+pub fn has_value(map: &SeenMembers<'_>, name: &str) -> bool
+    ensures { result ≡ is_found (seen (seen_of map.now.members.items) name.now) }
 {
     member_not_null(map, name).is_some()
 }
 
 /// The name of the member that a row is read from which old documents spell otherwise: its name where that member is
 /// there and not null, else its old name.
-pub fn first_or_old<'n>(map: &Members, name: &'n str, old_name: &'n str) -> &'n str
+pub fn first_or_old<'n>(map: &SeenMembers<'_>, name: &'n str, old_name: &'n str) -> &'n str
     ensures { result.now
-        ≡ reading.first_or_old (seen (members_view map.now.entries) name.now) name.now
+        ≡ reading.first_or_old (seen (seen_of map.now.members.items) name.now) name.now
         old_name.now }
 {
     if has_value(map, name) { name } else { old_name }
@@ -134,12 +136,12 @@ pub fn list_from_value<T: FromJson + Drop>(
 
 /// A member that has to be there and may not be null.
 pub fn required_row<T: FromJson + Drop>(
-    map: &Members,
+    map: &SeenMembers<'_>,
     name: &str,
     context: Context,
 ) -> Result<T, JsonReadError>
     ensures { Gives T.tree result
-        (member_of (seen (members_view map.now.entries)) name.now required T.kind context.version
+        (member_of (seen (seen_of map.now.members.items)) name.now required T.kind context.version
         (depth_of context.depth)) }
 {
     match member_not_null(map, name) {
@@ -160,12 +162,12 @@ pub fn required_row<T: FromJson + Drop>(
 
 /// A member that may be left out or null.
 pub fn optional_row<T: FromJson + Drop>(
-    map: &Members,
+    map: &SeenMembers<'_>,
     name: &str,
     context: Context,
 ) -> Result<Option<T>, JsonReadError>
     ensures { Gives (present T.tree) result
-        (member_of (seen (members_view map.now.entries)) name.now optional T.kind context.version
+        (member_of (seen (seen_of map.now.members.items)) name.now optional T.kind context.version
         (depth_of context.depth)) }
 {
     match member_not_null(map, name) {
@@ -180,14 +182,14 @@ pub fn optional_row<T: FromJson + Drop>(
 /// A member that may be left out or null, and that versions before `since` pass over.
 #[tactic(auto, unfolding(crate::specs::ByRows::late_read))]
 pub fn optional_row_since<T: FromJson + Drop>(
-    map: &Members,
+    map: &SeenMembers<'_>,
     name: &str,
     since: SpecVersion,
     context: Context,
 ) -> Result<Option<T>, JsonReadError>
     ensures { Gives (present T.tree) result
         (late_read since context.version
-        (member_of (seen (members_view map.now.entries)) name.now optional T.kind context.version
+        (member_of (seen (seen_of map.now.members.items)) name.now optional T.kind context.version
         (depth_of context.depth))) }
 {
     if since.is_known_to(context.version) {
@@ -200,12 +202,12 @@ pub fn optional_row_since<T: FromJson + Drop>(
 /// A member that only 1.3 requires.
 #[tactic(auto, using(crate::proofs::Rows::first_rules))]
 pub fn first_row<T: FromJson + Drop>(
-    map: &Members,
+    map: &SeenMembers<'_>,
     name: &str,
     context: Context,
 ) -> Result<Option<T>, JsonReadError>
     ensures { Gives (present T.tree) result
-        (member_of (seen (members_view map.now.entries)) name.now required_first T.kind
+        (member_of (seen (seen_of map.now.members.items)) name.now required_first T.kind
         context.version (depth_of context.depth)) }
 {
     match context.version {
@@ -220,12 +222,12 @@ pub fn first_row<T: FromJson + Drop>(
 
 /// A list that is empty where it is left out, and that may not be null.
 pub fn list_row<T: FromJson + Drop>(
-    map: &Members,
+    map: &SeenMembers<'_>,
     name: &str,
     context: Context,
 ) -> Result<List<T>, JsonReadError>
     ensures { (l : Lists) → IsJsonListOf T.kind l → Gives (list_tree T.tree) result
-        (member_of (seen (members_view map.now.entries)) name.now else_empty (a_list l)
+        (member_of (seen (seen_of map.now.members.items)) name.now else_empty (a_list l)
         context.version (depth_of context.depth)) }
 {
     match member_not_null(map, name) {
@@ -246,12 +248,12 @@ pub fn list_row<T: FromJson + Drop>(
 
 /// A list that may be left out or null.
 pub fn optional_list_row<T: FromJson + Drop>(
-    map: &Members,
+    map: &SeenMembers<'_>,
     name: &str,
     context: Context,
 ) -> Result<Option<List<T>>, JsonReadError>
     ensures { (l : Lists) → IsJsonListOf T.kind l → Gives (present (list_tree T.tree)) result
-        (member_of (seen (members_view map.now.entries)) name.now optional (a_list l)
+        (member_of (seen (seen_of map.now.members.items)) name.now optional (a_list l)
         context.version (depth_of context.depth)) }
 {
     match member_not_null(map, name) {
@@ -265,14 +267,14 @@ pub fn optional_list_row<T: FromJson + Drop>(
 
 /// A list that may be left out or null, and that versions before `since` pass over.
 pub fn optional_list_row_since<T: FromJson + Drop>(
-    map: &Members,
+    map: &SeenMembers<'_>,
     name: &str,
     since: SpecVersion,
     context: Context,
 ) -> Result<Option<List<T>>, JsonReadError>
     ensures { (l : Lists) → IsJsonListOf T.kind l → Gives (present (list_tree T.tree)) result
         (late_read since context.version
-        (member_of (seen (members_view map.now.entries)) name.now optional (a_list l)
+        (member_of (seen (seen_of map.now.members.items)) name.now optional (a_list l)
         context.version (depth_of context.depth))) }
 {
     if since.is_known_to(context.version) {

@@ -3,7 +3,9 @@
 use crate::context::Context;
 use crate::keeping::Keeping;
 use crate::reading::{optional_row, optional_row_since};
-use crate::traits::{JsonRecord, Members};
+use crate::seen::SeenMembers;
+use crate::spelling::members::Members;
+use crate::traits::JsonRecord;
 use crate::writing::{keep_row, keep_row_since, put_row, put_row_since};
 use cdx_models::{JsonReadError, SpecVersion, Tool};
 use cdx_schema::Target;
@@ -11,7 +13,7 @@ use std::alloc::AllocError;
 
 impl JsonRecord for Tool {
     #[tactic(auto, unfolding(crate::proofs::OnRows::on_rows))]
-    fn from_members(map: &Members, context: Context) -> Result<Tool, JsonReadError> {
+    fn from_members(map: &SeenMembers<'_>, context: Context) -> Result<Tool, JsonReadError> {
         let vendor = optional_row(map, "vendor", context)?;
         let name = optional_row(map, "name", context)?;
         let held_version = optional_row(map, "version", context)?;
@@ -47,7 +49,7 @@ impl JsonRecord for Tool {
     }
 
     #[tactic(auto, unfolding(crate::proofs::OnRows::on_rows))]
-    fn put_members(&self, map: &mut Members, target: Target) -> Result<(), AllocError> {
+    fn put_members<'b>(&'b self, map: &mut Members<'b>, target: Target) -> Result<(), AllocError> {
         put_row(map, "vendor", &self.vendor, target)?;
         put_row(map, "name", &self.name, target)?;
         put_row(map, "version", &self.version, target)?;

@@ -1,7 +1,7 @@
 //! What is read from JSON, kept by a version and written to JSON.
 
 ghost use Rattle.std.specs.Prelude.{◌≡◌, IfOk, OnOk, false};
-ghost use Rattle.serde_json.specs.View.{view, members_view};
+ghost use Rattle.serde_json.specs.View.{view};
 ghost use Rattle.cdx_models.specs.Trees.{fields, fields_of, is_absent};
 ghost use Rattle.cdx_models.specs.declared.bom.SpecVersion.{SpecVersion};
 ghost use Rattle.cdx_schema.specs.Table.{rows};
@@ -13,17 +13,19 @@ ghost use Rattle.cdx_schema.specs.Depths.{depth_of};
 ghost use Rattle.cdx_json.specs.Gives.{Gives, Makes};
 ghost use Rattle.cdx_json.specs.ByRows.{by_rows};
 ghost use Rattle.cdx_json.specs.KeptRows.{rows_held, rows_put};
+ghost use Rattle.cdx_json.specs.SeenOf.{seen_of};
+ghost use Rattle.cdx_json.specs.Spellings.{spelling_data, spelling_members};
 
 use crate::context::Context;
 use crate::fault::here;
 use crate::keeping::Keeping;
+use crate::seen::SeenMembers;
+use crate::spelling::Spelling;
+use crate::spelling::members::Members;
 use cdx_models::{JsonKind, JsonReadError, JsonWriteError, SpecVersion};
 use cdx_schema::{Depth, Kinded, Record, Target};
-use serde_json::{Map, Value};
+use serde_json::Value;
 use std::alloc::{AllocError, Global};
-
-/// The members of an object.
-pub type Members = Map<String, Value>;
 
 /// A value that is read from JSON.
 pub trait FromJson: Kinded {
@@ -78,10 +80,19 @@ pub trait Kept: Kinded {
 /// A value that is written as JSON.
 pub trait ToJson: Kept {
     /// The spelling of what the version keeps. Only want of memory refuses.
-    fn to_value(&self, alloc: Global, version: SpecVersion) -> Result<Value, AllocError>
+    fn spelling(&self, alloc: Global, version: SpecVersion) -> Result<Spelling<'_>, AllocError>
+        ensures { IfOk result
+            (λ v. spelling_data v
+            ≡ jspell (keep version (Self.tree self.now) Self.kind) version Self.kind) };
+
+    /// The spelling of what the version keeps, as a value of its own. Only want of memory refuses.
+    final fn to_value(&self, alloc: Global, version: SpecVersion) -> Result<Value, AllocError>
         ensures { IfOk result
             (λ v. view v
-            ≡ jspell (keep version (Self.tree self.now) Self.kind) version Self.kind) };
+            ≡ jspell (keep version (Self.tree self.now) Self.kind) version Self.kind) }
+    {
+        self.spelling(alloc, version)?.to_value(alloc)
+    }
 
     /// The spelling of what the version keeps. Only want of memory refuses, as `Memory`.
     final fn to_json(&self, alloc: Global, version: SpecVersion) -> Result<Value, JsonWriteError>
@@ -100,9 +111,9 @@ pub trait ToJson: Kept {
 pub trait JsonRecord: Record {
     /// The record whose members these are, or the first fault. Where memory runs out, the answer is `Memory`
     /// instead.
-    fn from_members(map: &Members, context: Context) -> Result<Self, JsonReadError>
+    fn from_members(map: &SeenMembers<'_>, context: Context) -> Result<Self, JsonReadError>
         ensures { Gives Self.tree result
-            (by_rows Self.name (seen (members_view map.now.entries)) context.version
+            (by_rows Self.name (seen (seen_of map.now.members.items)) context.version
             (depth_of context.depth)) };
 
     /// What a version keeps of its rows, where a bill's label becomes the one given. Only want of memory refuses.
@@ -113,10 +124,10 @@ pub trait JsonRecord: Record {
             (rows Self.name))) };
 
     /// Sets the members of what the version keeps. Only want of memory refuses.
-    fn put_members(&self, map: &mut Members, target: Target) -> Result<(), AllocError>
-        ensures { OnOk result (members_view map.new.entries
+    fn put_members<'b>(&'b self, map: &mut Members<'b>, target: Target) -> Result<(), AllocError>
+        ensures { OnOk result (spelling_members map.new.items
             ≡ rows_put (fields_of (Self.tree self.now)) target.version (rows Self.name)
-            (members_view map.old.entries)) };
+            (spelling_members map.old.items)) };
 }
 
 /// A record is read from an object, row by row.
@@ -124,7 +135,10 @@ impl<T: JsonRecord> FromJson for T {
     fn from_json_at(value: &Value, context: Context) -> Result<T, JsonReadError> {
         match value.as_object() {
             None => Err(here(context.alloc, JsonKind::WrongKind)),
-            Some(map) => T::from_members(map, context),
+            Some(map) => {
+                let members = SeenMembers::of(context.alloc, map)?;
+                T::from_members(&members, context)
+            }
         }
     }
 }
@@ -142,9 +156,9 @@ impl<T: JsonRecord> Kept for T {
 
 /// A record is written as an object, row by row.
 impl<T: JsonRecord> ToJson for T {
-    fn to_value(&self, alloc: Global, version: SpecVersion) -> Result<Value, AllocError> {
-        let mut map = Map::new(alloc);
+    fn spelling(&self, alloc: Global, version: SpecVersion) -> Result<Spelling<'_>, AllocError> {
+        let mut map = Vec::new(alloc);
         self.put_members(&mut map, Target { alloc, version })?;
-        Ok(Value::Object(map))
+        Ok(Spelling::Object(map))
     }
 }

@@ -1,20 +1,21 @@
 //! Keeping and writing texts, booleans, numbers, lists and the members of records.
 
 ghost use Rattle.std.specs.Prelude.{◌≡◌, IfOk, OnOk};
-ghost use Rattle.serde_json.specs.View.{view, members_view};
 ghost use Rattle.cdx_models.specs.Trees.{present, list_tree};
 ghost use Rattle.cdx_schema.specs.Kinds.{Lists, a_list};
 ghost use Rattle.cdx_schema.specs.Keeping.{kept, keep};
 ghost use Rattle.cdx_schema.specs.JsonSpelling.{jspell};
 ghost use Rattle.cdx_json.specs.ByRows.{IsJsonListOf};
 ghost use Rattle.cdx_json.specs.KeptRows.{put_kept, put_filled, late_put, late_kept};
+ghost use Rattle.cdx_json.specs.Spellings.{spelling_data, spelling_members};
 
 use crate::keeping::Keeping;
-use crate::traits::{Kept, Members, ToJson};
+use crate::spelling::Spelling;
+use crate::spelling::members::{Members, put};
+use crate::traits::{Kept, ToJson};
 use cdx_events::{List, Text};
 use cdx_models::{HasTree, SpecVersion};
 use cdx_schema::Target;
-use serde_json::Value;
 use std::alloc::{AllocError, Global};
 
 impl Kept for Text {
@@ -30,8 +31,8 @@ impl Kept for Text {
 
 impl ToJson for Text {
     #[tactic(auto, unfolding(crate::proofs::OnRows::on_spelled))]
-    fn to_value(&self, alloc: Global, version: SpecVersion) -> Result<Value, AllocError> {
-        Value::try_from_str(alloc, self.as_str())
+    fn spelling(&self, alloc: Global, version: SpecVersion) -> Result<Spelling<'_>, AllocError> {
+        Ok(Spelling::Text(self.as_str()))
     }
 }
 
@@ -48,8 +49,8 @@ impl Kept for bool {
 
 impl ToJson for bool {
     #[tactic(auto, unfolding(crate::proofs::OnRows::on_spelled))]
-    fn to_value(&self, alloc: Global, version: SpecVersion) -> Result<Value, AllocError> {
-        Ok(Value::from(*self))
+    fn spelling(&self, alloc: Global, version: SpecVersion) -> Result<Spelling<'_>, AllocError> {
+        Ok(Spelling::Bool(*self))
     }
 }
 
@@ -66,8 +67,8 @@ impl Kept for u32 {
 
 impl ToJson for u32 {
     #[tactic(auto, unfolding(crate::proofs::OnRows::on_spelled))]
-    fn to_value(&self, alloc: Global, version: SpecVersion) -> Result<Value, AllocError> {
-        Ok(Value::from(*self))
+    fn spelling(&self, alloc: Global, version: SpecVersion) -> Result<Spelling<'_>, AllocError> {
+        Ok(Spelling::Number(*self))
     }
 }
 
@@ -85,51 +86,46 @@ pub fn keep_list<T: Kept + Drop>(held: &List<T>, keeping: Keeping) -> Result<Lis
 }
 
 /// A list as an array, as any of the schema's lists whose items are of the kind of `T`.
-pub fn list_to_value<T: ToJson + Drop>(
+pub fn list_spelling<'b, T: ToJson + Drop>(
     alloc: Global,
-    held: &List<T>,
+    held: &'b List<T>,
     version: SpecVersion,
-) -> Result<Value, AllocError>
+) -> Result<Spelling<'b>, AllocError>
     ensures { (l : Lists) → IsJsonListOf T.kind l → IfOk result
-        (λ v. view v
+        (λ v. spelling_data v
         ≡ jspell (keep version (list_tree T.tree held.now) (a_list l)) version (a_list l)) }
 {
     let mut values = Vec::with_capacity(alloc, held.len())?;
     for item in held.as_slice() {
-        values.push(item.to_value(alloc, version)?)?;
+        values.push(item.spelling(alloc, version)?)?;
     }
-    Ok(Value::Array(values))
+    Ok(Spelling::Array(values))
 }
 
 /// Sets a member that is always there.
-pub fn put_required<T: ToJson>(
-    map: &mut Members,
-    name: &str,
-    held: &T,
+pub fn put_required<'b, T: ToJson>(
+    map: &mut Members<'b>,
+    name: &'b str,
+    held: &'b T,
     target: Target,
 ) -> Result<(), AllocError>
-    ensures { OnOk result (members_view map.new.entries
+    ensures { OnOk result (spelling_members map.new.items
         ≡ put_kept name.now T.kind (T.tree held.now) target.version
-        (members_view map.old.entries)) }
+        (spelling_members map.old.items)) }
 {
-    serde_json::put(
-        map,
-        target.alloc,
-        name,
-        held.to_value(target.alloc, target.version)?,
-    )
+    put(map, name, held.spelling(target.alloc, target.version)?)
 }
 
 /// Sets a member, where it is there.
-pub fn put_row<T: ToJson>(
-    map: &mut Members,
-    name: &str,
-    held: &Option<T>,
+pub fn put_row<'b, T: ToJson>(
+    map: &mut Members<'b>,
+    name: &'b str,
+    held: &'b Option<T>,
     target: Target,
 ) -> Result<(), AllocError>
-    ensures { OnOk result (members_view map.new.entries
+    ensures { OnOk result (spelling_members map.new.items
         ≡ put_kept name.now T.kind (present T.tree held.now) target.version
-        (members_view map.old.entries)) }
+        (spelling_members map.old.items)) }
 {
     match held {
         None => Ok(()),
@@ -138,17 +134,17 @@ pub fn put_row<T: ToJson>(
 }
 
 /// Sets a member, where it is there and the version is not before `since`.
-pub fn put_row_since<T: ToJson>(
-    map: &mut Members,
-    name: &str,
-    held: &Option<T>,
+pub fn put_row_since<'b, T: ToJson>(
+    map: &mut Members<'b>,
+    name: &'b str,
+    held: &'b Option<T>,
     since: SpecVersion,
     target: Target,
 ) -> Result<(), AllocError>
-    ensures { OnOk result (members_view map.new.entries
-        ≡ late_put since target.version (members_view map.old.entries)
+    ensures { OnOk result (spelling_members map.new.items
+        ≡ late_put since target.version (spelling_members map.old.items)
         (put_kept name.now T.kind (present T.tree held.now) target.version
-        (members_view map.old.entries))) }
+        (spelling_members map.old.items))) }
 {
     if since.is_known_to(target.version) {
         put_row(map, name, held, target)
@@ -158,56 +154,54 @@ pub fn put_row_since<T: ToJson>(
 }
 
 /// Sets a list that is written even where it is empty.
-pub fn put_required_list<T: ToJson + Drop>(
-    map: &mut Members,
-    name: &str,
-    held: &List<T>,
+pub fn put_required_list<'b, T: ToJson + Drop>(
+    map: &mut Members<'b>,
+    name: &'b str,
+    held: &'b List<T>,
     target: Target,
 ) -> Result<(), AllocError>
-    ensures { (l : Lists) → IsJsonListOf T.kind l → OnOk result (members_view map.new.entries
+    ensures { (l : Lists) → IsJsonListOf T.kind l → OnOk result (spelling_members map.new.items
         ≡ put_kept name.now (a_list l) (list_tree T.tree held.now) target.version
-        (members_view map.old.entries)) }
+        (spelling_members map.old.items)) }
 {
-    serde_json::put(
+    put(
         map,
-        target.alloc,
         name,
-        list_to_value(target.alloc, held, target.version)?,
+        list_spelling(target.alloc, held, target.version)?,
     )
 }
 
 /// Sets a list that is not written where it is empty.
-pub fn put_list<T: ToJson + Drop>(
-    map: &mut Members,
-    name: &str,
-    held: &List<T>,
+pub fn put_list<'b, T: ToJson + Drop>(
+    map: &mut Members<'b>,
+    name: &'b str,
+    held: &'b List<T>,
     target: Target,
 ) -> Result<(), AllocError>
-    ensures { (l : Lists) → IsJsonListOf T.kind l → OnOk result (members_view map.new.entries
+    ensures { (l : Lists) → IsJsonListOf T.kind l → OnOk result (spelling_members map.new.items
         ≡ put_filled name.now (a_list l) (list_tree T.tree held.now) target.version
-        (members_view map.old.entries)) }
+        (spelling_members map.old.items)) }
 {
     if held.len() == 0 {
         return Ok(());
     }
-    serde_json::put(
+    put(
         map,
-        target.alloc,
         name,
-        list_to_value(target.alloc, held, target.version)?,
+        list_spelling(target.alloc, held, target.version)?,
     )
 }
 
 /// Sets a list, where it is there.
-pub fn put_optional_list<T: ToJson + Drop>(
-    map: &mut Members,
-    name: &str,
-    held: &Option<List<T>>,
+pub fn put_optional_list<'b, T: ToJson + Drop>(
+    map: &mut Members<'b>,
+    name: &'b str,
+    held: &'b Option<List<T>>,
     target: Target,
 ) -> Result<(), AllocError>
-    ensures { (l : Lists) → IsJsonListOf T.kind l → OnOk result (members_view map.new.entries
+    ensures { (l : Lists) → IsJsonListOf T.kind l → OnOk result (spelling_members map.new.items
         ≡ put_kept name.now (a_list l) (present (list_tree T.tree) held.now) target.version
-        (members_view map.old.entries)) }
+        (spelling_members map.old.items)) }
 {
     match held {
         None => Ok(()),
@@ -216,17 +210,17 @@ pub fn put_optional_list<T: ToJson + Drop>(
 }
 
 /// Sets a list, where it is there and the version is not before `since`.
-pub fn put_optional_list_since<T: ToJson + Drop>(
-    map: &mut Members,
-    name: &str,
-    held: &Option<List<T>>,
+pub fn put_optional_list_since<'b, T: ToJson + Drop>(
+    map: &mut Members<'b>,
+    name: &'b str,
+    held: &'b Option<List<T>>,
     since: SpecVersion,
     target: Target,
 ) -> Result<(), AllocError>
-    ensures { (l : Lists) → IsJsonListOf T.kind l → OnOk result (members_view map.new.entries
-        ≡ late_put since target.version (members_view map.old.entries)
+    ensures { (l : Lists) → IsJsonListOf T.kind l → OnOk result (spelling_members map.new.items
+        ≡ late_put since target.version (spelling_members map.old.items)
         (put_kept name.now (a_list l) (present (list_tree T.tree) held.now) target.version
-        (members_view map.old.entries))) }
+        (spelling_members map.old.items))) }
 {
     if since.is_known_to(target.version) {
         put_optional_list(map, name, held, target)

@@ -1,5 +1,5 @@
 -- Licenses: which identifier and which choice an object is, and how each is kept and written.
-use Rattle.std.proofs.Common.{◌≡◌, ℕ, Bool, true, false, nat_eq, List, [], ◌∷◌, length, Some, None, Ordering, Less, Equal, Greater, Result, Ok, Global, String, codes, refl, sym, ap, ◌∙◌, subst, arith}
+use Rattle.std.proofs.Common.{◌≡◌, ℕ, Bool, true, false, nat_eq, List, [], ◌∷◌, length, Some, None, Ordering, Less, Equal, Greater, Result, Ok, codes, refl, sym, ap, ◌∙◌, subst, arith}
 use Rattle.std.proofs.lemmas.Bool.{eqb-true}
 use Rattle.std.proofs.lemmas.Slice.Eq.{bytes_eq-Decides}
 use Rattle.std.proofs.lemmas.Map.Text.{is_eq-slice_cmp}
@@ -9,8 +9,6 @@ use Rattle.std.specs.Cmp.Lexicographic.{slice_cmp}
 use Rattle.serde_json.specs.Data.{Data, Members, no_members, object}
 use Rattle.serde_json.specs.Data as json
 use Rattle.serde_json.specs.Find.{as_object}
-use Rattle.serde_json.specs.View.{members_view}
-use Rattle.serde_json.specs.declared.value.Value.{Value}
 use Rattle.cdx_models.specs.declared.bom.SpecVersion.{SpecVersion}
 use Rattle.cdx_models.specs.declared.bom.SpecVersion.TheVariants.{V1_3, V1_4, V1_5}
 use Rattle.cdx_models.specs.declared.errors.JsonKind.TheVariants.{WrongKind}
@@ -28,6 +26,8 @@ use Rattle.cdx_schema.specs.JsonSpelling.{jspell}
 use Rattle.cdx_schema.specs.Keeping.{kept, keep}
 use Rattle.cdx_models.specs.declared.errors.JsonReadError.{JsonReadError}
 use Rattle.cdx_models.specs.declared.errors.JsonReadError.TheVariants.{JsonElementReadError, BomError, Memory}
+use Rattle.cdx_json.specs.declared.seen_member.SeenMember.{SeenMember}
+use Rattle.cdx_json.specs.SeenOf.{seen_of}
 use Rattle.cdx_json.specs.Gives.{Fails, Gives, IsFaultAt, is_member_there}
 use Rattle.cdx_json.specs.ByRows.{read_if_found, member_of, identifier_of, choice_of, by_rows}
 use Rattle.cdx_json.specs.KeptRows.{put_kept, put_own}
@@ -163,7 +163,7 @@ seen_alone l x n = by (slice_cmp nat_cmp n l) (jread x) ∙ is_eq-slice_cmp n l 
     by Equal read = found_stands x read
     by Greater read = refl
 
-pub lone_when : (es : List (String Global × Value)) (n : ℕ) (b : Bool) → n ≡ length es → n ≡ 1 → b ≡ is_member_there (seen (members_view es) (codes "license")) → b ≡ is_lone_license (members_view es)
+pub lone_when : (es : List SeenMember) (n : ℕ) (b : Bool) → n ≡ length es → n ≡ 1 → b ≡ is_member_there (seen (seen_of es) (codes "license")) → b ≡ is_lone_license (seen_of es)
 lone_when [] n b l e h = absurd (omega arith)
 lone_when (x ∷ []) n b l e h = h ∙ seen_alone _ _ (codes "license")
 lone_when (x ∷ y ∷ es) n b l e h = absurd (omega arith)
@@ -172,7 +172,7 @@ unequal : (n : ℕ) (t : Bool) → (n ≡ 1 → ⊥) → nat_eq n 1 ≡ t → t 
 unequal n true h e = absurd (h (eqb-true n 1 e))
 unequal n false h e = refl
 
-pub lone_unless : (es : List (String Global × Value)) (n : ℕ) (b : Bool) → n ≡ length es → (n ≡ 1 → ⊥) → b ≡ nat_eq n 1 → b ≡ is_lone_license (members_view es)
+pub lone_unless : (es : List SeenMember) (n : ℕ) (b : Bool) → n ≡ length es → (n ≡ 1 → ⊥) → b ≡ nat_eq n 1 → b ≡ is_lone_license (seen_of es)
 lone_unless [] n b l e h = h ∙ unequal n (nat_eq n 1) e refl
 lone_unless (x ∷ []) n b l e h = absurd (e l)
 lone_unless (x ∷ y ∷ es) n b l e h = h ∙ unequal n (nat_eq n 1) e refl

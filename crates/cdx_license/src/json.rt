@@ -5,28 +5,30 @@ ghost use Rattle.cdx_models.specs.Trees.{expression, license};
 ghost use Rattle.cdx_schema.specs.Kinds.{licenses, a_license_identifier};
 ghost use Rattle.cdx_json.specs.Stays.{list_stays};
 ghost use Rattle.cdx_license.specs.Stays.{choice_stays, identifier_stays};
-ghost use Rattle.serde_json.specs.View.{members_view};
+ghost use Rattle.cdx_json.specs.Spellings.{spelling_members};
 ghost use Rattle.cdx_license.specs.Records.{identifier_tree, choice_tree};
 ghost use Rattle.cdx_schema.specs.JsonReading.{seen, is_lone_license};
 ghost use Rattle.cdx_schema.specs.Depths.{depth_of};
 ghost use Rattle.cdx_json.specs.Gives.{Gives};
 ghost use Rattle.cdx_json.specs.ByRows.{identifier_of, choice_of};
 ghost use Rattle.cdx_json.specs.KeptRows.{put_own};
+ghost use Rattle.cdx_json.specs.SeenOf.{seen_of};
 
 use crate::license::{Expression, License, LicenseChoice, LicenseIdentifier, Licenses};
 use cdx_json::{
-    Context, FromJson, JsonRecord, Keeping, Kept, Members, ToJson, first_or_old, has_member, here,
-    keep_list, keep_row, keep_row_since, list_from_value, list_to_value, missing, optional_row,
-    optional_row_since, put_required, put_row, put_row_since, required_row,
+    Context, FromJson, JsonRecord, Keeping, Kept, Members, SeenMembers, Spelling, ToJson,
+    first_or_old, has_member, here, keep_list, keep_row, keep_row_since, list_from_value,
+    list_spelling, missing, optional_row, optional_row_since, put_required, put_row, put_row_since,
+    required_row,
 };
 use cdx_models::{JsonKind, JsonReadError, SpecVersion};
 use cdx_schema::Target;
-use serde_json::{Map, Value};
+use serde_json::Value;
 use std::alloc::{AllocError, Global};
 
 #[tactic(auto, unfolding(cdx_json::proofs::OnRows::on_rows))]
 impl JsonRecord for Expression {
-    fn from_members(map: &Members, context: Context) -> Result<Expression, JsonReadError> {
+    fn from_members(map: &SeenMembers<'_>, context: Context) -> Result<Expression, JsonReadError> {
         let reference = first_or_old(map, "bom-ref", "bomRef");
         let bom_ref = optional_row(map, reference, context)?;
         let expression = required_row(map, "expression", context)?;
@@ -43,7 +45,7 @@ impl JsonRecord for Expression {
         })
     }
 
-    fn put_members(&self, map: &mut Members, target: Target) -> Result<(), AllocError> {
+    fn put_members<'b>(&'b self, map: &mut Members<'b>, target: Target) -> Result<(), AllocError> {
         put_row(map, "bom-ref", &self.bom_ref, target)?;
         put_required(map, "expression", &self.expression, target)
     }
@@ -51,7 +53,7 @@ impl JsonRecord for Expression {
 
 #[tactic(auto, unfolding(cdx_json::proofs::OnRows::on_rows))]
 impl JsonRecord for License {
-    fn from_members(map: &Members, context: Context) -> Result<License, JsonReadError> {
+    fn from_members(map: &SeenMembers<'_>, context: Context) -> Result<License, JsonReadError> {
         let reference = first_or_old(map, "bom-ref", "bomRef");
         let bom_ref = optional_row_since(map, reference, SpecVersion::V1_5, context)?;
         let license_identifier = identifier_from_members(map, context)?;
@@ -77,7 +79,7 @@ impl JsonRecord for License {
         })
     }
 
-    fn put_members(&self, map: &mut Members, target: Target) -> Result<(), AllocError> {
+    fn put_members<'b>(&'b self, map: &mut Members<'b>, target: Target) -> Result<(), AllocError> {
         put_row_since(map, "bom-ref", &self.bom_ref, SpecVersion::V1_5, target)?;
         put_identifier(map, &self.license_identifier, target)?;
         put_row(map, "text", &self.text, target)?;
@@ -111,8 +113,8 @@ impl Kept for Licenses {
 
 impl ToJson for Licenses {
     #[tactic(auto, unfolding(cdx_schema::specs::Table::list))]
-    fn to_value(&self, alloc: Global, version: SpecVersion) -> Result<Value, AllocError> {
-        list_to_value(alloc, &self.0, version)
+    fn spelling(&self, alloc: Global, version: SpecVersion) -> Result<Spelling<'_>, AllocError> {
+        list_spelling(alloc, &self.0, version)
     }
 }
 
@@ -121,18 +123,21 @@ impl FromJson for LicenseIdentifier {
     fn from_json_at(value: &Value, context: Context) -> Result<LicenseIdentifier, JsonReadError> {
         match value.as_object() {
             None => Err(here(context.alloc, JsonKind::WrongKind)),
-            Some(map) => identifier_from_members(map, context),
+            Some(map) => {
+                let members = SeenMembers::of(context.alloc, map)?;
+                identifier_from_members(&members, context)
+            }
         }
     }
 }
 
 /// The SPDX id where there is an `id`, else the name.
 fn identifier_from_members(
-    map: &Members,
+    map: &SeenMembers<'_>,
     context: Context,
 ) -> Result<LicenseIdentifier, JsonReadError>
     ensures { Gives identifier_tree result
-        (identifier_of (seen (members_view map.now.entries)) context.version
+        (identifier_of (seen (seen_of map.now.members.items)) context.version
         (depth_of context.depth)) }
 {
     if has_member(map, "id") {
@@ -159,21 +164,21 @@ impl Kept for LicenseIdentifier {
 
 impl ToJson for LicenseIdentifier {
     /// The object that has it as its one member.
-    fn to_value(&self, alloc: Global, version: SpecVersion) -> Result<Value, AllocError> {
-        let mut map = Map::new(alloc);
+    fn spelling(&self, alloc: Global, version: SpecVersion) -> Result<Spelling<'_>, AllocError> {
+        let mut map = Vec::new(alloc);
         put_identifier(&mut map, self, Target { alloc, version })?;
-        Ok(Value::Object(map))
+        Ok(Spelling::Object(map))
     }
 }
 
 /// Sets the license's member `id` or `name`.
-fn put_identifier(
-    map: &mut Members,
-    held: &LicenseIdentifier,
+fn put_identifier<'b>(
+    map: &mut Members<'b>,
+    held: &'b LicenseIdentifier,
     target: Target,
 ) -> Result<(), AllocError>
-    ensures { OnOk result (members_view map.new.entries ≡ put_own a_license_identifier
-        (identifier_tree held.now) target.version (members_view map.old.entries)) }
+    ensures { OnOk result (spelling_members map.new.items ≡ put_own a_license_identifier
+        (identifier_tree held.now) target.version (spelling_members map.old.items)) }
 {
     match held {
         LicenseIdentifier::SpdxId(id) => put_required(map, "id", id, target),
@@ -186,14 +191,20 @@ impl FromJson for LicenseChoice {
     fn from_json_at(value: &Value, context: Context) -> Result<LicenseChoice, JsonReadError> {
         match value.as_object() {
             None => Err(here(context.alloc, JsonKind::WrongKind)),
-            Some(map) => choice_from_members(map, context),
+            Some(map) => {
+                let members = SeenMembers::of(context.alloc, map)?;
+                choice_from_members(&members, context)
+            }
         }
     }
 }
 
-fn choice_from_members(map: &Members, context: Context) -> Result<LicenseChoice, JsonReadError>
+fn choice_from_members(
+    map: &SeenMembers<'_>,
+    context: Context,
+) -> Result<LicenseChoice, JsonReadError>
     ensures { Gives choice_tree result
-        (choice_of (members_view map.now.entries) context.version (depth_of context.depth)) }
+        (choice_of (seen_of map.now.members.items) context.version (depth_of context.depth)) }
 {
     if is_lone_license(map) {
         Ok(LicenseChoice::License(required_row(map, "license", context)?))
@@ -202,8 +213,8 @@ fn choice_from_members(map: &Members, context: Context) -> Result<LicenseChoice,
     }
 }
 
-fn is_lone_license(map: &Members) -> bool
-    ensures { result ≡ is_lone_license (members_view map.now.entries) }
+fn is_lone_license(map: &SeenMembers<'_>) -> bool
+    ensures { result ≡ is_lone_license (seen_of map.now.members.items) }
 {
     map.len() == 1 && has_member(map, "license")
 }
@@ -223,14 +234,14 @@ impl Kept for LicenseChoice {
 
 impl ToJson for LicenseChoice {
     /// A license stands alone under `license`, and an expression is the object itself.
-    fn to_value(&self, alloc: Global, version: SpecVersion) -> Result<Value, AllocError> {
+    fn spelling(&self, alloc: Global, version: SpecVersion) -> Result<Spelling<'_>, AllocError> {
         match self {
             LicenseChoice::License(held) => {
-                let mut map = Map::new(alloc);
+                let mut map = Vec::new(alloc);
                 put_required(&mut map, "license", held, Target { alloc, version })?;
-                Ok(Value::Object(map))
+                Ok(Spelling::Object(map))
             }
-            LicenseChoice::Expression(held) => held.to_value(alloc, version),
+            LicenseChoice::Expression(held) => held.spelling(alloc, version),
         }
     }
 }

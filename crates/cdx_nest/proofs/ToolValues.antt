@@ -1,11 +1,8 @@
 -- Tools are a list of tools, or in 1.5 an object of services and components.
-use Rattle.std.proofs.Common.{◌≡◌, [], map, Vec, Global, Some, None, Result, Ok, refl, sym, ap, ◌∙◌, subst}
+use Rattle.std.proofs.Common.{◌≡◌, [], Vec, Global, Some, None, Result, Ok, refl, sym, ap, ◌∙◌, subst}
 use Rattle.serde_json.specs.Data.{Data, Items, no_items, array, Members, no_members, object}
 use Rattle.serde_json.specs.Data as json
 use Rattle.serde_json.specs.Find.{as_array, as_object}
-use Rattle.serde_json.specs.View.{view, items_of}
-use Rattle.serde_json.specs.declared.value.Value.{Value, Array}
-use Rattle.serde_json.proofs.Views.{view-Array}
 use Rattle.cdx_models.specs.declared.bom.SpecVersion.{SpecVersion}
 use Rattle.cdx_models.specs.declared.bom.SpecVersion.TheVariants.{V1_5}
 use Rattle.cdx_models.specs.declared.errors.JsonKind.TheVariants.{WrongKind}
@@ -21,9 +18,12 @@ use Rattle.cdx_schema.specs.JsonSpelling.{jspell}
 use Rattle.cdx_json.specs.ByRows.{list_read, by_rows}
 use Rattle.cdx_json.specs.Gives.{Fails, Gives, IsFaultAt}
 use Rattle.cdx_json.specs.KeptRows.{rows_put}
+use Rattle.cdx_json.specs.Spellings.{spelling_data, spelling_items}
+use Rattle.cdx_json.specs.declared.spelling.Spelling.{Spelling, Array}
 use Rattle.cdx_json.proofs.ByRowsLaws.{by_rows_are}
 use Rattle.cdx_json.proofs.KeptRowsLaws.{record_put}
 use Rattle.cdx_json.proofs.Rows.{fails_here}
+use Rattle.cdx_json.proofs.Setting.{spelling_data-Array}
 use Rattle.cdx_nest.specs.declared.tools.Tools.{Tools}
 use Rattle.cdx_nest.specs.Trees.{tools_tree}
 
@@ -88,5 +88,5 @@ alike ts = refl
 pub object_spelled : (ts : Trees) → object (rows_put ts V1_5 (rows tools_object) no_members) ≡ jspell (keep V1_5 (fields tools_object ts) a_tools) V1_5 a_tools
 object_spelled ts = record_put tools_object V1_5 (fields tools_object ts) refl refl ∙ alike ts
 
-pub empty_is : (v : Vec Value Global) → v.items ≡ [] → view (Array v) ≡ array no_items
-empty_is v e = view-Array v ∙ ap (λ xs. array (items_of (map view xs))) e
+pub empty_is : (v : Vec Spelling Global) → v.items ≡ [] → spelling_data (Array v) ≡ array no_items
+empty_is v e = spelling_data-Array v ∙ ap (λ ss. array (spelling_items ss)) e

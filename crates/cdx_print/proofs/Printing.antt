@@ -1,11 +1,8 @@
 -- What is printed piece by piece is the value's text.
-use Rattle.std.proofs.Common.{◌≡◌, ◌∙◌, ℕ, List, [], ◌∷◌, ◌++◌, codes, Bool, true, false, string_bytes, refl, sym, ap, append_assoc}
-use Rattle.std.proofs.lemmas.Bool.{or_parts}
+use Rattle.std.proofs.Common.{◌≡◌, ◌∙◌, ℕ, List, [], ◌∷◌, ◌++◌, codes, Bool, true, false, refl, sym, ap, append_assoc}
 use Rattle.serde_json.specs.Data.{Data, string, object, Members, member}
-use Rattle.serde_json.specs.View.{view, members_view}
-use Rattle.serde_json.specs.Written.{comma_if, has_float, members_have_float, compact_text, members_text}
-use Rattle.serde_json.proofs.Views.{Entry}
-use Rattle.cdx_print.specs.Prints.{key_text, then_member}
+use Rattle.serde_json.specs.Written.{comma_if, compact_text, members_text}
+use Rattle.cdx_print.specs.Prints.{key_text}
 
 -- ---- an object, member by member
 
@@ -32,18 +29,3 @@ pub led_printed : (before start k : List ℕ) (d : Data) (l : List ℕ) (e : Dat
     → (((before ++ start) ++ compact_text d) ++ codes ",") ++ members_text false (member l e ms) ≡ before ++ members_text false (member k d (member l e ms))
 led_printed before start k d l e ms is =
     append_assoc ((before ++ start) ++ compact_text d) (44 ∷ []) (members_text false (member l e ms)) ∙ member_printed before start false k d (member l e ms) is
-
--- ---- a loop over members
-
--- the members so far, and then those of the rest, which hold no float
-abbrev pub IsPrintedSoFar : List ℕ → Bool → List Entry → List ℕ → Type 0
-IsPrintedSoFar text later rest whole = (members_have_float (members_view rest) ≡ false) × (text ++ members_text later (members_view rest) ≡ whole)
-
-pub member_goes_on : (e : Entry) (left : List Entry) (later : Bool) (old new whole : List ℕ) → (has_float (view e.1) ≡ false → new ≡ then_member later (string_bytes e.0) (view e.1) old)
-    → IsPrintedSoFar old later (e ∷ left) whole → IsPrintedSoFar new true left whole
-member_goes_on e left later old new whole printed so_far =
-    let free = or_parts (has_float (view e.1)) (members_have_float (members_view left)) so_far.0 in
-    let rest = members_view left in (
-      free.1,
-      ap (λ s. s ++ members_text true rest) (printed free.0) ∙ member_printed old (key_text later (string_bytes e.0)) later (string_bytes e.0) (view e.1) rest refl ∙ so_far.1,
-    )

@@ -16,9 +16,6 @@ then_text start s before = (before ++ start) ++ compact_text (string s)
 abbrev pub key_text : Bool → List ℕ → List ℕ
 key_text later k = comma_if later ++ (compact_text (string k) ++ 58 ∷ [])
 
-abbrev pub then_member : Bool → List ℕ → Data → List ℕ → List ℕ
-then_member later k d before = (before ++ key_text later k) ++ compact_text d
-
 -- the spelling of what a version keeps of a value with this tree and kind
 abbrev pub kept_value : {A : Type 0} → (A → Tree) → Kind → SpecVersion → A → Data
 kept_value f k w x = jspell (keep w (f x) k) w k

@@ -6,15 +6,16 @@ ghost use Rattle.serde_json.specs.View.{items_of};
 ghost use Rattle.serde_json.specs.Written.{compact_text};
 ghost use Rattle.cdx_print.specs.Prints.{kept_value};
 
-use crate::pieces::{print_comma_if, print_value};
+use crate::pieces::print_comma_if;
+use crate::printer::Printer;
+use crate::spelling::print_spelling;
 use cdx_json::ToJson;
 use cdx_models::SpecVersion;
-use std::alloc::{AllocError, Global};
+use std::alloc::AllocError;
 
-// What the version keeps of the item. Its value is freed at the end.
-#[tactic(auto, using(cdx_schema::proofs::Clear::spelling_clear))]
+// What the version keeps of the item. Its spelling is freed at the end.
 fn print_item<T: ToJson>(
-    alloc: Global,
+    printer: &mut Printer,
     out: &mut String,
     item: &T,
     version: SpecVersion,
@@ -22,14 +23,14 @@ fn print_item<T: ToJson>(
     ensures { OnOk result (string_bytes out.new ≡ string_bytes out.old
         ++ compact_text (kept_value T.tree T.kind version item.now)) }
 {
-    let value = item.to_value(alloc, version)?;
-    print_value(alloc, out, &value)
+    let spelling = item.spelling(printer.alloc, version)?;
+    print_spelling(printer, out, &spelling)
 }
 
-/// What the version keeps of the items, as an array, where each item's value is made, printed and freed before the
+/// What the version keeps of the items, as an array, where each item's spelling is made, printed and freed before the
 /// next. Only want of memory refuses.
 pub fn print_items<T: ToJson>(
-    alloc: Global,
+    printer: &mut Printer,
     out: &mut String,
     items: &[T],
     version: SpecVersion,
@@ -41,7 +42,7 @@ pub fn print_items<T: ToJson>(
     let mut is_later = false;
     for item in items {
         print_comma_if(out, is_later)?;
-        print_item(alloc, out, item, version)?;
+        print_item(printer, out, item, version)?;
         is_later = true;
     }
     out.push_str("]")

@@ -3,9 +3,12 @@
 #![tactic(auto)]
 
 mod items;
-mod members;
+mod known;
 mod pieces;
+mod printer;
+mod spelling;
 
 pub use items::print_items;
-pub use members::print_members;
 pub use pieces::{print_comma_if, print_text, print_value};
+pub use printer::Printer;
+pub use spelling::{print_members, print_spelling};

@@ -1,22 +1,22 @@
 -- Services, read, kept and written group by group.
-use Rattle.std.proofs.Common.{◌≡◌, ◌∷◌, ◌++◌, length, Global, BTreeMap, String, refl, sym, ap, ◌∙◌}
+use Rattle.std.proofs.Common.{◌≡◌, ◌++◌, length, Vec, Global, refl, sym, ap, ◌∙◌}
 use Rattle.serde_json.specs.Data.{no_members}
-use Rattle.serde_json.specs.View.{view, members_view}
-use Rattle.serde_json.specs.declared.value.Value.{Value, Object as object_of}
 use Rattle.cdx_models.specs.declared.bom.SpecVersion.{SpecVersion}
 use Rattle.cdx_models.specs.Trees.{service, Tree, fields, Trees, ◌⧺◌}
 use Rattle.cdx_models.proofs.Lists.{count}
 use Rattle.cdx_schema.specs.Kinds.{a_record}
 use Rattle.cdx_schema.specs.Table.{rows}
 use Rattle.cdx_schema.specs.Depth.{Depth}
-use Rattle.cdx_schema.specs.Results.{◌>>=◌}
 use Rattle.cdx_schema.specs.Keeping.{kept, keep}
 use Rattle.cdx_schema.specs.JsonReading.{Object}
 use Rattle.cdx_schema.specs.JsonSpelling.{jspell}
 use Rattle.cdx_json.specs.ByRows.{rows_made, own_made, by_rows, as_record}
 use Rattle.cdx_json.specs.KeptRows.{rows_held, rows_put}
+use Rattle.cdx_json.specs.Spellings.{spelling_data, spelling_members}
+use Rattle.cdx_json.specs.declared.spelling.Spelling.{Object as object_of}
 use Rattle.cdx_json.proofs.ByRowsLaws.{rows_split, rows_then, then_same}
 use Rattle.cdx_json.proofs.KeptRowsLaws.{record_held}
+use Rattle.cdx_json.proofs.Setting.{Entry}
 use Rattle.cdx_service.specs.declared.service.Service.{Service}
 use Rattle.cdx_service.specs.declared.service.Service.TheOpen.{Service-F}
 use Rattle.cdx_service.specs.declared.service.Service.TheViews.{out-Service}
@@ -58,9 +58,9 @@ service_kept w l t c a b d is p q r =
     is ∙ ap (fields service) (three_equal a b d _ _ _ p q r ∙ sym (held_three w l service (service_naming x) (service_access x) (service_contents services_tree x) (group 0 service) (group 1 service) (group 2 service) service_rows (service_naming_counts x) (service_access_counts x)))
     ∙ record_held w l service (fields service (service_fields services_tree x)) refl ∙ ap (λ u. kept w l u (a_record service)) (sym (service_tree-out c))
 
-pub service_spelled : (m : BTreeMap (String Global) Value) (c : Service) (w : SpecVersion)
-    → members_view m.entries ≡ rows_put (service_contents services_tree (out-Service c)) w (group 2 service) (rows_put (service_access (out-Service c)) w (group 1 service) (rows_put (service_naming (out-Service c)) w (group 0 service) no_members))
-    → view (object_of m) ≡ jspell (keep w (service_tree c) (a_record service)) w (a_record service)
+pub service_spelled : (m : Vec Entry Global) (c : Service) (w : SpecVersion)
+    → spelling_members m.items ≡ rows_put (service_contents services_tree (out-Service c)) w (group 2 service) (rows_put (service_access (out-Service c)) w (group 1 service) (rows_put (service_naming (out-Service c)) w (group 0 service) no_members))
+    → spelling_data (object_of m) ≡ jspell (keep w (service_tree c) (a_record service)) w (a_record service)
 unfolding rows
 service_spelled m c w e =
     let x = out-Service c in

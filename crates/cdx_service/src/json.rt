@@ -7,7 +7,7 @@ mod reading;
 mod writing;
 
 use crate::service::{Service, Services};
-use cdx_json::{Context, FromJson, Keeping, Kept, ToJson};
+use cdx_json::{Context, FromJson, Keeping, Kept, Spelling, ToJson};
 use cdx_models::{JsonReadError, SpecVersion};
 use cdx_schema::Target;
 use keeping::{keep_service, keep_services};
@@ -31,7 +31,7 @@ impl Kept for Service {
 }
 
 impl ToJson for Service {
-    fn to_value(&self, alloc: Global, version: SpecVersion) -> Result<Value, AllocError> {
+    fn spelling(&self, alloc: Global, version: SpecVersion) -> Result<Spelling<'_>, AllocError> {
         write_service(self, Target { alloc, version })
     }
 }
@@ -51,7 +51,7 @@ impl Kept for Services {
 }
 
 impl ToJson for Services {
-    fn to_value(&self, alloc: Global, version: SpecVersion) -> Result<Value, AllocError> {
+    fn spelling(&self, alloc: Global, version: SpecVersion) -> Result<Spelling<'_>, AllocError> {
         write_services(self, Target { alloc, version })
     }
 }

@@ -270,12 +270,10 @@ dropped_spelled w x e = by w (keep w (service_classification x) (a_record classi
     by w (items ts) = refl
     by w (fields n ts) = refl
 
-pub early_spelled : (b : Bool) (w : SpecVersion) (cs : List DataClassification) (xs : List ServiceData) → b ≡ knows V1_5 w → b ≡ false → list_tree classification_tree cs ≡ list_tree service_classification xs
-    → jspell (keep w (list_tree classification_tree cs) (a_list classifications)) w (a_list classifications) ≡ jspell (keep w (list_tree service_entry xs) a_data) w a_data
+pub early_spelled : (b : Bool) (w : SpecVersion) (xs : List ServiceData) → b ≡ knows V1_5 w → b ≡ false
+    → jspell (keep w (list_tree service_classification xs) (a_list classifications)) w (a_list classifications) ≡ jspell (keep w (list_tree service_entry xs) a_data) w a_data
 unfolding kept jspell list
-early_spelled b w cs xs is f e =
-    ap (λ t. jspell (keep w t (a_list classifications)) w (a_list classifications)) e
-    ∙ ap json.array (spelled_alike service_classification service_entry (a_record classification) an_entry w xs (λ x. dropped_spelled w x (sym is ∙ f)))
+early_spelled b w xs is f = ap json.array (spelled_alike service_classification service_entry (a_record classification) an_entry w xs (λ x. dropped_spelled w x (sym is ∙ f)))
 
 -- ---- the classifications of several, at the end of a loop over them
 

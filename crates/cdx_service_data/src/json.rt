@@ -1,17 +1,24 @@
 //! The data of services in JSON.
 
-ghost use Rattle.cdx_schema.specs.Kinds.{an_entry};
+ghost use Rattle.std.specs.Prelude.{◌≡◌, IfOk};
+ghost use Rattle.cdx_models.specs.Trees.{list_tree};
+ghost use Rattle.cdx_schema.specs.Kinds.{an_entry, a_list, classifications};
+ghost use Rattle.cdx_schema.specs.Keeping.{keep};
+ghost use Rattle.cdx_schema.specs.JsonSpelling.{jspell};
+ghost use Rattle.cdx_json.specs.Spellings.{spelling_data};
 ghost use Rattle.serde_json.specs.View.{items_view};
 ghost use Rattle.cdx_json.specs.ByRows.{list_read};
 ghost use Rattle.cdx_schema.specs.Depths.{depth_of};
 ghost use Rattle.cdx_json.specs.Gives.{Gives};
-ghost use Rattle.cdx_service_data.specs.Records.{data_tree};
+ghost use Rattle.cdx_service_data.specs.Records.{data_tree, service_classification};
 ghost use Rattle.cdx_service_data.specs.Stays.{data_stays};
 
 use crate::service::{Data, DataClassification, ServiceData, classifications};
+use cdx_events::List;
 use cdx_json::{
-    Context, FromJson, JsonRecord, Keeping, Kept, Members, ToJson, here, keep_list, keep_row,
-    list_from_items, list_to_value, optional_row, put_required, put_row, required_row,
+    Context, FromJson, JsonRecord, Keeping, Kept, Members, SeenMembers, Spelling, ToJson, here,
+    keep_list, keep_row, list_from_items, list_spelling, optional_row, put_required, put_row,
+    required_row,
 };
 use cdx_models::{JsonKind, JsonReadError, SpecVersion};
 use cdx_schema::Target;
@@ -20,7 +27,10 @@ use std::alloc::{AllocError, Global};
 
 #[tactic(auto, unfolding(cdx_json::proofs::OnRows::on_rows))]
 impl JsonRecord for DataClassification {
-    fn from_members(map: &Members, context: Context) -> Result<DataClassification, JsonReadError> {
+    fn from_members(
+        map: &SeenMembers<'_>,
+        context: Context,
+    ) -> Result<DataClassification, JsonReadError> {
         let flow = required_row(map, "flow", context)?;
         let classification = required_row(map, "classification", context)?;
         Ok(DataClassification {
@@ -36,7 +46,7 @@ impl JsonRecord for DataClassification {
         })
     }
 
-    fn put_members(&self, map: &mut Members, target: Target) -> Result<(), AllocError> {
+    fn put_members<'b>(&'b self, map: &mut Members<'b>, target: Target) -> Result<(), AllocError> {
         put_required(map, "flow", &self.flow, target)?;
         put_required(map, "classification", &self.classification, target)
     }
@@ -44,7 +54,7 @@ impl JsonRecord for DataClassification {
 
 #[tactic(auto, unfolding(cdx_json::proofs::OnRows::on_rows))]
 impl JsonRecord for ServiceData {
-    fn from_members(map: &Members, context: Context) -> Result<ServiceData, JsonReadError> {
+    fn from_members(map: &SeenMembers<'_>, context: Context) -> Result<ServiceData, JsonReadError> {
         let name = optional_row(map, "name", context)?;
         let description = optional_row(map, "description", context)?;
         let classification = DataClassification::from_members(map, context)?;
@@ -63,7 +73,7 @@ impl JsonRecord for ServiceData {
         })
     }
 
-    fn put_members(&self, map: &mut Members, target: Target) -> Result<(), AllocError> {
+    fn put_members<'b>(&'b self, map: &mut Members<'b>, target: Target) -> Result<(), AllocError> {
         put_row(map, "name", &self.name, target)?;
         put_row(map, "description", &self.description, target)?;
         self.classification.put_members(map, target)
@@ -110,17 +120,33 @@ impl Kept for Data {
 }
 
 impl ToJson for Data {
-    fn to_value(&self, alloc: Global, version: SpecVersion) -> Result<Value, AllocError> {
+    fn spelling(&self, alloc: Global, version: SpecVersion) -> Result<Spelling<'_>, AllocError> {
         match self {
-            Data::Classification(held) => list_to_value(alloc, held, version),
+            Data::Classification(held) => list_spelling(alloc, held, version),
             Data::ServiceData(held) => {
                 if SpecVersion::V1_5.is_known_to(version) {
-                    list_to_value(alloc, held, version)
+                    list_spelling(alloc, held, version)
                 } else {
-                    let held = classifications(alloc, held)?;
-                    list_to_value(alloc, &held, version)
+                    early_spelling(alloc, held, version)
                 }
             }
         }
     }
+}
+
+// Before 1.5 each flow is written as its classification.
+fn early_spelling<'b>(
+    alloc: Global,
+    held: &'b List<ServiceData>,
+    version: SpecVersion,
+) -> Result<Spelling<'b>, AllocError>
+    ensures { IfOk result (λ s. spelling_data s ≡ jspell
+        (keep version (list_tree service_classification held.now) (a_list classifications)) version
+        (a_list classifications)) }
+{
+    let mut values = Vec::with_capacity(alloc, held.len())?;
+    for item in held.as_slice() {
+        values.push(item.classification.spelling(alloc, version)?)?;
+    }
+    Ok(Spelling::Array(values))
 }

@@ -5,7 +5,8 @@ ghost use Rattle.cdx_schema.specs.Kinds.{signer_list, a_list, a_text};
 ghost use Rattle.cdx_json.specs.Stays.{text_stays};
 ghost use Rattle.cdx_signature.specs.Stays.{signature_stays};
 ghost use Rattle.serde_json.specs.Find.{as_str};
-ghost use Rattle.serde_json.specs.View.{view, members_view};
+ghost use Rattle.serde_json.specs.View.{view};
+ghost use Rattle.cdx_json.specs.Spellings.{spelling_data};
 ghost use Rattle.cdx_signature.specs.Records.{algorithm_tree, signer_tree, signature_tree};
 ghost use Rattle.cdx_signature.specs.Signatures.{algorithm_of};
 ghost use Rattle.cdx_schema.specs.Keeping.{kept};
@@ -16,16 +17,18 @@ ghost use Rattle.serde_json.specs.Data.{no_members, object};
 ghost use Rattle.cdx_models.specs.Trees.{signer, list_tree};
 ghost use Rattle.cdx_json.specs.ByRows.{signature_in};
 ghost use Rattle.cdx_json.specs.KeptRows.{put_kept};
+ghost use Rattle.cdx_json.specs.SeenOf.{seen_of};
 
 use crate::signature::{Algorithm, Signature, Signer};
 use cdx_events::List;
 use cdx_json::{
-    Context, FromJson, JsonRecord, Keeping, Kept, Members, ToJson, has_value, here, keep_list,
-    list_from_items, list_row, put_required, put_required_list, required_row,
+    Context, FromJson, JsonRecord, Keeping, Kept, Members, SeenMembers, Spelling, ToJson,
+    has_value, here, keep_list, list_from_items, list_row, put_required, put_required_list,
+    required_row,
 };
 use cdx_models::{HasTree, JsonKind, JsonReadError, SpecVersion};
 use cdx_schema::Target;
-use serde_json::{Map, Value};
+use serde_json::Value;
 use std::alloc::{AllocError, Global};
 
 impl FromJson for Algorithm {
@@ -59,14 +62,14 @@ impl Kept for Algorithm {
 
 impl ToJson for Algorithm {
     #[tactic(auto, unfolding(cdx_json::proofs::OnRows::on_spelled))]
-    fn to_value(&self, alloc: Global, version: SpecVersion) -> Result<Value, AllocError> {
-        Value::try_from_str(alloc, self.as_str())
+    fn spelling(&self, alloc: Global, version: SpecVersion) -> Result<Spelling<'_>, AllocError> {
+        Ok(Spelling::Text(self.as_str()))
     }
 }
 
 #[tactic(auto, unfolding(cdx_json::proofs::OnRows::on_rows))]
 impl JsonRecord for Signer {
-    fn from_members(map: &Members, context: Context) -> Result<Signer, JsonReadError> {
+    fn from_members(map: &SeenMembers<'_>, context: Context) -> Result<Signer, JsonReadError> {
         let algorithm = required_row(map, "algorithm", context)?;
         let value = required_row(map, "value", context)?;
         Ok(Signer { algorithm, value })
@@ -79,7 +82,7 @@ impl JsonRecord for Signer {
         })
     }
 
-    fn put_members(&self, map: &mut Members, target: Target) -> Result<(), AllocError> {
+    fn put_members<'b>(&'b self, map: &mut Members<'b>, target: Target) -> Result<(), AllocError> {
         put_required(map, "algorithm", &self.algorithm, target)?;
         put_required(map, "value", &self.value, target)
     }
@@ -92,15 +95,21 @@ impl FromJson for Signature {
             Some(items) => Ok(Signature::Signers(list_from_items(items, context)?)),
             None => match value.as_object() {
                 None => Err(here(context.alloc, JsonKind::WrongKind)),
-                Some(map) => signature_from_members(map, context),
+                Some(map) => {
+                    let members = SeenMembers::of(context.alloc, map)?;
+                    signature_from_members(&members, context)
+                }
             },
         }
     }
 }
 
-fn signature_from_members(map: &Members, context: Context) -> Result<Signature, JsonReadError>
+fn signature_from_members(
+    map: &SeenMembers<'_>,
+    context: Context,
+) -> Result<Signature, JsonReadError>
     ensures { Gives signature_tree result
-        (signature_in (seen (members_view map.now.entries)) context.version
+        (signature_in (seen (seen_of map.now.members.items)) context.version
         (depth_of context.depth)) }
 {
     if has_value(map, "signers") {
@@ -125,26 +134,26 @@ impl Kept for Signature {
 }
 
 impl ToJson for Signature {
-    fn to_value(&self, alloc: Global, version: SpecVersion) -> Result<Value, AllocError> {
+    fn spelling(&self, alloc: Global, version: SpecVersion) -> Result<Spelling<'_>, AllocError> {
         match self {
-            Signature::Signers(signers) => signers_to_value(alloc, "signers", signers, version),
-            Signature::Chain(chain) => signers_to_value(alloc, "chain", chain, version),
-            Signature::Single(signer) => signer.to_value(alloc, version),
+            Signature::Signers(signers) => signers_spelling(alloc, "signers", signers, version),
+            Signature::Chain(chain) => signers_spelling(alloc, "chain", chain, version),
+            Signature::Single(signer) => signer.spelling(alloc, version),
         }
     }
 }
 
 /// Signers as the one member of an object.
-fn signers_to_value(
+fn signers_spelling<'b>(
     alloc: Global,
-    name: &str,
-    held: &List<Signer>,
+    name: &'b str,
+    held: &'b List<Signer>,
     version: SpecVersion,
-) -> Result<Value, AllocError>
-    ensures { IfOk result (λ v. view v ≡ object (put_kept name.now (a_list signer_list)
+) -> Result<Spelling<'b>, AllocError>
+    ensures { IfOk result (λ v. spelling_data v ≡ object (put_kept name.now (a_list signer_list)
         (list_tree signer_tree held.now) version no_members)) }
 {
-    let mut map = Map::new(alloc);
+    let mut map = Vec::new(alloc);
     put_required_list(&mut map, name, held, Target { alloc, version })?;
-    Ok(Value::Object(map))
+    Ok(Spelling::Object(map))
 }

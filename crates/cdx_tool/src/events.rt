@@ -1,8 +1,6 @@
 //! Events as JSON values.
 
-mod known;
 mod print;
-mod printer;
 mod read;
 mod write;
 

@@ -7,7 +7,7 @@ ghost use Rattle.cdx_bom.specs.Labels.{named_tree};
 ghost use Rattle.cdx_bom.specs.Stays.{label_stays};
 
 use crate::bom::compared::equal_label;
-use cdx_json::{Context, FromJson, Keeping, Kept, ToJson, here};
+use cdx_json::{Context, FromJson, Keeping, Kept, here};
 use cdx_models::{HasTree, JsonKind, JsonReadError, SpecVersion};
 use cdx_schema::Kinded;
 use serde_json::Value;
@@ -59,12 +59,5 @@ impl Kept for Label {
         Ok(Label {
             version: keeping.label,
         })
-    }
-}
-
-impl ToJson for Label {
-    #[tactic(auto, unfolding(cdx_json::proofs::OnRows::on_spelled))]
-    fn to_value(&self, alloc: Global, version: SpecVersion) -> Result<Value, AllocError> {
-        Value::try_from_str(alloc, version.as_str())
     }
 }

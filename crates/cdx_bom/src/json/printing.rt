@@ -2,7 +2,7 @@
 
 ghost use Rattle.std.specs.Prelude.{◌≡◌, ◌++◌, OnOk, IfOk, string_bytes};
 ghost use Rattle.serde_json.specs.Data.{no_members};
-ghost use Rattle.serde_json.specs.View.{members_view};
+ghost use Rattle.cdx_json.specs.Spellings.{spelling_members};
 ghost use Rattle.cdx_models.specs.Trees.{bill, absent};
 ghost use Rattle.cdx_schema.specs.Groups.{group};
 ghost use Rattle.cdx_json.specs.KeptRows.{rows_put};
@@ -13,9 +13,8 @@ use crate::bom::Bom;
 use crate::json::writing::{put_inventory, put_relations};
 use cdx_json::{Members, ToJson};
 use cdx_models::SpecVersion;
-use cdx_print::{print_items, print_members, print_value};
+use cdx_print::{Printer, print_items, print_members, print_spelling};
 use cdx_schema::Target;
-use serde_json::Map;
 use std::alloc::{AllocError, Global};
 
 // What stands before a bill's components.
@@ -23,8 +22,8 @@ const BEGINNING: &str = "{\"bomFormat\":\"CycloneDX\",\"components\":";
 
 impl Bom {
     /// Prints what the version keeps of the bill after a text: the text that `serde_json` gives for the value of
-    /// `output_json`. Of a bill with components each one's value is freed before the next is made, so that no value of
-    /// the whole stands in memory. It doesn't ask whether the bill fits the version. Only want of memory refuses.
+    /// `output_json`. Of a bill with components each one's spelling is freed before the next is made. It doesn't ask
+    /// whether the bill fits the version. Only want of memory refuses.
     pub fn print_json(
         &self,
         alloc: Global,
@@ -36,27 +35,28 @@ impl Bom {
     {
         match &self.components {
             None => {
-                let value = self.to_value(alloc, version)?;
-                print_value(alloc, out, &value)
+                let spelling = self.spelling(alloc, version)?;
+                print_spelling(&mut Printer::new(alloc), out, &spelling)
             }
             Some(components) => {
                 out.push_str(BEGINNING)?;
-                print_items(alloc, out, components.as_slice(), version)?;
+                let mut printer = Printer::new(alloc);
+                print_items(&mut printer, out, components.as_slice(), version)?;
                 let others = other_rows(self, Target { alloc, version })?;
-                print_members(alloc, out, &others, true)
+                print_members(&mut printer, out, &others, true)
             }
         }
     }
 }
 
 // The members of the rows other than the components'.
-fn other_rows(held: &Bom, target: Target) -> Result<Members, AllocError>
-    ensures { IfOk result (λ m. members_view m.entries
+fn other_rows(held: &Bom, target: Target) -> Result<Members<'_>, AllocError>
+    ensures { IfOk result (λ m. spelling_members m.items
         ≡ rows_put (relations held.now) target.version (group 1 bill)
         (rows_put (inventory_beside absent held.now) target.version (group 0 bill) no_members)) }
 {
-    let mut map = Map::new(target.alloc);
-    put_inventory(held, &None, &mut map, target)?;
+    let mut map = Vec::new(target.alloc);
+    put_inventory(held, None, &mut map, target)?;
     put_relations(held, &mut map, target)?;
     Ok(map)
 }

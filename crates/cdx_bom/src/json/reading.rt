@@ -1,21 +1,24 @@
 //! Bills from JSON, group by group.
 
-ghost use Rattle.serde_json.specs.View.{members_view};
 ghost use Rattle.cdx_models.specs.Trees.{bill};
 ghost use Rattle.cdx_schema.specs.JsonReading.{seen};
 ghost use Rattle.cdx_schema.specs.Depths.{depth_of};
 ghost use Rattle.cdx_json.specs.Gives.{Gives};
 ghost use Rattle.cdx_json.specs.Groups.{group_read};
 ghost use Rattle.cdx_bom.specs.PartTrees.{inventory_trees, relations_trees};
+ghost use Rattle.cdx_json.specs.SeenOf.{seen_of};
 
 use crate::bom::parts::{Inventory, Relations};
 use crate::json::label::Label;
-use cdx_json::{Context, Members, optional_row, optional_row_since, required_row};
+use cdx_json::{Context, SeenMembers, optional_row, optional_row_since, required_row};
 use cdx_models::{JsonReadError, SpecVersion};
 
-pub(crate) fn read_inventory(map: &Members, context: Context) -> Result<Inventory, JsonReadError>
+pub(crate) fn read_inventory(
+    map: &SeenMembers<'_>,
+    context: Context,
+) -> Result<Inventory, JsonReadError>
     ensures { Gives inventory_trees result
-        (group_read 0 bill (seen (members_view map.now.entries)) context.version
+        (group_read 0 bill (seen (seen_of map.now.members.items)) context.version
         (depth_of context.depth)) }
 {
     let label: Label = required_row(map, "specVersion", context)?;
@@ -46,9 +49,12 @@ pub(crate) fn read_inventory(map: &Members, context: Context) -> Result<Inventor
     })
 }
 
-pub(crate) fn read_relations(map: &Members, context: Context) -> Result<Relations, JsonReadError>
+pub(crate) fn read_relations(
+    map: &SeenMembers<'_>,
+    context: Context,
+) -> Result<Relations, JsonReadError>
     ensures { Gives relations_trees result
-        (group_read 1 bill (seen (members_view map.now.entries)) context.version
+        (group_read 1 bill (seen (seen_of map.now.members.items)) context.version
         (depth_of context.depth)) }
 {
     let external_references = optional_row(map, "externalReferences", context)?;

@@ -1,6 +1,6 @@
 //! Components, pedigrees and lists of components from JSON.
 
-ghost use Rattle.serde_json.specs.View.{view, items_view, members_view};
+ghost use Rattle.serde_json.specs.View.{view, items_view};
 ghost use Rattle.cdx_models.specs.Trees.{component, pedigree, present};
 ghost use Rattle.cdx_schema.specs.Kinds.{components, a_list, a_record, optional};
 ghost use Rattle.cdx_schema.specs.JsonReading.{jread, seen};
@@ -11,11 +11,12 @@ ghost use Rattle.cdx_component.specs.Trees.{component_tree, components_tree, ped
 ghost use Rattle.cdx_component.specs.PartTrees.{origin_trees, naming_trees, marks_trees, contents_trees};
 ghost use Rattle.cdx_json.specs.Groups.{group_read};
 ghost use Rattle.cdx_component.specs.Groups.{component_by_groups};
+ghost use Rattle.cdx_json.specs.SeenOf.{seen_of};
 
 use crate::component::parts::{Contents, Marks, Naming, Origin, assemble};
 use crate::component::{Component, Components, Pedigree};
 use cdx_json::{
-    Context, Members, at_item, at_member, first_row, here, member_not_null, optional_row,
+    Context, SeenMembers, at_item, at_member, first_row, here, member_not_null, optional_row,
     optional_row_since, required_row,
 };
 use cdx_models::{JsonKind, JsonReadError, SpecVersion};
@@ -41,15 +42,19 @@ pub(crate) fn read_component(value: &Value, context: Context) -> Result<Componen
                 },
                 ..context
             };
-            component_from_members(map, inner)
+            let members = SeenMembers::of(context.alloc, map)?;
+            component_from_members(&members, inner)
         }
     }
 }
 
 #[cycle(component_read)]
-fn component_from_members(map: &Members, context: Context) -> Result<Component, JsonReadError>
+fn component_from_members(
+    map: &SeenMembers<'_>,
+    context: Context,
+) -> Result<Component, JsonReadError>
     ensures { Gives component_tree result
-        (component_by_groups (seen (members_view map.now.entries)) context.version
+        (component_by_groups (seen (seen_of map.now.members.items)) context.version
         (depth_of context.depth)) }
 {
     let origin = read_origin(map, context)?;
@@ -116,14 +121,17 @@ pub(crate) fn read_pedigree(value: &Value, context: Context) -> Result<Pedigree,
 {
     match value.as_object() {
         None => Err(here(context.alloc, JsonKind::WrongKind)),
-        Some(map) => pedigree_from_members(map, context),
+        Some(map) => {
+            let members = SeenMembers::of(context.alloc, map)?;
+            pedigree_from_members(&members, context)
+        }
     }
 }
 
 #[cycle(component_read)]
-fn pedigree_from_members(map: &Members, context: Context) -> Result<Pedigree, JsonReadError>
+fn pedigree_from_members(map: &SeenMembers<'_>, context: Context) -> Result<Pedigree, JsonReadError>
     ensures { Gives pedigree_tree result
-        (by_rows pedigree (seen (members_view map.now.entries)) context.version
+        (by_rows pedigree (seen (seen_of map.now.members.items)) context.version
         (depth_of context.depth)) }
 {
     let ancestors = read_components_row(map, "ancestors", context)?;
@@ -142,9 +150,9 @@ fn pedigree_from_members(map: &Members, context: Context) -> Result<Pedigree, Js
     })
 }
 
-fn read_origin(map: &Members, context: Context) -> Result<Origin, JsonReadError>
+fn read_origin(map: &SeenMembers<'_>, context: Context) -> Result<Origin, JsonReadError>
     ensures { Gives origin_trees result
-        (group_read 0 component (seen (members_view map.now.entries)) context.version
+        (group_read 0 component (seen (seen_of map.now.members.items)) context.version
         (depth_of context.depth)) }
 {
     let component_type = required_row(map, "type", context)?;
@@ -163,9 +171,9 @@ fn read_origin(map: &Members, context: Context) -> Result<Origin, JsonReadError>
     })
 }
 
-fn read_naming(map: &Members, context: Context) -> Result<Naming, JsonReadError>
+fn read_naming(map: &SeenMembers<'_>, context: Context) -> Result<Naming, JsonReadError>
     ensures { Gives naming_trees result
-        (group_read 1 component (seen (members_view map.now.entries)) context.version
+        (group_read 1 component (seen (seen_of map.now.members.items)) context.version
         (depth_of context.depth)) }
 {
     let group = optional_row(map, "group", context)?;
@@ -184,9 +192,9 @@ fn read_naming(map: &Members, context: Context) -> Result<Naming, JsonReadError>
     })
 }
 
-fn read_marks(map: &Members, context: Context) -> Result<Marks, JsonReadError>
+fn read_marks(map: &SeenMembers<'_>, context: Context) -> Result<Marks, JsonReadError>
     ensures { Gives marks_trees result
-        (group_read 2 component (seen (members_view map.now.entries)) context.version
+        (group_read 2 component (seen (seen_of map.now.members.items)) context.version
         (depth_of context.depth)) }
 {
     let licenses = optional_row(map, "licenses", context)?;
@@ -206,9 +214,9 @@ fn read_marks(map: &Members, context: Context) -> Result<Marks, JsonReadError>
 }
 
 #[cycle(component_read)]
-fn read_contents(map: &Members, context: Context) -> Result<Contents, JsonReadError>
+fn read_contents(map: &SeenMembers<'_>, context: Context) -> Result<Contents, JsonReadError>
     ensures { Gives contents_trees result
-        (group_read 3 component (seen (members_view map.now.entries)) context.version
+        (group_read 3 component (seen (seen_of map.now.members.items)) context.version
         (depth_of context.depth)) }
 {
     let pedigree = read_pedigree_row(map, "pedigree", context)?;
@@ -229,11 +237,11 @@ fn read_contents(map: &Members, context: Context) -> Result<Contents, JsonReadEr
 
 #[cycle(component_read)]
 fn read_pedigree_row(
-    map: &Members,
+    map: &SeenMembers<'_>,
     name: &str,
     context: Context,
 ) -> Result<Option<Pedigree>, JsonReadError>
-    ensures { Gives (present pedigree_tree) result (member_of (seen (members_view map.now.entries))
+    ensures { Gives (present pedigree_tree) result (member_of (seen (seen_of map.now.members.items))
         name.now optional (a_record pedigree) context.version (depth_of context.depth)) }
 {
     match member_not_null(map, name) {
@@ -247,12 +255,12 @@ fn read_pedigree_row(
 
 #[cycle(component_read)]
 fn read_components_row(
-    map: &Members,
+    map: &SeenMembers<'_>,
     name: &str,
     context: Context,
 ) -> Result<Option<Components>, JsonReadError>
     ensures { Gives (present components_tree) result (member_of
-        (seen (members_view map.now.entries)) name.now optional (a_list components) context.version
+        (seen (seen_of map.now.members.items)) name.now optional (a_list components) context.version
         (depth_of context.depth)) }
 {
     match member_not_null(map, name) {

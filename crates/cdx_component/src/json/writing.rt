@@ -1,44 +1,46 @@
 //! Components, pedigrees and lists of components as JSON.
 
 ghost use Rattle.std.specs.Prelude.{◌≡◌, IfOk, OnOk};
-ghost use Rattle.serde_json.specs.View.{view, members_view};
 ghost use Rattle.cdx_models.specs.Trees.{component, pedigree, present};
 ghost use Rattle.cdx_schema.specs.Kinds.{components, a_list, a_record};
 ghost use Rattle.cdx_schema.specs.Keeping.{keep};
 ghost use Rattle.cdx_schema.specs.JsonSpelling.{jspell};
 ghost use Rattle.cdx_schema.specs.Table.{rows};
 ghost use Rattle.cdx_json.specs.KeptRows.{put_kept, rows_put};
+ghost use Rattle.cdx_json.specs.Spellings.{spelling_data, spelling_members};
 ghost use Rattle.cdx_component.specs.declared.component.Component.{out-Component};
 ghost use Rattle.cdx_component.specs.declared.component.Pedigree.{out-Pedigree};
 ghost use Rattle.cdx_component.specs.Trees.{component_tree, components_tree, pedigree_tree, origin, naming, marks, component_contents, pedigree_fields};
 ghost use Rattle.cdx_schema.specs.Groups.{group};
 
 use crate::component::{Component, Components, Pedigree};
-use cdx_json::{Members, put_required, put_row, put_row_since};
+use cdx_json::{Members, Spelling, put, put_required, put_row, put_row_since};
 use cdx_models::SpecVersion;
 use cdx_schema::Target;
-use serde_json::{Map, Value};
 use std::alloc::AllocError;
 
 /// The spelling of what the version keeps of a component.
 #[cycle(component_write)]
-pub(crate) fn write_component(held: &Component, target: Target) -> Result<Value, AllocError>
-    ensures { IfOk result (λ v. view v ≡ jspell
+pub(crate) fn write_component(held: &Component, target: Target) -> Result<Spelling<'_>, AllocError>
+    ensures { IfOk result (λ v. spelling_data v ≡ jspell
         (keep target.version (component_tree held.now) (a_record component)) target.version
         (a_record component)) }
 {
-    let mut map = Map::new(target.alloc);
+    let mut map = Vec::new(target.alloc);
     put_origin(held, &mut map, target)?;
     put_naming(held, &mut map, target)?;
     put_marks(held, &mut map, target)?;
     put_contents(held, &mut map, target)?;
-    Ok(Value::Object(map))
+    Ok(Spelling::Object(map))
 }
 
 /// The spelling of what the version keeps of a list of components.
 #[cycle(component_write)]
-pub(crate) fn write_components(held: &Components, target: Target) -> Result<Value, AllocError>
-    ensures { IfOk result (λ v. view v ≡ jspell
+pub(crate) fn write_components(
+    held: &Components,
+    target: Target,
+) -> Result<Spelling<'_>, AllocError>
+    ensures { IfOk result (λ v. spelling_data v ≡ jspell
         (keep target.version (components_tree held.now) (a_list components)) target.version
         (a_list components)) }
 {
@@ -46,30 +48,30 @@ pub(crate) fn write_components(held: &Components, target: Target) -> Result<Valu
     for item in &held.items {
         values.push(write_component(item, target)?)?;
     }
-    Ok(Value::Array(values))
+    Ok(Spelling::Array(values))
 }
 
 /// The spelling of what the version keeps of a pedigree.
 #[cycle(component_write)]
-pub(crate) fn write_pedigree(held: &Pedigree, target: Target) -> Result<Value, AllocError>
-    ensures { IfOk result (λ v. view v ≡ jspell
+pub(crate) fn write_pedigree(held: &Pedigree, target: Target) -> Result<Spelling<'_>, AllocError>
+    ensures { IfOk result (λ v. spelling_data v ≡ jspell
         (keep target.version (pedigree_tree held.now) (a_record pedigree)) target.version
         (a_record pedigree)) }
 {
-    let mut map = Map::new(target.alloc);
+    let mut map = Vec::new(target.alloc);
     put_pedigree_members(held, &mut map, target)?;
-    Ok(Value::Object(map))
+    Ok(Spelling::Object(map))
 }
 
 #[cycle(component_write)]
-fn put_pedigree_members(
-    held: &Pedigree,
-    map: &mut Members,
+fn put_pedigree_members<'b>(
+    held: &'b Pedigree,
+    map: &mut Members<'b>,
     target: Target,
 ) -> Result<(), AllocError>
-    ensures { OnOk result (members_view map.new.entries ≡ rows_put
+    ensures { OnOk result (spelling_members map.new.items ≡ rows_put
         (pedigree_fields components_tree (out-Pedigree held.now)) target.version (rows pedigree)
-        (members_view map.old.entries)) }
+        (spelling_members map.old.items)) }
 {
     put_components_row(&held.ancestors, map, "ancestors", target)?;
     put_components_row(&held.descendants, map, "descendants", target)?;
@@ -80,9 +82,14 @@ fn put_pedigree_members(
     Ok(())
 }
 
-fn put_origin(held: &Component, map: &mut Members, target: Target) -> Result<(), AllocError>
-    ensures { OnOk result (members_view map.new.entries ≡ rows_put (origin (out-Component held.now))
-        target.version (group 0 component) (members_view map.old.entries)) }
+fn put_origin<'b>(
+    held: &'b Component,
+    map: &mut Members<'b>,
+    target: Target,
+) -> Result<(), AllocError>
+    ensures { OnOk result (spelling_members map.new.items ≡ rows_put
+        (origin (out-Component held.now)) target.version (group 0 component)
+        (spelling_members map.old.items)) }
 {
     put_required(map, "type", &held.component_type, target)?;
     put_row(map, "mime-type", &held.mime_type, target)?;
@@ -93,9 +100,14 @@ fn put_origin(held: &Component, map: &mut Members, target: Target) -> Result<(),
     Ok(())
 }
 
-fn put_naming(held: &Component, map: &mut Members, target: Target) -> Result<(), AllocError>
-    ensures { OnOk result (members_view map.new.entries ≡ rows_put (naming (out-Component held.now))
-        target.version (group 1 component) (members_view map.old.entries)) }
+fn put_naming<'b>(
+    held: &'b Component,
+    map: &mut Members<'b>,
+    target: Target,
+) -> Result<(), AllocError>
+    ensures { OnOk result (spelling_members map.new.items ≡ rows_put
+        (naming (out-Component held.now)) target.version (group 1 component)
+        (spelling_members map.old.items)) }
 {
     put_row(map, "group", &held.group, target)?;
     put_required(map, "name", &held.name, target)?;
@@ -106,9 +118,14 @@ fn put_naming(held: &Component, map: &mut Members, target: Target) -> Result<(),
     Ok(())
 }
 
-fn put_marks(held: &Component, map: &mut Members, target: Target) -> Result<(), AllocError>
-    ensures { OnOk result (members_view map.new.entries ≡ rows_put (marks (out-Component held.now))
-        target.version (group 2 component) (members_view map.old.entries)) }
+fn put_marks<'b>(
+    held: &'b Component,
+    map: &mut Members<'b>,
+    target: Target,
+) -> Result<(), AllocError>
+    ensures { OnOk result (spelling_members map.new.items ≡ rows_put
+        (marks (out-Component held.now)) target.version (group 2 component)
+        (spelling_members map.old.items)) }
 {
     put_row(map, "licenses", &held.licenses, target)?;
     put_row(map, "copyright", &held.copyright, target)?;
@@ -120,10 +137,14 @@ fn put_marks(held: &Component, map: &mut Members, target: Target) -> Result<(), 
 }
 
 #[cycle(component_write)]
-fn put_contents(held: &Component, map: &mut Members, target: Target) -> Result<(), AllocError>
-    ensures { OnOk result (members_view map.new.entries ≡ rows_put
+fn put_contents<'b>(
+    held: &'b Component,
+    map: &mut Members<'b>,
+    target: Target,
+) -> Result<(), AllocError>
+    ensures { OnOk result (spelling_members map.new.items ≡ rows_put
         (component_contents components_tree pedigree_tree (out-Component held.now)) target.version
-        (group 3 component) (members_view map.old.entries)) }
+        (group 3 component) (spelling_members map.old.items)) }
 {
     put_pedigree_row(&held.pedigree, map, "pedigree", target)?;
     put_row(map, "externalReferences", &held.external_references, target)?;
@@ -135,39 +156,39 @@ fn put_contents(held: &Component, map: &mut Members, target: Target) -> Result<(
 }
 
 #[cycle(component_write)]
-fn put_pedigree_row(
-    held: &Option<Pedigree>,
-    map: &mut Members,
-    name: &str,
+fn put_pedigree_row<'b>(
+    held: &'b Option<Pedigree>,
+    map: &mut Members<'b>,
+    name: &'b str,
     target: Target,
 ) -> Result<(), AllocError>
-    ensures { OnOk result (members_view map.new.entries ≡ put_kept name.now (a_record pedigree)
-        (present pedigree_tree held.now) target.version (members_view map.old.entries)) }
+    ensures { OnOk result (spelling_members map.new.items ≡ put_kept name.now (a_record pedigree)
+        (present pedigree_tree held.now) target.version (spelling_members map.old.items)) }
 {
     match held {
         None => Ok(()),
         Some(held) => {
             let value = write_pedigree(held, target)?;
-            serde_json::put(map, target.alloc, name, value)
+            put(map, name, value)
         }
     }
 }
 
 #[cycle(component_write)]
-fn put_components_row(
-    held: &Option<Components>,
-    map: &mut Members,
-    name: &str,
+fn put_components_row<'b>(
+    held: &'b Option<Components>,
+    map: &mut Members<'b>,
+    name: &'b str,
     target: Target,
 ) -> Result<(), AllocError>
-    ensures { OnOk result (members_view map.new.entries ≡ put_kept name.now (a_list components)
-        (present components_tree held.now) target.version (members_view map.old.entries)) }
+    ensures { OnOk result (spelling_members map.new.items ≡ put_kept name.now (a_list components)
+        (present components_tree held.now) target.version (spelling_members map.old.items)) }
 {
     match held {
         None => Ok(()),
         Some(held) => {
             let value = write_components(held, target)?;
-            serde_json::put(map, target.alloc, name, value)
+            put(map, name, value)
         }
     }
 }

@@ -1,7 +1,7 @@
 //! Metadata in JSON.
 
 ghost use Rattle.std.specs.Prelude.{◌≡◌, IfOk, OnOk};
-ghost use Rattle.serde_json.specs.View.{members_view};
+ghost use Rattle.cdx_json.specs.Spellings.{spelling_members};
 ghost use Rattle.cdx_models.specs.Trees.{metadata};
 ghost use Rattle.cdx_schema.specs.JsonReading.{seen};
 ghost use Rattle.cdx_schema.specs.Depths.{depth_of};
@@ -12,19 +12,20 @@ ghost use Rattle.cdx_nest.specs.PartTrees.{makers_trees, terms_trees};
 ghost use Rattle.cdx_schema.specs.Groups.{group};
 ghost use Rattle.cdx_json.specs.Groups.{group_read};
 ghost use Rattle.cdx_nest.specs.Groups.{metadata_by_groups};
+ghost use Rattle.cdx_json.specs.SeenOf.{seen_of};
 
 use crate::metadata::Metadata;
 use crate::metadata::parts::{Makers, Terms, assemble};
 use cdx_json::{
-    Context, JsonRecord, Keeping, Members, keep_optional_list, keep_row, optional_list_row,
-    optional_row, put_optional_list, put_row,
+    Context, JsonRecord, Keeping, Members, SeenMembers, keep_optional_list, keep_row,
+    optional_list_row, optional_row, put_optional_list, put_row,
 };
 use cdx_models::JsonReadError;
 use cdx_schema::Target;
 use std::alloc::AllocError;
 
 impl JsonRecord for Metadata {
-    fn from_members(map: &Members, context: Context) -> Result<Metadata, JsonReadError> {
+    fn from_members(map: &SeenMembers<'_>, context: Context) -> Result<Metadata, JsonReadError> {
         metadata_from_members(map, context)
     }
 
@@ -34,16 +35,16 @@ impl JsonRecord for Metadata {
         Ok(assemble(makers, terms))
     }
 
-    fn put_members(&self, map: &mut Members, target: Target) -> Result<(), AllocError> {
+    fn put_members<'b>(&'b self, map: &mut Members<'b>, target: Target) -> Result<(), AllocError> {
         put_makers(self, map, target)?;
         put_terms(self, map, target)?;
         Ok(())
     }
 }
 
-fn metadata_from_members(map: &Members, context: Context) -> Result<Metadata, JsonReadError>
+fn metadata_from_members(map: &SeenMembers<'_>, context: Context) -> Result<Metadata, JsonReadError>
     ensures { Gives metadata_tree result
-        (metadata_by_groups (seen (members_view map.now.entries)) context.version
+        (metadata_by_groups (seen (seen_of map.now.members.items)) context.version
         (depth_of context.depth)) }
 {
     let makers = read_makers(map, context)?;
@@ -56,9 +57,9 @@ fn metadata_from_members(map: &Members, context: Context) -> Result<Metadata, Js
     }
 }
 
-fn read_makers(map: &Members, context: Context) -> Result<Makers, JsonReadError>
+fn read_makers(map: &SeenMembers<'_>, context: Context) -> Result<Makers, JsonReadError>
     ensures { Gives makers_trees result
-        (group_read 0 metadata (seen (members_view map.now.entries)) context.version
+        (group_read 0 metadata (seen (seen_of map.now.members.items)) context.version
         (depth_of context.depth)) }
 {
     let timestamp = optional_row(map, "timestamp", context)?;
@@ -89,9 +90,9 @@ fn read_makers(map: &Members, context: Context) -> Result<Makers, JsonReadError>
     })
 }
 
-fn read_terms(map: &Members, context: Context) -> Result<Terms, JsonReadError>
+fn read_terms(map: &SeenMembers<'_>, context: Context) -> Result<Terms, JsonReadError>
     ensures { Gives terms_trees result
-        (group_read 1 metadata (seen (members_view map.now.entries)) context.version
+        (group_read 1 metadata (seen (seen_of map.now.members.items)) context.version
         (depth_of context.depth)) }
 {
     let licenses = optional_row(map, "licenses", context)?;
@@ -138,10 +139,14 @@ fn keep_terms(held: &Metadata, keeping: Keeping) -> Result<Terms, AllocError>
     })
 }
 
-fn put_makers(held: &Metadata, map: &mut Members, target: Target) -> Result<(), AllocError>
-    ensures { OnOk result (members_view map.new.entries
+fn put_makers<'b>(
+    held: &'b Metadata,
+    map: &mut Members<'b>,
+    target: Target,
+) -> Result<(), AllocError>
+    ensures { OnOk result (spelling_members map.new.items
         ≡ rows_put (makers held.now) target.version (group 0 metadata)
-        (members_view map.old.entries)) }
+        (spelling_members map.old.items)) }
 {
     put_row(map, "timestamp", &held.timestamp, target)?;
     put_row(map, "tools", &held.tools, target)?;
@@ -152,10 +157,14 @@ fn put_makers(held: &Metadata, map: &mut Members, target: Target) -> Result<(), 
     Ok(())
 }
 
-fn put_terms(held: &Metadata, map: &mut Members, target: Target) -> Result<(), AllocError>
-    ensures { OnOk result (members_view map.new.entries
+fn put_terms<'b>(
+    held: &'b Metadata,
+    map: &mut Members<'b>,
+    target: Target,
+) -> Result<(), AllocError>
+    ensures { OnOk result (spelling_members map.new.items
         ≡ rows_put (terms held.now) target.version (group 1 metadata)
-        (members_view map.old.entries)) }
+        (spelling_members map.old.items)) }
 {
     put_row(map, "licenses", &held.licenses, target)?;
     put_row(map, "properties", &held.properties, target)?;

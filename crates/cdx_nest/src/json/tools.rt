@@ -2,7 +2,7 @@
 
 ghost use Rattle.std.specs.Prelude.{◌≡◌, IfOk};
 ghost use Rattle.serde_json.specs.Data.{array, no_items, no_members, object};
-ghost use Rattle.serde_json.specs.View.{view, members_view};
+ghost use Rattle.cdx_json.specs.Spellings.{spelling_data};
 ghost use Rattle.cdx_models.specs.Trees.{tools_object};
 ghost use Rattle.cdx_schema.specs.Kinds.{a_tools};
 ghost use Rattle.cdx_schema.specs.Table.{rows};
@@ -16,18 +16,19 @@ ghost use Rattle.cdx_models.specs.Trees.{fields_of};
 ghost use Rattle.cdx_json.specs.KeptRows.{rows_put};
 ghost use Rattle.cdx_nest.specs.Trees.{tools_tree, object_tree};
 ghost use Rattle.cdx_nest.specs.Stays.{tools_stay};
+ghost use Rattle.cdx_json.specs.SeenOf.{seen_of};
 
 use crate::tools::Tools;
 use cdx_component::Components;
 use cdx_events::List;
 use cdx_json::{
-    Context, FromJson, Keeping, Kept, Members, ToJson, here, keep_list, keep_row, list_from_items,
-    list_to_value, optional_row, put_row,
+    Context, FromJson, Keeping, Kept, SeenMembers, Spelling, ToJson, here, keep_list, keep_row,
+    list_from_items, list_spelling, optional_row, put_row,
 };
 use cdx_models::{JsonKind, JsonReadError, SpecVersion};
 use cdx_schema::Target;
 use cdx_service::Services;
-use serde_json::{Map, Value};
+use serde_json::Value;
 use std::alloc::{AllocError, Global};
 
 impl FromJson for Tools {
@@ -37,15 +38,18 @@ impl FromJson for Tools {
             Some(items) => Ok(Tools::List(list_from_items(items, context)?)),
             None => match value.as_object() {
                 None => Err(here(context.alloc, JsonKind::WrongKind)),
-                Some(map) => tools_from_object(map, context),
+                Some(map) => {
+                    let members = SeenMembers::of(context.alloc, map)?;
+                    tools_from_object(&members, context)
+                }
             },
         }
     }
 }
 
-fn tools_from_object(map: &Members, context: Context) -> Result<Tools, JsonReadError>
+fn tools_from_object(map: &SeenMembers<'_>, context: Context) -> Result<Tools, JsonReadError>
     ensures { Gives tools_tree result
-        (tools_read context.version (seen (members_view map.now.entries))
+        (tools_read context.version (seen (seen_of map.now.members.items))
         (depth_of context.depth)) }
 {
     match context.version {
@@ -56,9 +60,9 @@ fn tools_from_object(map: &Members, context: Context) -> Result<Tools, JsonReadE
 }
 
 #[tactic(auto, unfolding(cdx_json::proofs::OnRows::on_rows))]
-fn tools_from_members(map: &Members, context: Context) -> Result<Tools, JsonReadError>
+fn tools_from_members(map: &SeenMembers<'_>, context: Context) -> Result<Tools, JsonReadError>
     ensures { Gives tools_tree result
-        (by_rows tools_object (seen (members_view map.now.entries)) context.version
+        (by_rows tools_object (seen (seen_of map.now.members.items)) context.version
         (depth_of context.depth)) }
 {
     let services = optional_row(map, "services", context)?;
@@ -109,55 +113,55 @@ fn keep_object(
 }
 
 impl ToJson for Tools {
-    fn to_value(&self, alloc: Global, version: SpecVersion) -> Result<Value, AllocError> {
+    fn spelling(&self, alloc: Global, version: SpecVersion) -> Result<Spelling<'_>, AllocError> {
         match self {
-            Tools::List(held) => list_to_value(alloc, held, version),
+            Tools::List(held) => list_spelling(alloc, held, version),
             Tools::Object {
                 services,
                 components,
-            } => object_to_value(alloc, services, components, version),
+            } => object_spelling(alloc, services, components, version),
         }
     }
 }
 
 /// Before 1.5 the services and components are written as the empty list.
 #[tactic(auto, unfolding(cdx_json::proofs::OnRows::on_spelled))]
-fn object_to_value(
+fn object_spelling<'b>(
     alloc: Global,
-    services: &Option<Services>,
-    components: &Option<Components>,
+    services: &'b Option<Services>,
+    components: &'b Option<Components>,
     version: SpecVersion,
-) -> Result<Value, AllocError>
-    ensures { IfOk result (λ v. view v
+) -> Result<Spelling<'b>, AllocError>
+    ensures { IfOk result (λ v. spelling_data v
         ≡ jspell (keep version (object_tree services.now components.now) a_tools) version a_tools) }
 {
     match version {
         SpecVersion::V1_3 => Ok(empty_array(alloc)),
         SpecVersion::V1_4 => Ok(empty_array(alloc)),
-        SpecVersion::V1_5 => members_to_value(alloc, services, components, version),
+        SpecVersion::V1_5 => members_spelling(alloc, services, components, version),
     }
 }
 
-fn empty_array(alloc: Global) -> Value
-    ensures { view result ≡ array no_items }
+fn empty_array<'b>(alloc: Global) -> Spelling<'b>
+    ensures { spelling_data result ≡ array no_items }
 {
-    Value::Array(Vec::new(alloc))
+    Spelling::Array(Vec::new(alloc))
 }
 
 #[tactic(auto, unfolding(cdx_json::proofs::OnRows::on_rows))]
-fn members_to_value(
+fn members_spelling<'b>(
     alloc: Global,
-    services: &Option<Services>,
-    components: &Option<Components>,
+    services: &'b Option<Services>,
+    components: &'b Option<Components>,
     version: SpecVersion,
-) -> Result<Value, AllocError>
-    ensures { IfOk result (λ v. view v ≡ object (rows_put
+) -> Result<Spelling<'b>, AllocError>
+    ensures { IfOk result (λ v. spelling_data v ≡ object (rows_put
         (fields_of (object_tree services.now components.now)) version
         (rows tools_object) no_members)) }
 {
-    let mut map = Map::new(alloc);
+    let mut map = Vec::new(alloc);
     let target = Target { alloc, version };
     put_row(&mut map, "services", services, target)?;
     put_row(&mut map, "components", components, target)?;
-    Ok(Value::Object(map))
+    Ok(Spelling::Object(map))
 }

@@ -2,8 +2,8 @@
 
 use crate::{Issue, Source};
 use cdx_json::{
-    Context, JsonRecord, Keeping, Kept, Members, keep_optional_list, keep_row, optional_list_row,
-    optional_row, put_optional_list, put_required, put_row, required_row,
+    Context, JsonRecord, Keeping, Kept, Members, SeenMembers, keep_optional_list, keep_row,
+    optional_list_row, optional_row, put_optional_list, put_required, put_row, required_row,
 };
 use cdx_models::JsonReadError;
 use cdx_schema::Target;
@@ -11,7 +11,7 @@ use std::alloc::AllocError;
 
 #[tactic(auto, unfolding(cdx_json::proofs::OnRows::on_rows))]
 impl JsonRecord for Source {
-    fn from_members(map: &Members, context: Context) -> Result<Source, JsonReadError> {
+    fn from_members(map: &SeenMembers<'_>, context: Context) -> Result<Source, JsonReadError> {
         let name = optional_row(map, "name", context)?;
         let url = optional_row(map, "url", context)?;
         Ok(Source { name, url })
@@ -24,7 +24,7 @@ impl JsonRecord for Source {
         })
     }
 
-    fn put_members(&self, map: &mut Members, target: Target) -> Result<(), AllocError> {
+    fn put_members<'b>(&'b self, map: &mut Members<'b>, target: Target) -> Result<(), AllocError> {
         put_row(map, "name", &self.name, target)?;
         put_row(map, "url", &self.url, target)
     }
@@ -32,7 +32,7 @@ impl JsonRecord for Source {
 
 #[tactic(auto, unfolding(cdx_json::proofs::OnRows::on_rows))]
 impl JsonRecord for Issue {
-    fn from_members(map: &Members, context: Context) -> Result<Issue, JsonReadError> {
+    fn from_members(map: &SeenMembers<'_>, context: Context) -> Result<Issue, JsonReadError> {
         let issue_type = required_row(map, "type", context)?;
         let id = optional_row(map, "id", context)?;
         let name = optional_row(map, "name", context)?;
@@ -60,7 +60,7 @@ impl JsonRecord for Issue {
         })
     }
 
-    fn put_members(&self, map: &mut Members, target: Target) -> Result<(), AllocError> {
+    fn put_members<'b>(&'b self, map: &mut Members<'b>, target: Target) -> Result<(), AllocError> {
         put_required(map, "type", &self.issue_type, target)?;
         put_row(map, "id", &self.id, target)?;
         put_row(map, "name", &self.name, target)?;

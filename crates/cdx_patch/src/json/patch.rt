@@ -5,9 +5,9 @@ ghost use Rattle.cdx_json.specs.Stays.{list_stays};
 
 use crate::{Diff, Patch, Patches};
 use cdx_json::{
-    Context, FromJson, JsonRecord, Keeping, Kept, Members, ToJson, keep_list, keep_optional_list,
-    keep_row, list_from_value, list_to_value, optional_list_row, optional_row, put_optional_list,
-    put_required, put_row, required_row,
+    Context, FromJson, JsonRecord, Keeping, Kept, Members, SeenMembers, Spelling, ToJson,
+    keep_list, keep_optional_list, keep_row, list_from_value, list_spelling, optional_list_row,
+    optional_row, put_optional_list, put_required, put_row, required_row,
 };
 use cdx_models::{JsonReadError, SpecVersion};
 use cdx_schema::Target;
@@ -16,7 +16,7 @@ use std::alloc::{AllocError, Global};
 
 #[tactic(auto, unfolding(cdx_json::proofs::OnRows::on_rows))]
 impl JsonRecord for Diff {
-    fn from_members(map: &Members, context: Context) -> Result<Diff, JsonReadError> {
+    fn from_members(map: &SeenMembers<'_>, context: Context) -> Result<Diff, JsonReadError> {
         let text = optional_row(map, "text", context)?;
         let url = optional_row(map, "url", context)?;
         Ok(Diff { text, url })
@@ -29,7 +29,7 @@ impl JsonRecord for Diff {
         })
     }
 
-    fn put_members(&self, map: &mut Members, target: Target) -> Result<(), AllocError> {
+    fn put_members<'b>(&'b self, map: &mut Members<'b>, target: Target) -> Result<(), AllocError> {
         put_row(map, "text", &self.text, target)?;
         put_row(map, "url", &self.url, target)
     }
@@ -37,7 +37,7 @@ impl JsonRecord for Diff {
 
 #[tactic(auto, unfolding(cdx_json::proofs::OnRows::on_rows))]
 impl JsonRecord for Patch {
-    fn from_members(map: &Members, context: Context) -> Result<Patch, JsonReadError> {
+    fn from_members(map: &SeenMembers<'_>, context: Context) -> Result<Patch, JsonReadError> {
         let patch_type = required_row(map, "type", context)?;
         let diff = optional_row(map, "diff", context)?;
         let resolves = optional_list_row(map, "resolves", context)?;
@@ -56,7 +56,7 @@ impl JsonRecord for Patch {
         })
     }
 
-    fn put_members(&self, map: &mut Members, target: Target) -> Result<(), AllocError> {
+    fn put_members<'b>(&'b self, map: &mut Members<'b>, target: Target) -> Result<(), AllocError> {
         put_required(map, "type", &self.patch_type, target)?;
         put_row(map, "diff", &self.diff, target)?;
         put_optional_list(map, "resolves", &self.resolves, target)
@@ -81,7 +81,7 @@ impl Kept for Patches {
 
 impl ToJson for Patches {
     #[tactic(auto, unfolding(cdx_schema::specs::Table::list))]
-    fn to_value(&self, alloc: Global, version: SpecVersion) -> Result<Value, AllocError> {
-        list_to_value(alloc, &self.0, version)
+    fn spelling(&self, alloc: Global, version: SpecVersion) -> Result<Spelling<'_>, AllocError> {
+        list_spelling(alloc, &self.0, version)
     }
 }

@@ -5,10 +5,10 @@ ghost use Rattle.cdx_json.specs.Stays.{reference_stays, list_stays};
 
 use crate::composition::{BomReference, Composition, Compositions};
 use cdx_json::{
-    Context, FromJson, JsonRecord, Keeping, Kept, Members, ToJson, first_or_old, here, keep_list,
-    keep_optional_list, keep_optional_list_since, keep_row_since, list_from_value, list_to_value,
-    optional_list_row, optional_list_row_since, optional_row_since, put_optional_list,
-    put_optional_list_since, put_required, put_row_since, required_row,
+    Context, FromJson, JsonRecord, Keeping, Kept, Members, SeenMembers, Spelling, ToJson,
+    first_or_old, here, keep_list, keep_optional_list, keep_optional_list_since, keep_row_since,
+    list_from_value, list_spelling, optional_list_row, optional_list_row_since, optional_row_since,
+    put_optional_list, put_optional_list_since, put_required, put_row_since, required_row,
 };
 use cdx_models::{HasTree, JsonKind, JsonReadError, SpecVersion};
 use cdx_schema::Target;
@@ -35,14 +35,14 @@ impl Kept for BomReference {
 
 impl ToJson for BomReference {
     #[tactic(auto, unfolding(cdx_json::proofs::OnRows::on_spelled))]
-    fn to_value(&self, alloc: Global, version: SpecVersion) -> Result<Value, AllocError> {
-        Value::try_from_str(alloc, self.0.as_str())
+    fn spelling(&self, alloc: Global, version: SpecVersion) -> Result<Spelling<'_>, AllocError> {
+        Ok(Spelling::Text(self.0.as_str()))
     }
 }
 
 #[tactic(auto, unfolding(cdx_json::proofs::OnRows::on_rows))]
 impl JsonRecord for Composition {
-    fn from_members(map: &Members, context: Context) -> Result<Composition, JsonReadError> {
+    fn from_members(map: &SeenMembers<'_>, context: Context) -> Result<Composition, JsonReadError> {
         let reference = first_or_old(map, "bom-ref", "bomRef");
         let bom_ref = optional_row_since(map, reference, SpecVersion::V1_5, context)?;
         let aggregate = required_row(map, "aggregate", context)?;
@@ -80,7 +80,7 @@ impl JsonRecord for Composition {
         })
     }
 
-    fn put_members(&self, map: &mut Members, target: Target) -> Result<(), AllocError> {
+    fn put_members<'b>(&'b self, map: &mut Members<'b>, target: Target) -> Result<(), AllocError> {
         put_row_since(map, "bom-ref", &self.bom_ref, SpecVersion::V1_5, target)?;
         put_required(map, "aggregate", &self.aggregate, target)?;
         put_optional_list(map, "assemblies", &self.assemblies, target)?;
@@ -115,7 +115,7 @@ impl Kept for Compositions {
 
 impl ToJson for Compositions {
     #[tactic(auto, unfolding(cdx_schema::specs::Table::list))]
-    fn to_value(&self, alloc: Global, version: SpecVersion) -> Result<Value, AllocError> {
-        list_to_value(alloc, &self.0, version)
+    fn spelling(&self, alloc: Global, version: SpecVersion) -> Result<Spelling<'_>, AllocError> {
+        list_spelling(alloc, &self.0, version)
     }
 }

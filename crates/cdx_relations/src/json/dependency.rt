@@ -5,8 +5,8 @@ ghost use Rattle.cdx_json.specs.Stays.{list_stays};
 
 use crate::dependency::{Dependencies, Dependency};
 use cdx_json::{
-    Context, FromJson, JsonRecord, Keeping, Kept, Members, ToJson, keep_list, list_from_value,
-    list_row, list_to_value, put_list, put_required, required_row,
+    Context, FromJson, JsonRecord, Keeping, Kept, Members, SeenMembers, Spelling, ToJson,
+    keep_list, list_from_value, list_row, list_spelling, put_list, put_required, required_row,
 };
 use cdx_models::{JsonReadError, SpecVersion};
 use cdx_schema::Target;
@@ -15,7 +15,7 @@ use std::alloc::{AllocError, Global};
 
 #[tactic(auto, unfolding(cdx_json::proofs::OnRows::on_rows))]
 impl JsonRecord for Dependency {
-    fn from_members(map: &Members, context: Context) -> Result<Dependency, JsonReadError> {
+    fn from_members(map: &SeenMembers<'_>, context: Context) -> Result<Dependency, JsonReadError> {
         let dependency_ref = required_row(map, "ref", context)?;
         let depends_on = list_row(map, "dependsOn", context)?;
         Ok(Dependency {
@@ -31,7 +31,7 @@ impl JsonRecord for Dependency {
         })
     }
 
-    fn put_members(&self, map: &mut Members, target: Target) -> Result<(), AllocError> {
+    fn put_members<'b>(&'b self, map: &mut Members<'b>, target: Target) -> Result<(), AllocError> {
         put_required(map, "ref", &self.dependency_ref, target)?;
         put_list(map, "dependsOn", &self.depends_on, target)
     }
@@ -55,7 +55,7 @@ impl Kept for Dependencies {
 
 impl ToJson for Dependencies {
     #[tactic(auto, unfolding(cdx_schema::specs::Table::list))]
-    fn to_value(&self, alloc: Global, version: SpecVersion) -> Result<Value, AllocError> {
-        list_to_value(alloc, &self.0, version)
+    fn spelling(&self, alloc: Global, version: SpecVersion) -> Result<Spelling<'_>, AllocError> {
+        list_spelling(alloc, &self.0, version)
     }
 }

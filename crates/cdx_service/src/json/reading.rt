@@ -1,6 +1,6 @@
 //! Services and lists of services from JSON.
 
-ghost use Rattle.serde_json.specs.View.{view, items_view, members_view};
+ghost use Rattle.serde_json.specs.View.{view, items_view};
 ghost use Rattle.cdx_models.specs.Trees.{service, present};
 ghost use Rattle.cdx_schema.specs.Kinds.{services, a_list, a_record, optional};
 ghost use Rattle.cdx_schema.specs.JsonReading.{jread, seen};
@@ -11,12 +11,13 @@ ghost use Rattle.cdx_service.specs.Trees.{service_tree, services_tree};
 ghost use Rattle.cdx_service.specs.PartTrees.{service_naming_trees, service_access_trees, service_contents_trees};
 ghost use Rattle.cdx_json.specs.Groups.{group_read};
 ghost use Rattle.cdx_service.specs.Groups.{service_by_groups};
+ghost use Rattle.cdx_json.specs.SeenOf.{seen_of};
 
 use crate::service::parts::{ServiceAccess, ServiceContents, ServiceNaming, assemble};
 use crate::service::{Service, Services};
 use cdx_json::{
-    Context, Members, at_item, at_member, here, member_not_null, optional_list_row, optional_row,
-    optional_row_since, required_row,
+    Context, SeenMembers, at_item, at_member, here, member_not_null, optional_list_row,
+    optional_row, optional_row_since, required_row,
 };
 use cdx_models::{JsonKind, JsonReadError, SpecVersion};
 use cdx_schema::Depth;
@@ -41,15 +42,16 @@ pub(crate) fn read_service(value: &Value, context: Context) -> Result<Service, J
                 },
                 ..context
             };
-            service_from_members(map, inner)
+            let members = SeenMembers::of(context.alloc, map)?;
+            service_from_members(&members, inner)
         }
     }
 }
 
 #[cycle(service_read)]
-fn service_from_members(map: &Members, context: Context) -> Result<Service, JsonReadError>
+fn service_from_members(map: &SeenMembers<'_>, context: Context) -> Result<Service, JsonReadError>
     ensures { Gives service_tree result
-        (service_by_groups (seen (members_view map.now.entries)) context.version
+        (service_by_groups (seen (seen_of map.now.members.items)) context.version
         (depth_of context.depth)) }
 {
     let service_naming = read_service_naming(map, context)?;
@@ -99,9 +101,12 @@ fn services_from_items(items: &Vec<Value>, context: Context) -> Result<Services,
     Ok(list)
 }
 
-fn read_service_naming(map: &Members, context: Context) -> Result<ServiceNaming, JsonReadError>
+fn read_service_naming(
+    map: &SeenMembers<'_>,
+    context: Context,
+) -> Result<ServiceNaming, JsonReadError>
     ensures { Gives service_naming_trees result
-        (group_read 0 service (seen (members_view map.now.entries)) context.version
+        (group_read 0 service (seen (seen_of map.now.members.items)) context.version
         (depth_of context.depth)) }
 {
     let bom_ref = optional_row(map, "bom-ref", context)?;
@@ -120,9 +125,12 @@ fn read_service_naming(map: &Members, context: Context) -> Result<ServiceNaming,
     })
 }
 
-fn read_service_access(map: &Members, context: Context) -> Result<ServiceAccess, JsonReadError>
+fn read_service_access(
+    map: &SeenMembers<'_>,
+    context: Context,
+) -> Result<ServiceAccess, JsonReadError>
     ensures { Gives service_access_trees result
-        (group_read 1 service (seen (members_view map.now.entries)) context.version
+        (group_read 1 service (seen (seen_of map.now.members.items)) context.version
         (depth_of context.depth)) }
 {
     let endpoints = optional_list_row(map, "endpoints", context)?;
@@ -142,9 +150,12 @@ fn read_service_access(map: &Members, context: Context) -> Result<ServiceAccess,
 }
 
 #[cycle(service_read)]
-fn read_service_contents(map: &Members, context: Context) -> Result<ServiceContents, JsonReadError>
+fn read_service_contents(
+    map: &SeenMembers<'_>,
+    context: Context,
+) -> Result<ServiceContents, JsonReadError>
     ensures { Gives service_contents_trees result
-        (group_read 2 service (seen (members_view map.now.entries)) context.version
+        (group_read 2 service (seen (seen_of map.now.members.items)) context.version
         (depth_of context.depth)) }
 {
     let properties = optional_row(map, "properties", context)?;
@@ -161,11 +172,11 @@ fn read_service_contents(map: &Members, context: Context) -> Result<ServiceConte
 
 #[cycle(service_read)]
 fn read_services_row(
-    map: &Members,
+    map: &SeenMembers<'_>,
     name: &str,
     context: Context,
 ) -> Result<Option<Services>, JsonReadError>
-    ensures { Gives (present services_tree) result (member_of (seen (members_view map.now.entries))
+    ensures { Gives (present services_tree) result (member_of (seen (seen_of map.now.members.items))
         name.now optional (a_list services) context.version (depth_of context.depth)) }
 {
     match member_not_null(map, name) {

@@ -10,15 +10,14 @@ ghost use Rattle.cdx_print.specs.Prints.{then_text};
 ghost use Rattle.cdx_request.specs.EventValues.{attribute_value, event_value, events_value};
 ghost use Rattle.cdx_tool.specs.Prints.{then_text_if, then_name, then_default, then_attributes, PrintsItems};
 
-use crate::events::printer::TextPrinter;
 use cdx_bom::Bom;
 use cdx_events::{Events, List as Items, OwnedAttribute, OwnedName, Text, XmlEvent as Event};
 use cdx_models::SpecVersion;
-use cdx_print::print_comma_if;
+use cdx_print::{Printer, print_comma_if};
 use std::alloc::{AllocError, Global};
 
 fn print_text_if(
-    printer: &mut TextPrinter,
+    printer: &mut Printer,
     out: &mut String,
     start: &str,
     text: &Option<Text>,
@@ -34,7 +33,7 @@ fn print_text_if(
 
 // The members of a name, in byte order as all members are.
 fn print_name(
-    printer: &mut TextPrinter,
+    printer: &mut Printer,
     out: &mut String,
     start: &str,
     name: &OwnedName,
@@ -48,7 +47,7 @@ fn print_name(
 }
 
 fn print_attribute(
-    printer: &mut TextPrinter,
+    printer: &mut Printer,
     out: &mut String,
     attribute: &OwnedAttribute,
 ) -> Result<(), AllocError>
@@ -61,7 +60,7 @@ fn print_attribute(
 }
 
 fn print_list(
-    printer: &mut TextPrinter,
+    printer: &mut Printer,
     out: &mut String,
     attributes: &[OwnedAttribute],
 ) -> Result<(), AllocError>
@@ -80,7 +79,7 @@ fn print_list(
 
 // The attributes, where there are some, before the member that follows.
 fn print_attributes(
-    printer: &mut TextPrinter,
+    printer: &mut Printer,
     out: &mut String,
     attributes: &Items<OwnedAttribute>,
 ) -> Result<(), AllocError>
@@ -99,7 +98,7 @@ fn print_attributes(
 
 // The default namespace, where there is one, before the member that follows.
 fn print_default(
-    printer: &mut TextPrinter,
+    printer: &mut Printer,
     out: &mut String,
     default: &Option<Text>,
 ) -> Result<(), AllocError>
@@ -116,7 +115,7 @@ fn print_default(
 }
 
 fn print_start(
-    printer: &mut TextPrinter,
+    printer: &mut Printer,
     out: &mut String,
     name: &OwnedName,
     attributes: &Items<OwnedAttribute>,
@@ -134,11 +133,7 @@ fn print_start(
     out.push_str("}")
 }
 
-fn print_end(
-    printer: &mut TextPrinter,
-    out: &mut String,
-    name: &OwnedName,
-) -> Result<(), AllocError>
+fn print_end(printer: &mut Printer, out: &mut String, name: &OwnedName) -> Result<(), AllocError>
     ensures { OnOk result (string_bytes out.new
         ≡ then_name (codes "{\"end\":") name.now (string_bytes out.old) ++ codes "}") }
 {
@@ -148,7 +143,7 @@ fn print_end(
 
 // An object with this text alone.
 fn print_only(
-    printer: &mut TextPrinter,
+    printer: &mut Printer,
     out: &mut String,
     start: &str,
     text: &str,
@@ -160,7 +155,7 @@ fn print_only(
     out.push_str("}")
 }
 
-fn print_event(printer: &mut TextPrinter, out: &mut String, event: &Event) -> Result<(), AllocError>
+fn print_event(printer: &mut Printer, out: &mut String, event: &Event) -> Result<(), AllocError>
     ensures { OnOk result (string_bytes out.new
         ≡ string_bytes out.old ++ compact_text (event_value event.now)) }
 {
@@ -180,7 +175,7 @@ fn print_event(printer: &mut TextPrinter, out: &mut String, event: &Event) -> Re
 
 // The events, after others where one stands before them. It gives whether one stands before what follows.
 fn print_events_from(
-    printer: &mut TextPrinter,
+    printer: &mut Printer,
     out: &mut String,
     events: &[Event],
     is_later: bool,
@@ -206,7 +201,7 @@ pub(crate) fn print_events(
     ensures { OnOk result (string_bytes out.new
         ≡ string_bytes out.old ++ compact_text (events_value events.now.list)) }
 {
-    let mut printer = TextPrinter::new(alloc);
+    let mut printer = Printer::new(alloc);
     out.push_str("[")?;
     print_events_from(&mut printer, out, events.as_slice(), false)?;
     out.push_str("]")
@@ -224,7 +219,7 @@ pub(crate) fn print_document(
         ++ compact_text (events_value (document_in version (bom_tree bill.now)))) }
 {
     let mut pieces = bill.document_pieces(alloc, version);
-    let mut printer = TextPrinter::new(alloc);
+    let mut printer = Printer::new(alloc);
     out.push_str("[")?;
     let mut is_later = false;
     while let Some(piece) = pieces.next()? {

@@ -1,7 +1,8 @@
 use Rattle.std.proofs.Common.{◌∙◌, ap, is_some}
-use Rattle.serde_json.specs.View.{view, members_view}
+use Rattle.serde_json.specs.View.{view}
+use Rattle.cdx_json.specs.SeenOf.{seen_of}
 use Rattle.cdx_json.proofs.Rows.{found_is, some_of}
 use Rattle.cdx_json.proofs.reading.has_value.Goals as goal
 
 pub returns : goal.returns
-returns c = c.is_some.ensures ∙ some_of (λ v. view v.now) c.member_not_null.result ∙ ap is_some c.member_not_null.ensures ∙ found_is (members_view c.args.map.now.entries) c.args.name.now
+returns c = c.is_some.ensures ∙ some_of (λ v. view v.now) c.member_not_null.result ∙ ap is_some c.member_not_null.ensures ∙ found_is (seen_of c.args.map.now.members.items) c.args.name.now

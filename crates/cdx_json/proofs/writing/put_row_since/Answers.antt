@@ -1,11 +1,11 @@
-use Rattle.serde_json.specs.View.{members_view}
 use Rattle.cdx_models.specs.Trees.{present}
 use Rattle.cdx_json.specs.KeptRows.{put_kept}
+use Rattle.cdx_json.specs.Spellings.{spelling_members}
 use Rattle.cdx_json.proofs.Spelled.{late_put_then, late_put_else}
 use Rattle.cdx_json.proofs.writing.put_row_since.Goals as goal
 
 pub returns-then-is_known_to : goal.returns-then-is_known_to
-returns-then-is_known_to g c = late_put_then c.put_row.result c.args.since c.args.target.version c.is_known_to.result (members_view c.args.map.now.entries) (put_kept c.args.name.now g.T.Kinded.kind (present g.T.HasTree.tree c.args.held.now) c.args.target.version (members_view c.args.map.now.entries)) (members_view c.put_row.new.map.entries) c.is_known_to.ensures c.if-is_known_to.true c.put_row.ensures
+returns-then-is_known_to g c = late_put_then c.put_row.result c.args.since c.args.target.version c.is_known_to.result (spelling_members c.args.map.now.items) (put_kept c.args.name.now g.T.Kinded.kind (present g.T.HasTree.tree c.args.held.now) c.args.target.version (spelling_members c.args.map.now.items)) (spelling_members c.put_row.new.map.items) c.is_known_to.ensures c.if-is_known_to.true c.put_row.ensures
 
 pub returns-else-is_known_to : goal.returns-else-is_known_to
-returns-else-is_known_to g c = late_put_else c.args.since c.args.target.version c.is_known_to.result (members_view c.args.map.now.entries) (put_kept c.args.name.now g.T.Kinded.kind (present g.T.HasTree.tree c.args.held.now) c.args.target.version (members_view c.args.map.now.entries)) c.is_known_to.ensures c.if-is_known_to.false
+returns-else-is_known_to g c = late_put_else c.args.since c.args.target.version c.is_known_to.result (spelling_members c.args.map.now.items) (put_kept c.args.name.now g.T.Kinded.kind (present g.T.HasTree.tree c.args.held.now) c.args.target.version (spelling_members c.args.map.now.items)) c.is_known_to.ensures c.if-is_known_to.false

@@ -1,6 +1,7 @@
-use Rattle.std.proofs.Common.{refl, arith, ap, sym, ◌∙◌, Ok}
+use Rattle.std.proofs.Common.{refl, arith, ap, sym, ◌∙◌, Ok, Some}
 use Rattle.std.proofs.lemmas.Result.{err_from_is_err_and}
-use Rattle.serde_json.specs.View.{view, items_view, members_view}
+use Rattle.serde_json.specs.View.{view, items_view}
+use Rattle.cdx_json.specs.SeenOf.{seen_of}
 use Rattle.cdx_schema.specs.Table.{rows, list}
 use Rattle.cdx_schema.specs.Results.{◌>>=◌}
 use Rattle.cdx_json.specs.ByRows.{rows_made}
@@ -22,9 +23,9 @@ read_component-returns-then-context-ge32 t c = component_deep c.here.result (vie
 pub read_component-returns-in-None : goal.read_component-returns-in-None
 read_component-returns-in-None t c = component_none c.here-in-None.result (view c.args.value.now) c.args.context.version (depth_of c.args.context.depth) c.if-context-ge32.false c.in-None.ensures c.here-in-None.ensures
 
-pub read_component-returns-in-Some : goal.read_component-returns-in-Some
-read_component-returns-in-Some t c =
-    component_some c.component_from_members.result (view c.args.value.now) (members_view c.in-Some.map.now.entries) c.args.context.version (depth_of c.args.context.depth) c.if-context-ge32.false c.in-Some.ensures c.component_from_members.ensures
+pub read_component-returns-in_ok-members-in-Some : goal.read_component-returns-in_ok-members-in-Some
+read_component-returns-in_ok-members-in-Some t c =
+    component_some c.component_from_members.result (view c.args.value.now) (seen_of c.in_ok-members-in-Some.members.members.items) c.args.context.version (depth_of c.args.context.depth) c.if-context-ge32.false (ap Some c.in_ok-members-in-Some.ensures ∙ c.in-Some.ensures) c.component_from_members.ensures
 
 pub component_from_members-returns-in_err-origin : goal.component_from_members-returns-in_err-origin
 unfolding component_by_groups
@@ -71,9 +72,9 @@ read_components-returns-in-Some t c =
 pub read_pedigree-returns-in-None : goal.read_pedigree-returns-in-None
 read_pedigree-returns-in-None t c = record_err c.here.result (view c.args.value.now) pedigree c.args.context.version (depth_of c.args.context.depth) refl c.in-None.ensures c.here.ensures
 
-pub read_pedigree-returns-in-Some : goal.read_pedigree-returns-in-Some
-read_pedigree-returns-in-Some t c =
-    record_gives pedigree_tree c.pedigree_from_members.result (view c.args.value.now) (members_view c.in-Some.map.now.entries) pedigree c.args.context.version (depth_of c.args.context.depth) refl refl c.in-Some.ensures c.pedigree_from_members.ensures
+pub read_pedigree-returns-in_ok-members-in-Some : goal.read_pedigree-returns-in_ok-members-in-Some
+read_pedigree-returns-in_ok-members-in-Some t c =
+    record_gives pedigree_tree c.pedigree_from_members.result (view c.args.value.now) (seen_of c.in_ok-members-in-Some.members.members.items) pedigree c.args.context.version (depth_of c.args.context.depth) refl refl (ap Some c.in_ok-members-in-Some.ensures ∙ c.in-Some.ensures) c.pedigree_from_members.ensures
 
 pub pedigree_from_members-returns-in_err-ancestors : goal.pedigree_from_members-returns-in_err-ancestors
 unfolding rows_made rows list
@@ -156,19 +157,19 @@ unfolding rows_made rows list
 read_contents-returns t c = rw (c.in_ok-pedigree.ensures, c.in_ok-external_references.ensures, c.in_ok-properties.ensures, c.in_ok-components.ensures, c.in_ok-evidence.ensures, c.in_ok-signature.ensures) refl
 
 pub read_pedigree_row-returns-in-None : goal.read_pedigree_row-returns-in-None
-read_pedigree_row-returns-in-None t c = may_none c.args.name.now (a_record pedigree) (members_view c.args.map.now.entries) c.args.context.version (depth_of c.args.context.depth) c.in-None.ensures
+read_pedigree_row-returns-in-None t c = may_none c.args.name.now (a_record pedigree) (seen_of c.args.map.now.members.items) c.args.context.version (depth_of c.args.context.depth) c.in-None.ensures
 
 pub read_pedigree_row-returns-in-Ok : goal.read_pedigree_row-returns-in-Ok
-read_pedigree_row-returns-in-Ok t c = live_ok c.args.name.now optional (a_record pedigree) (members_view c.args.map.now.entries) c.args.context.version (depth_of c.args.context.depth) (view c.in-Some.value.now) (pedigree_tree c.in-Ok.held) c.in-Some.ensures c.in-Ok.ensures
+read_pedigree_row-returns-in-Ok t c = live_ok c.args.name.now optional (a_record pedigree) (seen_of c.args.map.now.members.items) c.args.context.version (depth_of c.args.context.depth) (view c.in-Some.value.now) (pedigree_tree c.in-Ok.held) c.in-Some.ensures c.in-Ok.ensures
 
 pub read_pedigree_row-returns-in-Err : goal.read_pedigree_row-returns-in-Err
-read_pedigree_row-returns-in-Err t c = live_err c.in-Err.e c.at_member.result c.args.name.now optional (a_record pedigree) (members_view c.args.map.now.entries) c.args.context.version (depth_of c.args.context.depth) (view c.in-Some.value.now) c.in-Some.ensures c.in-Err.ensures c.at_member.ensures
+read_pedigree_row-returns-in-Err t c = live_err c.in-Err.e c.at_member.result c.args.name.now optional (a_record pedigree) (seen_of c.args.map.now.members.items) c.args.context.version (depth_of c.args.context.depth) (view c.in-Some.value.now) c.in-Some.ensures c.in-Err.ensures c.at_member.ensures
 
 pub read_components_row-returns-in-None : goal.read_components_row-returns-in-None
-read_components_row-returns-in-None t c = may_none c.args.name.now (a_list components) (members_view c.args.map.now.entries) c.args.context.version (depth_of c.args.context.depth) c.in-None.ensures
+read_components_row-returns-in-None t c = may_none c.args.name.now (a_list components) (seen_of c.args.map.now.members.items) c.args.context.version (depth_of c.args.context.depth) c.in-None.ensures
 
 pub read_components_row-returns-in-Ok : goal.read_components_row-returns-in-Ok
-read_components_row-returns-in-Ok t c = live_ok c.args.name.now optional (a_list components) (members_view c.args.map.now.entries) c.args.context.version (depth_of c.args.context.depth) (view c.in-Some.value.now) (components_tree c.in-Ok.held) c.in-Some.ensures c.in-Ok.ensures
+read_components_row-returns-in-Ok t c = live_ok c.args.name.now optional (a_list components) (seen_of c.args.map.now.members.items) c.args.context.version (depth_of c.args.context.depth) (view c.in-Some.value.now) (components_tree c.in-Ok.held) c.in-Some.ensures c.in-Ok.ensures
 
 pub read_components_row-returns-in-Err : goal.read_components_row-returns-in-Err
-read_components_row-returns-in-Err t c = live_err c.in-Err.e c.at_member.result c.args.name.now optional (a_list components) (members_view c.args.map.now.entries) c.args.context.version (depth_of c.args.context.depth) (view c.in-Some.value.now) c.in-Some.ensures c.in-Err.ensures c.at_member.ensures
+read_components_row-returns-in-Err t c = live_err c.in-Err.e c.at_member.result c.args.name.now optional (a_list components) (seen_of c.args.map.now.members.items) c.args.context.version (depth_of c.args.context.depth) (view c.in-Some.value.now) c.in-Some.ensures c.in-Err.ensures c.at_member.ensures

@@ -1,4 +1,6 @@
-use Rattle.serde_json.specs.View.{view, members_view}
+use Rattle.std.proofs.Common.{Some, ap, ◌∙◌}
+use Rattle.serde_json.specs.View.{view}
+use Rattle.cdx_json.specs.SeenOf.{seen_of}
 use Rattle.cdx_license.specs.Records.{choice_tree}
 use Rattle.cdx_schema.specs.Depths.{depth_of}
 use Rattle.cdx_license.proofs.Licensed.{choice_err, choice_gives}
@@ -7,6 +9,6 @@ use Rattle.cdx_license.proofs.json.LicenseChoiceFromJson.from_json_at.Goals as g
 pub returns-in-None : goal.returns-in-None
 returns-in-None c = choice_err c.here.result (view c.args.value.now) c.args.context.version (depth_of c.args.context.depth) c.in-None.ensures c.here.ensures
 
-pub returns-in-Some : goal.returns-in-Some
-returns-in-Some c =
-    choice_gives choice_tree c.choice_from_members.result (view c.args.value.now) (members_view c.in-Some.map.now.entries) c.args.context.version (depth_of c.args.context.depth) c.in-Some.ensures c.choice_from_members.ensures
+pub returns-in_ok-members-in-Some : goal.returns-in_ok-members-in-Some
+returns-in_ok-members-in-Some c =
+    choice_gives choice_tree c.choice_from_members.result (view c.args.value.now) (seen_of c.in_ok-members-in-Some.members.members.items) c.args.context.version (depth_of c.args.context.depth) (ap Some c.in_ok-members-in-Some.ensures ∙ c.in-Some.ensures) c.choice_from_members.ensures

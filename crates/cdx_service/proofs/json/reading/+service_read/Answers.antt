@@ -1,6 +1,7 @@
-use Rattle.std.proofs.Common.{refl, arith, ap, sym, ◌∙◌, Ok}
+use Rattle.std.proofs.Common.{refl, arith, ap, sym, ◌∙◌, Ok, Some}
 use Rattle.std.proofs.lemmas.Result.{err_from_is_err_and}
-use Rattle.serde_json.specs.View.{view, items_view, members_view}
+use Rattle.serde_json.specs.View.{view, items_view}
+use Rattle.cdx_json.specs.SeenOf.{seen_of}
 use Rattle.cdx_schema.specs.Table.{rows, list}
 use Rattle.cdx_schema.specs.Results.{◌>>=◌}
 use Rattle.cdx_json.specs.ByRows.{rows_made}
@@ -22,9 +23,9 @@ read_service-returns-then-context-ge32 t c = service_deep c.here.result (view c.
 pub read_service-returns-in-None : goal.read_service-returns-in-None
 read_service-returns-in-None t c = service_none c.here-in-None.result (view c.args.value.now) c.args.context.version (depth_of c.args.context.depth) c.if-context-ge32.false c.in-None.ensures c.here-in-None.ensures
 
-pub read_service-returns-in-Some : goal.read_service-returns-in-Some
-read_service-returns-in-Some t c =
-    service_some c.service_from_members.result (view c.args.value.now) (members_view c.in-Some.map.now.entries) c.args.context.version (depth_of c.args.context.depth) c.if-context-ge32.false c.in-Some.ensures c.service_from_members.ensures
+pub read_service-returns-in_ok-members-in-Some : goal.read_service-returns-in_ok-members-in-Some
+read_service-returns-in_ok-members-in-Some t c =
+    service_some c.service_from_members.result (view c.args.value.now) (seen_of c.in_ok-members-in-Some.members.members.items) c.args.context.version (depth_of c.args.context.depth) c.if-context-ge32.false (ap Some c.in_ok-members-in-Some.ensures ∙ c.in-Some.ensures) c.service_from_members.ensures
 
 pub service_from_members-returns-in_err-service_naming : goal.service_from_members-returns-in_err-service_naming
 unfolding service_by_groups
@@ -93,10 +94,10 @@ unfolding rows_made rows list
 read_service_contents-returns t c = rw (c.in_ok-properties.ensures, c.in_ok-services.ensures, c.in_ok-signature.ensures, c.in_ok-trust_zone.ensures) refl
 
 pub read_services_row-returns-in-None : goal.read_services_row-returns-in-None
-read_services_row-returns-in-None t c = may_none c.args.name.now (a_list services) (members_view c.args.map.now.entries) c.args.context.version (depth_of c.args.context.depth) c.in-None.ensures
+read_services_row-returns-in-None t c = may_none c.args.name.now (a_list services) (seen_of c.args.map.now.members.items) c.args.context.version (depth_of c.args.context.depth) c.in-None.ensures
 
 pub read_services_row-returns-in-Ok : goal.read_services_row-returns-in-Ok
-read_services_row-returns-in-Ok t c = live_ok c.args.name.now optional (a_list services) (members_view c.args.map.now.entries) c.args.context.version (depth_of c.args.context.depth) (view c.in-Some.value.now) (services_tree c.in-Ok.held) c.in-Some.ensures c.in-Ok.ensures
+read_services_row-returns-in-Ok t c = live_ok c.args.name.now optional (a_list services) (seen_of c.args.map.now.members.items) c.args.context.version (depth_of c.args.context.depth) (view c.in-Some.value.now) (services_tree c.in-Ok.held) c.in-Some.ensures c.in-Ok.ensures
 
 pub read_services_row-returns-in-Err : goal.read_services_row-returns-in-Err
-read_services_row-returns-in-Err t c = live_err c.in-Err.e c.at_member.result c.args.name.now optional (a_list services) (members_view c.args.map.now.entries) c.args.context.version (depth_of c.args.context.depth) (view c.in-Some.value.now) c.in-Some.ensures c.in-Err.ensures c.at_member.ensures
+read_services_row-returns-in-Err t c = live_err c.in-Err.e c.at_member.result c.args.name.now optional (a_list services) (seen_of c.args.map.now.members.items) c.args.context.version (depth_of c.args.context.depth) (view c.in-Some.value.now) c.in-Some.ensures c.in-Err.ensures c.at_member.ensures

@@ -1,9 +1,9 @@
 use Rattle.std.proofs.Common.{refl, arith, ap, sym, ◌∙◌}
-use Rattle.serde_json.specs.View.{view, members_view}
 use Rattle.cdx_schema.specs.Table.{rows, list}
 use Rattle.cdx_schema.specs.Keeping.{keep}
 use Rattle.cdx_schema.specs.JsonSpelling.{jspell}
 use Rattle.cdx_json.specs.KeptRows.{rows_put}
+use Rattle.cdx_json.specs.Spellings.{spelling_data, spelling_members}
 use Rattle.cdx_json.proofs.Spelled.{field_put, nothing_put, list_spelled}
 use Rattle.cdx_models.specs.Trees.{service}
 use Rattle.cdx_schema.specs.Kinds.{services, a_list, a_record}
@@ -14,7 +14,7 @@ use Rattle.cdx_service.proofs.Grouped.{service_spelled}
 use Rattle.cdx_service.proofs.json.writing.+service_write.Goals as goal
 
 pub write_service-returns : goal.write_service-returns
-write_service-returns t c = service_spelled c.put_service_contents.new.map c.args.held.now c.args.target.version (c.in_ok-put_service_contents.ensures ∙ rw (c.in_ok-put_service_access.ensures, c.in_ok-put_service_naming.ensures, c.new-map.ensures.empty) refl)
+write_service-returns t c = service_spelled c.put_service_contents.new.map c.args.held.now c.args.target.version (c.in_ok-put_service_contents.ensures ∙ rw (c.in_ok-put_service_access.ensures, c.in_ok-put_service_naming.ensures, c.new-map.ensures.items) refl)
 
 pub write_services-returns : goal.write_services-returns
 unfolding list
@@ -27,8 +27,8 @@ unfolding rows_put rows list
 put_service_contents-returns t c = rw (c.in_ok-put_row_since-2.ensures, c.in_ok-put_row_since.ensures, c.in_ok-put_services_row.ensures, c.in_ok-put_row.ensures) refl
 
 pub put_services_row-returns-in-None : goal.put_services_row-returns-in-None
-put_services_row-returns-in-None t c = rw c.in-None.is (nothing_put c.args.name.now (a_list services) services_tree c.args.target.version (members_view c.args.map.now.entries))
+put_services_row-returns-in-None t c = rw c.in-None.is (nothing_put c.args.name.now (a_list services) services_tree c.args.target.version (spelling_members c.args.map.now.items))
 
 pub put_services_row-returns-in_ok-value-in-Some : goal.put_services_row-returns-in_ok-value-in-Some
 put_services_row-returns-in_ok-value-in-Some t c =
-    rw c.in-Some.is (field_put c.put.result c.args.name.now (a_list services) (services_tree c.in-Some.held) c.args.target.version (view c.in_ok-value-in-Some.value) (members_view c.args.map.now.entries) (members_view c.put.new.map.entries) (services_stay c.args.target.version c.args.target.version c.in-Some.held) c.in_ok-value-in-Some.ensures c.put.ensures.ok)
+    rw c.in-Some.is (field_put c.put.result c.args.name.now (a_list services) (services_tree c.in-Some.held) c.args.target.version (spelling_data c.in_ok-value-in-Some.value) (spelling_members c.args.map.now.items) (spelling_members c.put.new.members.items) (services_stay c.args.target.version c.args.target.version c.in-Some.held) c.in_ok-value-in-Some.ensures c.put.ensures)

@@ -1,5 +1,5 @@
 use Rattle.std.proofs.Common.{codes, ap, ◌∙◌}
-use Rattle.serde_json.specs.View.{members_view}
+use Rattle.cdx_json.specs.Spellings.{spelling_members}
 use Rattle.cdx_models.specs.Trees.{text, present, classification, fields_of}
 use Rattle.cdx_schema.specs.Kinds.{a_text, a_record}
 use Rattle.cdx_schema.specs.Table.{rows}
@@ -15,5 +15,5 @@ returns c =
     let held = classification_tree c.args.self.now.classification in
     let w = c.args.target.version in
     on_ok c.put_members.result
-    (λ e. e ∙ own_put w (fields_of held) (members_view c.put_row-2.new.map.entries) ∙ ap (λ ms. put_own (a_record classification) held w ms) (c.in_ok-put_row-2.ensures ∙ ap (λ ms. put_kept (codes "description") a_text (present text c.args.self.now.description) w ms) c.in_ok-put_row.ensures))
+    (λ e. e ∙ own_put w (fields_of held) (spelling_members c.put_row-2.new.map.items) ∙ ap (λ ms. put_own (a_record classification) held w ms) (c.in_ok-put_row-2.ensures ∙ ap (λ ms. put_kept (codes "description") a_text (present text c.args.self.now.description) w ms) c.in_ok-put_row.ensures))
     c.put_members.ensures

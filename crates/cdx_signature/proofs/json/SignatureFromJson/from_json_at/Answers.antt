@@ -1,5 +1,7 @@
+use Rattle.std.proofs.Common.{Some, ap, ◌∙◌}
 use Rattle.std.proofs.lemmas.Result.{err_from_is_err_and}
-use Rattle.serde_json.specs.View.{view, items_view, members_view}
+use Rattle.serde_json.specs.View.{view, items_view}
+use Rattle.cdx_json.specs.SeenOf.{seen_of}
 use Rattle.cdx_models.specs.Trees.{list_tree}
 use Rattle.cdx_signature.specs.Records.{signature_tree, signer_tree}
 use Rattle.cdx_schema.specs.Depths.{depth_of}
@@ -18,6 +20,6 @@ returns-in_ok-list_from_items-in-Some c =
 pub returns-in-None-as_object : goal.returns-in-None-as_object
 returns-in-None-as_object c = signature_err c.here.result (view c.args.value.now) c.args.context.version (depth_of c.args.context.depth) c.in-None.ensures c.in-None-as_object.ensures c.here.ensures
 
-pub returns-in-Some-as_object : goal.returns-in-Some-as_object
-returns-in-Some-as_object c =
-    signature_gives signature_tree c.signature_from_members.result (view c.args.value.now) (members_view c.in-Some-as_object.map.now.entries) c.args.context.version (depth_of c.args.context.depth) c.in-Some-as_object.ensures c.signature_from_members.ensures
+pub returns-in_ok-members-in-Some-as_object : goal.returns-in_ok-members-in-Some-as_object
+returns-in_ok-members-in-Some-as_object c =
+    signature_gives signature_tree c.signature_from_members.result (view c.args.value.now) (seen_of c.in_ok-members-in-Some-as_object.members.members.items) c.args.context.version (depth_of c.args.context.depth) (ap Some c.in_ok-members-in-Some-as_object.ensures ∙ c.in-Some-as_object.ensures) c.signature_from_members.ensures

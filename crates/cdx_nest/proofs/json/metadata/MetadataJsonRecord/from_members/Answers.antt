@@ -1,5 +1,5 @@
 use Rattle.std.proofs.Common.{sym, subst}
-use Rattle.serde_json.specs.View.{members_view}
+use Rattle.cdx_json.specs.SeenOf.{seen_of}
 use Rattle.cdx_schema.specs.JsonReading.{seen}
 use Rattle.cdx_schema.specs.Depths.{depth_of}
 use Rattle.cdx_json.specs.Gives.{Gives}
@@ -8,4 +8,4 @@ use Rattle.cdx_nest.proofs.Grouped.{metadata_in_groups}
 use Rattle.cdx_nest.proofs.json.metadata.MetadataJsonRecord.from_members.Goals as goal
 
 pub returns : goal.returns
-returns c = subst (Gives metadata_tree c.metadata_from_members.result) (sym (metadata_in_groups (seen (members_view c.args.map.now.entries)) c.args.context.version (depth_of c.args.context.depth))) c.metadata_from_members.ensures
+returns c = subst (Gives metadata_tree c.metadata_from_members.result) (sym (metadata_in_groups (seen (seen_of c.args.map.now.members.items)) c.args.context.version (depth_of c.args.context.depth))) c.metadata_from_members.ensures

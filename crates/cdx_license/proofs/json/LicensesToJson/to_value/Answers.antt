@@ -1,8 +1,0 @@
-use Rattle.std.proofs.Common.{refl}
-use Rattle.cdx_schema.specs.Kinds.{licenses}
-use Rattle.cdx_schema.specs.Table.{list}
-use Rattle.cdx_license.proofs.json.LicensesToJson.to_value.Goals as goal
-
-pub returns : goal.returns
-unfolding list
-returns c = c.list_to_value.ensures licenses refl
