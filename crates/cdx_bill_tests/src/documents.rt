@@ -11,7 +11,7 @@
 use crate::faults::of_road;
 use crate::last::in_pieces;
 use crate::short::{bill, hop_of, label, only, parse_xml, read, shown, whole};
-use cdx_bom::{Bom, Doc, Hop, OpenRoad, RoadError, into_open_road, into_road, recode, road};
+use cdx_bom::{Bom, Doc, Hop, RoadError, into_road, next_bill, recode, road, start_road};
 use cdx_events::{EventSource, List, MemoryEventSource, XmlEvent};
 use cdx_json::{FromJson, Kept};
 use cdx_leaf::FromXmlDocument;
@@ -138,16 +138,24 @@ fn told_road(alloc: Global, answer: Result<List<Doc>, RoadError>) -> Result<Stri
     }
 }
 
-// The same, the last document made piece by piece.
-fn told_open(alloc: Global, answer: Result<OpenRoad, RoadError>) -> Result<String, AllocError> {
-    let road = match answer {
-        Ok(road) => road,
+// The same, each document made of its hop's bill, piece by piece.
+fn told_pieces(
+    alloc: Global,
+    start: Result<Bom, RoadError>,
+    hops: &[Hop],
+) -> Result<String, AllocError> {
+    let mut bill = match start {
+        Ok(bill) => bill,
         Err(error) => return of_road(alloc, &error),
     };
-    let mut texts = texts_of(alloc, road.docs.as_slice())?;
-    if let Some(last) = &road.last {
+    let mut texts = String::new(alloc);
+    for hop in hops {
         texts.push(' ')?;
-        texts.push_str(in_pieces(alloc, &last.bill, last.hop)?.as_str())?;
+        texts.push_str(in_pieces(alloc, &bill, *hop)?.as_str())?;
+        bill = match next_bill(alloc, bill, *hop) {
+            Ok(next) => next,
+            Err(error) => return of_road(alloc, &error),
+        };
     }
     Ok(texts)
 }
@@ -164,7 +172,7 @@ fn recoded(alloc: Global, doc: &Doc, version: SpecVersion, hop: Hop) -> Result<S
 fn carried(alloc: Global, case: &Case<'_>) -> Result<String, Fail> {
     let (hops, _) = along(alloc, case.answer)?;
     let text = whole(alloc, case.given)?;
-    let open = into_open_road(
+    let start = start_road(
         alloc,
         doc(alloc, text.as_str())?,
         case.version,
@@ -180,7 +188,7 @@ fn carried(alloc: Global, case: &Case<'_>) -> Result<String, Fail> {
     if told_road(alloc, into_road(alloc, doc, case.version, hops.as_slice()))? != found {
         return Err(Fail::new("carried otherwise"));
     }
-    if told_open(alloc, open)? != found {
+    if told_pieces(alloc, start, hops.as_slice())? != found {
         return Err(Fail::new("made otherwise in pieces"));
     }
     Ok(found)

@@ -1,5 +1,5 @@
 -- Steps of a road.
-use Rattle.std.proofs.Common.{◌≡◌, refl, sym, ap, subst, ◌∙◌, List, [], ◌∷◌, ◌++◌, Bool, true, false, Some, Result, Ok, Err}
+use Rattle.std.proofs.Common.{◌≡◌, refl, sym, ap, subst, ◌∙◌, List, [], ◌∷◌, ◌++◌, Bool, true, false, true≢false, is_some, Some, None, Result, Ok, Err}
 use Rattle.std.specs.Prelude.{not, ◌&&◌, ◌||◌, if◌then◌else◌}
 use Rattle.serde_json.specs.View.{view}
 use Rattle.serde_json.specs.declared.value.Value.{Value}
@@ -9,17 +9,26 @@ use Rattle.cdx_models.specs.declared.errors.JsonReadError.{JsonReadError}
 use Rattle.cdx_models.specs.declared.errors.JsonReadError.TheVariants as in_json
 use Rattle.cdx_models.specs.declared.errors.XmlReadError.{XmlReadError}
 use Rattle.cdx_models.specs.declared.errors.XmlReadError.TheVariants.{ElementReadError, UnexpectedElementReadError, RequiredDataMissing, RequiredAttributeMissing, InvalidParseError, InvalidNamespaceError, TooDeep, Memory}
-use Rattle.cdx_models.specs.Trees.{Tree}
+use mathlib.Core.Bool.{and-true}
+use Rattle.cdx_models.specs.Trees.{Tree, metadata, present}
 use Rattle.cdx_models.specs.Versions.{is_first}
 use Rattle.cdx_schema.specs.Faults.{JsonFault}
-use Rattle.cdx_schema.specs.Kinds.{a_bill}
-use Rattle.cdx_schema.specs.Keeping.{fits, has_versions}
+use Rattle.cdx_schema.specs.Kinds.{components, services, a_list, a_record, a_bill}
+use Rattle.cdx_schema.specs.Table.{rows}
+use Rattle.cdx_schema.specs.Keeping.{keep, fits, has_versions}
 use Rattle.cdx_schema.specs.JsonReading.{json_denotes}
 use Rattle.cdx_schema.specs.XmlReading.{xml_denotes}
 use Rattle.cdx_schema.specs.Results.{◌>>=◌}
 use Rattle.cdx_schema.specs.Trips as trips
 use Rattle.cdx_schema.specs.Roads as roads
-use Rattle.cdx_schema.specs.Roads.{Refusal, of_json, of_xml, version_missing, from_json, from_xml, denotes, fits_all, hops_from, road}
+use Rattle.cdx_schema.specs.Roads.{Refusal, document_of, of_json, of_xml, version_missing, from_json, from_xml, denotes, fits_all, hops_from, road}
+use Rattle.cdx_schema.proofs.Stated.{json_back, denotes_shapes}
+use Rattle.cdx_schema.proofs.Basics.{some_same}
+use Rattle.cdx_schema.proofs.JsonBack.{and_true}
+use Rattle.cdx_trips.specs.Surviving.{survives}
+use Rattle.cdx_trips.proofs.Untouched.{comes_back as trip_back}
+use Rattle.cdx_nest.specs.Nested.{components_tree, services_tree}
+use Rattle.cdx_nest.specs.Trees.{metadata_tree}
 use Rattle.cdx_leaf.specs.Reading.{ReadsRoot}
 use Rattle.cdx_json.specs.Gives.{Fails}
 use Rattle.cdx_leaf.specs.Fault as leaf
@@ -27,13 +36,12 @@ use Rattle.cdx_bom.specs.declared.bom.Bom.{Bom}
 use Rattle.cdx_bom.specs.declared.doc.Doc.{Doc}
 use Rattle.cdx_bom.specs.declared.doc.Doc.TheVariants as doc
 use Rattle.cdx_bom.specs.declared.doc.Hop.{Hop}
-use Rattle.cdx_bom.specs.declared.doc.OpenRoad.{OpenRoad}
 use Rattle.cdx_bom.specs.declared.doc.RoadError.{RoadError}
 use Rattle.cdx_bom.specs.declared.doc.RoadError.TheVariants as error
 use Rattle.cdx_bom.specs.Trees.{bom_tree}
 use Rattle.cdx_bom.specs.Docs.{IsDoc, AreDocs, refusal_of, Refuses, AnswersDocs, alone, hop_of, hops_of}
 use Rattle.cdx_bom.specs.Refused.{of_json_error, of_xml_error}
-use Rattle.cdx_bom.specs.Hops.{any_first, hop_document, last_documents, AnswersOpen}
+use Rattle.cdx_bom.specs.Hops.{any_first, DenotesBill, hop_document, IsDenoted, stands_in, comes_back, coming_back, next_of, AnswersStart}
 
 -- ---- refusals
 
@@ -83,16 +91,67 @@ xml_fault d events x v e is p h = by x (subst (λ z. IsDoc z x) is p)
     by (roads.json y) q = absurd q
     by (roads.xml y) q = xml_refuses e (xml_denotes y v) (h y q)
 
+-- ---- documents that need not be read
+
+pub bill_rows : (b : Bom) → survives (bom_tree b) a_bill
+    ≡ (survives (present metadata_tree b.metadata) (a_record metadata) && (survives (present components_tree b.components) (a_list components) && survives (present services_tree b.services) (a_list services)))
+unfolding survives rows
+bill_rows b = rw (and-true (survives (present services_tree b.services) (a_list services))) refl
+
+-- Where a document denotes the bill, what comes back is what this hop's document denotes.
+back_denoted : (b : Tree) (f : trips.Form) (w : SpecVersion) → IsDenoted b → fits w b a_bill ≡ true → stands_in f (keep w b a_bill) ≡ true → denotes (document_of f w (keep w b a_bill)) w ≡ Ok (keep w b a_bill)
+back_denoted b trips.in_json w known f e = let p = denotes_shapes known.0 known.1 b known.2 in ap from_json (json_back b w p.0 p.1 f)
+back_denoted b trips.in_xml w known f e = let p = denotes_shapes known.0 known.1 b known.2 in ap from_xml (trip_back b w p.0 p.1 f e)
+
+-- when the version can't hold the bill, when a trip takes something of what it keeps, and else
+module _ (b : Tree) (h : trips.Hop) where
+  pub unfit : fits h.version b a_bill ≡ false → None ≡ coming_back b h
+  unfit f = sym (ap (λ (c : Bool). if c && stands_in h.form (keep h.version b a_bill) then Some (keep h.version b a_bill) else None) f)
+
+  pub taken_of : (kept : Tree) → kept ≡ keep h.version b a_bill → fits h.version b a_bill ≡ true → stands_in h.form kept ≡ false → None ≡ coming_back b h
+  taken_of kept is f e = sym (ap (λ (c : Bool). if c && stands_in h.form (keep h.version b a_bill) then Some (keep h.version b a_bill) else None) f ∙ ap (λ (c : Bool). if c then Some (keep h.version b a_bill) else None) (sym (ap (stands_in h.form) is) ∙ e))
+
+  pub comes : (kept : Tree) → kept ≡ keep h.version b a_bill → fits h.version b a_bill ≡ true → stands_in h.form kept ≡ true → Some kept ≡ coming_back b h
+  comes kept is f e = ap Some is ∙ sym (ap (λ (c : Bool). if c && stands_in h.form (keep h.version b a_bill) then Some (keep h.version b a_bill) else None) f ∙ ap (λ (c : Bool). if c then Some (keep h.version b a_bill) else None) (sym (ap (stands_in h.form) is) ∙ e))
+
+-- the two ways of a choice
+came : (c : Bool) (t k : Tree) → Some t ≡ (if c then Some k else None) → (c ≡ true) × (t ≡ k)
+came true t k e = (refl, some_same e)
+came false t k e = absurd (true≢false (ap is_some e))
+
+stayed : (c : Bool) (k : Tree) → None ≡ (if c then Some k else None) → c ≡ false
+stayed true k e = absurd (true≢false (ap is_some (sym e)))
+stayed false k e = refl
+
+module _ (b : Tree) (h : trips.Hop) (next : Bom) (is : Some (bom_tree next) ≡ coming_back b h) where
+  both_ways : (comes_back b h ≡ true) × (bom_tree next ≡ keep h.version b a_bill)
+  both_ways = came (comes_back b h) (bom_tree next) (keep h.version b a_bill) is
+
+  -- what comes back is the next bill
+  pub back_next : DenotesBill (next_of b h) (Ok next)
+  back_next = ap (λ (c : Bool). if c then Ok (keep h.version b a_bill) else denotes (hop_document b h) h.version) both_ways.0 ∙ ap Ok (sym both_ways.1)
+
+  pub back_read : IsDenoted b → DenotesBill (denotes (hop_document b h) h.version) (Ok next)
+  back_read known =
+      let p = and_true (fits h.version b a_bill) (stands_in h.form (keep h.version b a_bill)) both_ways.0 in
+      back_denoted b h.form h.version known p.0 p.1 ∙ ap Ok (sym both_ways.1)
+
+-- what is read is the next bill
+pub read_next : (b : Tree) (h : trips.Hop) (r : Result Bom RoadError) → None ≡ coming_back b h → DenotesBill (denotes (hop_document b h) h.version) r → DenotesBill (next_of b h) r
+read_next b h r e is =
+    subst (λ (c : Bool). DenotesBill (if c then Ok (keep h.version b a_bill) else denotes (hop_document b h) h.version) r) (sym (stayed (comes_back b h) (keep h.version b a_bill) e)) is
+
 -- ---- the documents of a road
 
 -- what the hops make of a bill, the first of which writes it
 abbrev from_bill : Tree → trips.Hop → List trips.Hop → Result (List roads.Doc) Refusal
 from_bill b h hs = hops_from (hop_document b h) h.version hs >>= λ more. Ok (hop_document b h ∷ more)
 
--- These documents stand for the road so far; the hop and the rest of them go on from the bill.
+-- These documents stand for the road so far; the hop and the rest of them go on from the bill, which a document denotes.
 pub record IsAlong (start : Bom) (hops rest : List Hop) (docs : List Doc) (bill : Bom) (hop : Hop) : Type 0 where
   pub ys : List roads.Doc
   pub are : AreDocs docs ys
+  pub known : IsDenoted (bom_tree start) → IsDenoted (bom_tree bill)
   pub whole : (x : roads.Doc) (v : SpecVersion) → denotes x v ≡ Ok (bom_tree start) → hops_from x v (hops_of hops) ≡ (from_bill (bom_tree bill) (hop_of hop) (hops_of rest) >>= λ more. Ok (ys ++ more))
 
 append_again : {A : Type 0} (xs : List A) (y : A) (ys : List A) → xs ++ y ∷ ys ≡ (xs ++ y ∷ []) ++ ys
@@ -115,15 +174,17 @@ module _ (start : Bom) (hops : List Hop) where
   begins h rest is = record {
     ys = [];
     are = tt;
+    known = λ k. k;
     whole = λ x v e. ap (λ hs. hops_from x v (hops_of hs)) is ∙ ap (λ r. r >>= λ b. from_bill b (hop_of h) (hops_of rest)) e ∙ as_is (from_bill (bom_tree start) (hop_of h) (hops_of rest));
   }
 
   -- one more
-  pub goes_on : (next : Hop) (rest : List Hop) (docs : List Doc) (bill : Bom) (h : Hop) (a : IsAlong start hops (next ∷ rest) docs bill h) (d : Doc) (read : Bom) → IsDoc d (hop_document (bom_tree bill) (hop_of h)) → denotes (hop_document (bom_tree bill) (hop_of h)) h.version ≡ Ok (bom_tree read) → IsAlong start hops rest (docs ++ d ∷ []) read next
+  pub goes_on : (next : Hop) (rest : List Hop) (docs : List Doc) (bill : Bom) (h : Hop) (a : IsAlong start hops (next ∷ rest) docs bill h) (d : Doc) (read : Bom) → IsDoc d (hop_document (bom_tree bill) (hop_of h)) → (IsDenoted (bom_tree bill) → denotes (hop_document (bom_tree bill) (hop_of h)) h.version ≡ Ok (bom_tree read)) → IsAlong start hops rest (docs ++ d ∷ []) read next
   goes_on next rest docs bill h a d read p e = record {
     ys = a.ys ++ y ∷ [];
     are = one_more_doc docs a.ys d y a.are p;
-    whole = λ x w i. a.whole x w i ∙ ap (λ r. (r >>= λ b. from_bill b (hop_of next) (hops_of rest)) >>= (λ more. Ok (y ∷ more)) >>= λ more. Ok (a.ys ++ more)) e ∙ joined (from_bill (bom_tree read) (hop_of next) (hops_of rest));
+    known = λ k. (y, h.version, e (a.known k));
+    whole = λ x w i. a.whole x w i ∙ ap (λ r. (r >>= λ b. from_bill b (hop_of next) (hops_of rest)) >>= (λ more. Ok (y ∷ more)) >>= λ more. Ok (a.ys ++ more)) (e (a.known (x, w, i))) ∙ joined (from_bill (bom_tree read) (hop_of next) (hops_of rest));
   }
     where
       y : roads.Doc
@@ -134,20 +195,20 @@ module _ (start : Bom) (hops : List Hop) where
       joined (Err f) = refl
 
   -- what a hop has written is refused
-  pub stops : (next : Hop) (rest : List Hop) (docs : List Doc) (bill : Bom) (h : Hop) (a : IsAlong start hops (next ∷ rest) docs bill h) (e : RoadError) → Refuses (denotes (hop_document (bom_tree bill) (hop_of h)) h.version) e
+  pub stops : (next : Hop) (rest : List Hop) (docs : List Doc) (bill : Bom) (h : Hop) (a : IsAlong start hops (next ∷ rest) docs bill h) (e : RoadError) → (IsDenoted (bom_tree bill) → Refuses (denotes (hop_document (bom_tree bill) (hop_of h)) h.version) e)
       → (x : roads.Doc) (w : SpecVersion) → denotes x w ≡ Ok (bom_tree start) → Refuses (hops_from x w (hops_of hops)) e
   stops next rest docs bill h a e r x w d =
       subst (λ q. Refuses q e) (sym (a.whole x w d))
       (refused_on e (from_bill (bom_tree bill) (hop_of h) (hops_of (next ∷ rest))) (λ more. Ok (a.ys ++ more))
       (refused_on e (hops_from y h.version (hops_of (next ∷ rest))) (λ more. Ok (y ∷ more))
-      (refused_on e (denotes y h.version) (λ b. from_bill b (hop_of next) (hops_of rest)) r)))
+      (refused_on e (denotes y h.version) (λ b. from_bill b (hop_of next) (hops_of rest)) (r (a.known (x, w, d))))))
     where
       y : roads.Doc
       y = hop_document (bom_tree bill) (hop_of h)
 
   -- no hop is left but the last
-  pub ends : (docs : List Doc) (bill : Bom) (h : Hop) (a : IsAlong start hops [] docs bill h) (x : roads.Doc) (w : SpecVersion) → denotes x w ≡ Ok (bom_tree start) → AnswersOpen (hops_from x w (hops_of hops)) (Ok (record { docs = docs; last = Some (record { bill = bill; hop = h }) }))
-  ends docs bill h a x w d = (a.ys, a.are, a.whole x w d)
+  pub ends : (docs : List Doc) (bill : Bom) (h : Hop) (a : IsAlong start hops [] docs bill h) (d : Doc) → IsDoc d (hop_document (bom_tree bill) (hop_of h)) → (x : roads.Doc) (w : SpecVersion) → denotes x w ≡ Ok (bom_tree start) → AnswersDocs (hops_from x w (hops_of hops)) (Ok (docs ++ d ∷ []))
+  ends docs bill h a d p x w i = (a.ys ++ hop_document (bom_tree bill) (hop_of h) ∷ [], a.whole x w i, one_more_doc docs a.ys d (hop_document (bom_tree bill) (hop_of h)) a.are p)
 
 -- ---- versions
 
@@ -182,14 +243,13 @@ missing_then e x v hs b d f r = this_refusal e version_missing (road x v hs) r (
 unless_missing : (x : roads.Doc) (v : SpecVersion) (hs : List trips.Hop) (b : Tree) → denotes x v ≡ Ok b → fits_all hs b ≡ true → road x v hs ≡ hops_from x v hs
 unless_missing x v hs b d f = ap (λ q. q >>= after_bill x v hs) d ∙ ap (λ (c : Bool). if c then hops_from x v hs else Err version_missing) f
 
--- the hops make the documents
-pub hops_then : (result : Result OpenRoad RoadError) (x : roads.Doc) (v : SpecVersion) (hs : List trips.Hop) (b : Tree) → denotes x v ≡ Ok b → fits_all hs b ≡ true → AnswersOpen (hops_from x v hs) result → AnswersOpen (road x v hs) result
-hops_then result x v hs b d f h = subst (λ r. AnswersOpen r result) (sym (unless_missing x v hs b d f)) h
+-- the road starts
+pub starts : (bill : Bom) (x : roads.Doc) (v : SpecVersion) (hs : List trips.Hop) → denotes x v ≡ Ok (bom_tree bill) → fits_all hs (bom_tree bill) ≡ true → AnswersStart x v hs (Ok bill)
+starts bill x v hs d f = (d, unless_missing x v hs (bom_tree bill) d f)
 
--- ---- all documents of a road
-
-pub all_written : (made : OpenRoad) (docs : List Doc) (owed : Result (List roads.Doc) Refusal) → AnswersOpen owed (Ok made) → ((first : List roads.Doc) → AreDocs made.docs first → AreDocs docs (first ++ last_documents made.last)) → AnswersDocs owed (Ok docs)
-all_written made docs owed h are = (h.0 ++ last_documents made.last, h.2, are h.0 h.1)
+-- the hops make the documents of the road that has started
+pub hops_then : (result : Result (List Doc) RoadError) (bill : Bom) (x : roads.Doc) (v : SpecVersion) (hs : List trips.Hop) → AnswersStart x v hs (Ok bill) → (denotes x v ≡ Ok (bom_tree bill) → AnswersDocs (hops_from x v hs) result) → AnswersDocs (road x v hs) result
+hops_then result bill x v hs a f = subst (λ r. AnswersDocs r result) (sym a.1) (f a.0)
 
 -- ---- roads of one hop
 

@@ -15,6 +15,7 @@ pub(crate) mod parts;
 mod sending;
 pub(crate) mod settled;
 mod shallow;
+mod surviving;
 
 use cdx_models::{ExternalReferences, HasTree, Properties, SpecVersion, UrnUuid};
 use cdx_nest::{Components, Metadata, Services};

@@ -1,7 +1,6 @@
 //! Documents, and roads of hops from one to the next.
 
-use crate::bom::Bom;
-use cdx_events::{Events, List};
+use cdx_events::Events;
 use cdx_models::{BomError, JsonReadError, SpecVersion, XmlReadError};
 use serde_json::Value;
 use std::alloc::AllocError;
@@ -31,24 +30,6 @@ pub struct Hop {
     pub form: Form,
     /// The version that is written.
     pub version: SpecVersion,
-}
-
-/// The last hop of a road, and the bill that it writes.
-#[derive(Debug, Drop)]
-pub struct LastHop {
-    /// The bill that the document before denotes.
-    pub bill: Bom,
-    /// How the bill is to be written.
-    pub hop: Hop,
-}
-
-/// A road whose last document may still be to be written.
-#[derive(Debug, Drop)]
-pub struct OpenRoad {
-    /// The documents that are written, in order.
-    pub docs: List<Doc>,
-    /// The last hop, where its document is still to be written.
-    pub last: Option<LastHop>,
 }
 
 /// Why a road gives no documents.

@@ -15,12 +15,12 @@ mod xml;
 
 pub use bom::Bom;
 pub use bom::settled::same;
-pub use doc::{Doc, Form, Hop, LastHop, OpenRoad, RoadError};
+pub use doc::{Doc, Form, Hop, RoadError};
 pub use laws::{reads_without_empty_texts, roads_join, roads_settle};
 pub use push::{PushError, PushReader};
 pub use putting::{PutError, put_text};
 pub use roads::{
-    fits_all, into_bill, into_open_road, into_road, is_document, one_document, recode, road,
+    fits_all, into_bill, into_road, is_document, next_bill, one_document, recode, road, start_road,
     version_missing,
 };
 pub use xml::pieces::DocumentPieces;

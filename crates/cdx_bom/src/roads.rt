@@ -1,19 +1,21 @@
 //! Documents beside those of the schema, and roads.
 
-ghost use Rattle.std.specs.Prelude.{◌≡◌, ◌++◌, List as Each, IfOk, Ok, Some};
+ghost use Rattle.std.specs.Prelude.{◌≡◌, IfOk, Ok, Some, option_map};
 ghost use Rattle.cdx_models.specs.declared.bom.SpecVersion.{SpecVersion};
+ghost use Rattle.cdx_schema.specs.Kinds.{a_bill};
+ghost use Rattle.cdx_schema.specs.Keeping.{keep};
 ghost use Rattle.cdx_schema.specs.Roads as roads;
 ghost use Rattle.cdx_bom.specs.declared.doc.Doc.{Doc};
 ghost use Rattle.cdx_bom.specs.Trees.{bom_tree};
-ghost use Rattle.cdx_bom.specs.Docs.{IsDoc, AreDocs, hop_of, hops_of, refusal_of, AnswersRoad, AnswersHop};
-ghost use Rattle.cdx_bom.specs.Hops.{any_first, DenotesBill, hop_document, last_documents, AnswersOpen, AnswersOpenRoad};
+ghost use Rattle.cdx_bom.specs.Docs.{IsDoc, hop_of, hops_of, refusal_of, AnswersDocs, AnswersRoad, AnswersHop};
+ghost use Rattle.cdx_bom.specs.Hops.{any_first, DenotesBill, IsDenoted, stands_in, coming_back, next_of, hop_document, AnswersStart, StartsRoad};
 
 use crate::bom::Bom;
-use crate::doc::{Doc, Form, Hop, LastHop, OpenRoad, RoadError};
+use crate::doc::{Doc, Form, Hop, RoadError};
 use crate::refused::lacks_version;
 use crate::xml::writing::document_events;
 use cdx_events::List;
-use cdx_json::ToJson;
+use cdx_json::{Kept, ToJson};
 use cdx_leaf::FromXmlDocument;
 use cdx_models::SpecVersion;
 use cdx_schema::Target;
@@ -99,55 +101,100 @@ pub fn version_missing() -> RoadError
     RoadError::Bom(lacks_version())
 }
 
-// The documents of the hops but the last, each of the document before it, and the bill that the last hop writes. The first
-// hop writes the bill.
-fn up_to_last(alloc: Global, start: Bom, hops: &[Hop]) -> Result<OpenRoad, RoadError>
+// Whether what the hop's version has kept comes back of the hop's form.
+fn stands_in(kept: &Bom, hop: Hop) -> bool
+    ensures { result ≡ stands_in (hop_of hop).form (bom_tree kept.now) }
+{
+    match hop.form {
+        Form::Json => true,
+        Form::Xml => kept.survives(),
+    }
+}
+
+// What the hop's version keeps of the bill, where its document denotes that.
+fn coming_back(alloc: Global, bill: &Bom, hop: Hop) -> Result<Option<Bom>, AllocError>
+    ensures { IfOk result
+        (λ back. option_map bom_tree back ≡ coming_back (bom_tree bill.now) (hop_of hop)) }
+{
+    if !bill.fits(hop.version) {
+        return Ok(None);
+    }
+    let kept = bill.kept(alloc, hop.version)?;
+    if !stands_in(&kept, hop) {
+        drop(kept);
+        return Ok(None);
+    }
+    Ok(Some(kept))
+}
+
+/// The bill that the next hop of a road writes, after this hop has written its document of the bill: what the document
+/// denotes, where the bill is one that a document denotes. Where the version can hold the bill and the form takes nothing
+/// of it, that is what the version keeps, and no document is made; else the document is made and read, and `Json` or `Xml`
+/// is its first fault. Want of memory comes only as `Memory`.
+pub fn next_bill(alloc: Global, bill: Bom, hop: Hop) -> Result<Bom, RoadError>
+    ensures exact { DenotesBill (next_of (bom_tree bill) (hop_of hop)) result }
+    ensures denoted { IsDenoted (bom_tree bill) → DenotesBill
+        (roads.denotes (hop_document (bom_tree bill) (hop_of hop)) hop.version) result }
+{
+    match coming_back(alloc, &bill, hop)? {
+        Some(kept) => {
+            drop(bill);
+            Ok(kept)
+        }
+        None => {
+            let doc = spell_freed(alloc, bill, hop)?;
+            bill_of(alloc, &doc, hop.version)
+        }
+    }
+}
+
+// The same of a hop that has written this document.
+fn read_again(alloc: Global, bill: Bom, doc: &Doc, hop: Hop) -> Result<Bom, RoadError>
+    ensures { IsDoc doc.now (hop_document (bom_tree bill) (hop_of hop))
+        → IsDenoted (bom_tree bill) → DenotesBill
+        (roads.denotes (hop_document (bom_tree bill) (hop_of hop)) hop.version) result }
+{
+    let back = coming_back(alloc, &bill, hop)?;
+    drop(bill);
+    match back {
+        Some(kept) => Ok(kept),
+        None => bill_of(alloc, doc, hop.version),
+    }
+}
+
+// The documents of the hops, each of the bill that the document before it denotes. The first hop writes the bill.
+fn documents(alloc: Global, start: Bom, hops: &[Hop]) -> Result<List<Doc>, RoadError>
     ensures { (x : roads.Doc) (v : SpecVersion) → roads.denotes x v ≡ Ok (bom_tree start)
-        → AnswersOpen (roads.hops_from x v (hops_of hops.now)) result }
+        → AnswersDocs (roads.hops_from x v (hops_of hops.now)) result }
 {
     let mut docs = List::new(alloc);
     let Some((first, rest)) = hops.split_first() else {
         drop(start);
-        return Ok(OpenRoad { docs, last: None });
+        return Ok(docs);
     };
     let mut bill = start;
     let mut hop = *first;
     for next in rest {
-        let doc = spell_freed(alloc, bill, hop)?;
-        bill = bill_of(alloc, &doc, hop.version)?;
+        let doc = spell(alloc, &bill, hop)?;
+        bill = read_again(alloc, bill, &doc, hop)?;
         docs.push(doc)?;
         hop = *next;
     }
-    Ok(OpenRoad {
-        docs,
-        last: Some(LastHop { bill, hop }),
-    })
+    let doc = spell_freed(alloc, bill, hop)?;
+    docs.push(doc)?;
+    Ok(docs)
 }
 
-// The road of the hops from the bill on, unless a hop's version can't hold it.
-fn carry(alloc: Global, bill: Bom, hops: &[Hop]) -> Result<OpenRoad, RoadError>
+// The bill, unless a hop's version can't hold it.
+fn fitting(bill: Bom, hops: &[Hop]) -> Result<Bom, RoadError>
     ensures { (x : roads.Doc) (v : SpecVersion) → roads.denotes x v ≡ Ok (bom_tree bill)
-        → AnswersOpen (roads.road x v (hops_of hops.now)) result }
+        → AnswersStart x v (hops_of hops.now) result }
 {
     if !fits_all(&bill, hops) {
         drop(bill);
         return Err(version_missing());
     }
-    up_to_last(alloc, bill, hops)
-}
-
-// All documents of the road: the last one is written now.
-fn written(alloc: Global, road: OpenRoad) -> Result<List<Doc>, AllocError>
-    ensures { (first : Each roads.Doc) → AreDocs road.docs first
-        → IfOk result (λ docs. AreDocs docs (first ++ last_documents road.last)) }
-{
-    let OpenRoad { mut docs, last } = road;
-    let Some(LastHop { bill, hop }) = last else {
-        return Ok(docs);
-    };
-    let doc = spell_freed(alloc, bill, hop)?;
-    docs.push(doc)?;
-    Ok(docs)
+    Ok(bill)
 }
 
 /// The documents of a road: each hop reads the document before it, in the version in which that was written, and
@@ -165,8 +212,8 @@ pub fn road(
     ensures { AnswersRoad doc.now version hops.now result }
 {
     let bill = bill_of(alloc, doc, version)?;
-    let road = carry(alloc, bill, hops)?;
-    Ok(written(alloc, road)?)
+    let start = fitting(bill, hops)?;
+    documents(alloc, start, hops)
 }
 
 /// The bill of a document, read in a version, or its first fault as `Json` or `Xml`. Nothing else needs the document, and
@@ -177,19 +224,19 @@ pub fn into_bill(alloc: Global, doc: Doc, version: SpecVersion) -> Result<Bom, R
     bill_of(alloc, &doc, version)
 }
 
-/// `road` of a document that nothing else needs, up to its last document, which is still to be written: so it can be
-/// printed as it is made. The document is freed once its bill is read. Refused as `road` is, and want of memory comes only
-/// as `Memory`.
-pub fn into_open_road(
+/// The bill with which the road of a document starts: each hop makes its document of a bill, and gives the next one by
+/// `next_bill`. So a document can be printed as it is made, and none need be there as a whole. Refused as `road` is. The
+/// document is freed once its bill is read. Want of memory comes only as `Memory`.
+pub fn start_road(
     alloc: Global,
     doc: Doc,
     version: SpecVersion,
     hops: &[Hop],
-) -> Result<OpenRoad, RoadError>
-    ensures { AnswersOpenRoad doc version hops.now result }
+) -> Result<Bom, RoadError>
+    ensures { StartsRoad doc version hops.now result }
 {
     let bill = into_bill(alloc, doc, version)?;
-    carry(alloc, bill, hops)
+    fitting(bill, hops)
 }
 
 /// `road` of a document that nothing else needs. It is freed once its bill is read, so that its memory serves the
@@ -202,8 +249,8 @@ pub fn into_road(
 ) -> Result<List<Doc>, RoadError>
     ensures { AnswersRoad doc version hops.now result }
 {
-    let road = into_open_road(alloc, doc, version, hops)?;
-    Ok(written(alloc, road)?)
+    let start = start_road(alloc, doc, version, hops)?;
+    documents(alloc, start, hops)
 }
 
 /// The road of one hop: the document that it makes of `doc`, which stands in `version`. Refused as `road` is: for the

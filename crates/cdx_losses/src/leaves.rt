@@ -25,7 +25,8 @@ use cdx_models::{OrganizationalContact, OrganizationalEntity, SpecVersion, Tool}
 use cdx_patch::{Issue, Patch, Patches};
 use cdx_relations::{Composition, Compositions};
 use cdx_service_data::{Data, ServiceData};
-use hollow::{contacts_reason, diff_reason, is_blank, source_reason, urls_reason};
+use cdx_trips::is_hollow_contact;
+use hollow::{contacts_reason, diff_reason, source_reason, urls_reason};
 pub(crate) use hollow::{evidence_reason, supplier_reason};
 use std::alloc::AllocError;
 
@@ -82,7 +83,7 @@ impl Losing for OrganizationalContact {
     ghost kind = { a_record contact };
 
     fn lose(&self, road: Road, walk: &mut Walk) -> Result<(), AllocError> {
-        match road.unwritten(is_blank(self)) {
+        match road.unwritten(is_hollow_contact(self)) {
             None => Ok(()),
             Some(reason) => walk.record(reason),
         }

@@ -1,6 +1,5 @@
 -- What is answered is the reply that is owed.
-use Rattle.std.proofs.Common.{◌≡◌, ◌∙◌, List, [], ◌∷◌, ◌++◌, length, map, codes, Option, Some, IsSome, Result, Err, refl, sym, ap}
-use Rattle.std.proofs.lemmas.List.{map-append}
+use Rattle.std.proofs.Common.{◌≡◌, List, [], ◌∷◌, length, map, codes, Option, Some, IsSome, Result, Err, refl, sym, ap}
 use Rattle.std.specs.declared.alloc.AllocError.{AllocError}
 use Rattle.cdx_models.specs.Trees.{Tree}
 use Rattle.cdx_schema.specs.Kinds.{a_bill}
@@ -35,9 +34,6 @@ docs_are [] (x ∷ xs) are = absurd are
 docs_are (d ∷ ds) [] are = absurd are
 docs_are (d ∷ ds) (x ∷ xs) are = rw (doc_is d x are.0, docs_are ds xs are.1) refl
 
-pub all_docs : (ds : List Doc) (xs more : List roads.Doc) → AreDocs ds xs → map doc_shown ds ++ map doc_value more ≡ map doc_value (xs ++ more)
-all_docs ds xs more are = ap (λ vs. vs ++ map doc_value more) (docs_are ds xs are) ∙ sym (map-append doc_value xs more)
-
 -- an error other than want of memory is the refusal that is owed
 pub refuses : (owed : Result (List roads.Doc) Refusal) (e : RoadError) → ((m : AllocError) → e ≡ error.Memory m → ⊥) → Refuses owed e → (r : Refusal) × (refusal_of e ≡ Some r) × (owed ≡ Err r)
 refuses owed (error.Json f) other h = h
@@ -55,7 +51,7 @@ two_docs (d ∷ []) x y are = absurd are.1
 two_docs (d ∷ e ∷ []) x y are = refl
 two_docs (d ∷ e ∷ f ∷ ds) x y are = absurd are.1.1
 
--- ---- the document of a last hop
+-- ---- the document of a hop
 
 module _ (b : Tree) (h : Hop) where
   pub in_json : h.form ≡ form.Json → only (codes "json") (kept_json h.version b) ≡ doc_value (hop_document b (hop_of h))

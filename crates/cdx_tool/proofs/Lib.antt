@@ -11,3 +11,4 @@ pub mod Printing
 pub mod InPieces
 pub mod LoneMember
 pub mod Asked
+pub mod Underway

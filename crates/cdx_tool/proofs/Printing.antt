@@ -1,9 +1,8 @@
 -- What is printed piece by piece is the value's text.
 use Rattle.std.proofs.Common.{◌≡◌, ◌∙◌, ℕ, List, [], ◌∷◌, ◌++◌, map, codes, true, false, Option, Some, None, Result, Ok, Err, OnOk, refl, sym, ap, append_assoc}
-use Rattle.std.proofs.lemmas.Bool.{or_parts}
 use Rattle.serde_json.specs.Data.{Data, string, array, object, Items, Members, no_members, member, put}
 use Rattle.serde_json.specs.View.{items_of}
-use Rattle.serde_json.specs.Written.{has_float, items_have_float, compact_text, items_text, members_text}
+use Rattle.serde_json.specs.Written.{compact_text, items_text, members_text}
 use Rattle.serde_json.proofs.OnLiterals.{serde_json_on_literals}
 use Rattle.cdx_events.specs.declared.event.XmlEvent.{XmlEvent}
 use Rattle.cdx_events.specs.declared.name.OwnedName.{OwnedName}
@@ -178,13 +177,6 @@ json_printed before d = first_printed before (codes "{\"json\":") (codes "json")
 pub xml_printed : (before : List ℕ) (d : Data) → ((before ++ codes "{\"xml\":") ++ compact_text d) ++ codes "}" ≡ before ++ compact_text (only (codes "xml") d)
 unfolding serde_json_on_literals
 xml_printed before d = first_printed before (codes "{\"xml\":") (codes "xml") d no_members refl
-
-pub free_inside : (name : List ℕ) (d : Data) → has_float (only name d) ≡ false → has_float d ≡ false
-free_inside name d free = (or_parts (has_float d) false free).0
-
-pub first_free : (ds es : List Data) → items_have_float (items_of (ds ++ es)) ≡ false → items_have_float (items_of ds) ≡ false
-first_free [] es free = refl
-first_free (d ∷ ds) es free = let parts = or_parts (has_float d) (items_have_float (items_of (ds ++ es))) free in rw (parts.0, first_free ds es parts.1) refl
 
 pub documents_printed : (text : List ℕ) (ds : Items) → text ≡ codes "{\"documents\":[" ++ items_text false ds → text ++ codes "}\n" ≡ line_of (only (codes "documents") (array ds))
 unfolding serde_json_on_literals

@@ -1,11 +1,15 @@
 -- Items and events that are printed as JSON piece by piece, each piece after the text before it.
-use Rattle.std.specs.Prelude.{◌≡◌, ℕ, List, [], ◌∷◌, ◌++◌, map, codes, Bool, Option, Some, None}
+use Rattle.std.specs.Prelude.{◌≡◌, ℕ, List, [], ◌∷◌, ◌++◌, map, codes, Bool, false, Option, Some, None, Result, Ok, Err}
 use Rattle.serde_json.specs.Data.{Data, array}
 use Rattle.serde_json.specs.View.{items_of}
 use Rattle.serde_json.specs.Written.{compact_text, items_text}
 use Rattle.cdx_events.specs.declared.name.OwnedName.{OwnedName}
 use Rattle.cdx_events.specs.declared.name.OwnedAttribute.{OwnedAttribute}
+use Rattle.cdx_schema.specs.Roads.{Doc, Refusal}
+use Rattle.cdx_bom.specs.declared.doc.RoadError.{RoadError}
+use Rattle.cdx_bom.specs.Docs.{Refuses}
 use Rattle.cdx_request.specs.EventValues.{attribute_value}
+use Rattle.cdx_request.specs.Replies.{line_of, doc_value, documents_value}
 use Rattle.cdx_print.specs.Prints.{then_text}
 
 abbrev pub then_text_if : List ℕ → Option (List ℕ) → List ℕ → List ℕ
@@ -31,3 +35,15 @@ then_attributes (a ∷ more) before = ((before ++ codes "\"attributes\":") ++ co
 -- one where `later` says so, and with the bracket that follows, it is the text of all of them.
 abbrev pub PrintsItems : List Data → List ℕ → Bool → List ℕ → Bool → Type 0
 PrintsItems ds old first new later = (more : List Data) → new ++ items_text later (items_of more) ≡ old ++ items_text first (items_of (ds ++ more))
+
+-- ---- the documents of a road
+
+-- After a text these documents were printed, and the bracket behind them; or the error is the refusal.
+abbrev pub PrintsRoad : Result (List Doc) Refusal → List ℕ → List ℕ → Result (Unit {0}) RoadError → Type 0
+PrintsRoad owed old new (Ok u) = (docs : List Doc) × (owed ≡ Ok docs) × (new ≡ old ++ items_text false (items_of (map doc_value docs)))
+PrintsRoad owed old new (Err e) = Refuses owed e
+
+-- The text is the line of these documents, or the error is the refusal.
+abbrev pub AnswersLine : Result (List Doc) Refusal → Result (List ℕ) RoadError → Type 0
+AnswersLine owed (Ok text) = (docs : List Doc) × (owed ≡ Ok docs) × (text ≡ line_of (documents_value docs))
+AnswersLine owed (Err e) = Refuses owed e

@@ -4,6 +4,6 @@ mod print;
 mod read;
 mod write;
 
-pub(crate) use print::{print_document, print_events};
+pub(crate) use print::print_document;
 pub(crate) use read::events_if;
 pub use write::events_to_json;

@@ -15,51 +15,9 @@ use cdx_component_parts::ComponentEvidence;
 use cdx_events::{List as Items, Text};
 use cdx_models::{OrganizationalContact, OrganizationalEntity};
 use cdx_patch::{Diff, Source};
-
-// ---- records without children
-
-fn has_no_address(contact: &OrganizationalContact) -> bool
-    ensures { result ≡ (not (is_some contact.now.email) && not (is_some contact.now.phone)) }
-{
-    contact.email.is_none() && contact.phone.is_none()
-}
-
-/// Whether a contact has neither a name, nor an address for mail, nor a number to call.
-pub(super) fn is_blank(contact: &OrganizationalContact) -> bool
-    ensures { result ≡ is_hollow (contact_tree contact.now) }
-{
-    contact.name.is_none() && has_no_address(contact)
-}
-
-fn is_hollow_diff(diff: &Diff) -> bool
-    ensures { result ≡ is_hollow (diff_tree diff.now) }
-{
-    diff.text.is_none() && diff.url.is_none()
-}
-
-fn is_hollow_source(source: &Source) -> bool
-    ensures { result ≡ is_hollow (source_tree source.now) }
-{
-    source.name.is_none() && source.url.is_none()
-}
-
-fn is_hollow_evidence(evidence: &ComponentEvidence) -> bool
-    ensures { result ≡ is_hollow (evidence_tree evidence.now) }
-{
-    evidence.licenses.is_none() && evidence.copyright.is_none()
-}
-
-fn has_no_list(entity: &OrganizationalEntity) -> bool
-    ensures { result ≡ (not (is_some entity.now.url) && not (is_some entity.now.contact)) }
-{
-    entity.url.is_none() && entity.contact.is_none()
-}
-
-fn is_hollow_entity(entity: &OrganizationalEntity) -> bool
-    ensures { result ≡ is_hollow (entity_tree entity.now) }
-{
-    entity.name.is_none() && has_no_list(entity)
-}
+use cdx_trips::{
+    is_hollow_contact, is_hollow_diff, is_hollow_entity, is_hollow_evidence, is_hollow_source,
+};
 
 /// Why a road takes a patch's diff.
 pub(super) fn diff_reason(road: Road, held: &Option<Diff>) -> Option<Reason>
@@ -99,7 +57,7 @@ fn are_blank(contacts: &[OrganizationalContact]) -> bool
     ensures { result ≡ is_left_out (list_tree contact_tree contacts.now) }
 {
     for contact in contacts {
-        if !is_blank(contact) {
+        if !is_hollow_contact(contact) {
             return false;
         }
     }

@@ -1,23 +1,22 @@
 //! The answer to the bytes of a request.
 
-ghost use Rattle.std.specs.Prelude.{◌≡◌, ◌++◌, List, false, option_map, IfOk, Result as Owed};
+ghost use Rattle.std.specs.Prelude.{◌≡◌, List, false, option_map, IfOk, Result as Owed};
 ghost use Rattle.serde_json.specs.View.{view};
 ghost use Rattle.serde_json.specs.Written.{has_float};
 ghost use Rattle.cdx_schema.specs.Roads.{Doc as SchemaDoc, Refusal, road as road_of};
-ghost use Rattle.cdx_bom.specs.Docs.{AreDocs, Refuses};
-ghost use Rattle.cdx_bom.specs.Hops.{last_documents};
+ghost use Rattle.cdx_bom.specs.Docs.{Refuses};
 ghost use Rattle.cdx_request.specs.Requests.{Request as Asked, document_in_json, request_of, request_in};
 ghost use Rattle.cdx_request.specs.Refusals.{imbalance_value as unbalanced_at};
-ghost use Rattle.cdx_request.specs.Replies.{line_of, reply, no_request, reply_to, reply_to_request, reply_to_road, documents_value as documents_in};
+ghost use Rattle.cdx_request.specs.Replies.{line_of, reply, no_request, reply_to, reply_to_request, reply_to_road};
 ghost use Rattle.cdx_tool.specs.Reads.{IsRequest};
 ghost use Rattle.cdx_tool.specs.Shows.{reply_of};
 
 use super::refused::{imbalance_value, refusal_value};
-use super::text::documents_line;
+use super::text::road_line;
 use super::{Answer, LIMIT};
 use crate::request::{Request, RequestError, take_request};
 use crate::status::Status;
-use cdx_bom::{OpenRoad, RoadError, into_open_road};
+use cdx_bom::RoadError;
 use cdx_events::Text;
 use serde_json::{Category, Value, json};
 use std::alloc::{AllocError, Global};
@@ -83,29 +82,18 @@ fn answer_refused(alloc: Global, error: RoadError) -> Result<Answer, AllocError>
     }
 }
 
-fn answer_documents(alloc: Global, road: &OpenRoad) -> Result<Answer, AllocError>
-    requires { (first : List SchemaDoc) × AreDocs road.now.docs first
-        × (has_float (documents_in (first ++ last_documents road.now.last)) ≡ false) }
-    ensures { (first : List SchemaDoc) → AreDocs road.now.docs first → IfOk result
-        (λ a. reply_of a ≡ reply 0 (documents_in (first ++ last_documents road.now.last))) }
-{
-    let text = documents_line(alloc, road)?;
-    Ok(Answer {
-        status: Status::Served as u8,
-        text,
-    })
-}
-
 // The documents of the request's road, or its refusal.
 fn answer_request(alloc: Global, request: Request) -> Result<Answer, AllocError>
     requires { (q : Asked) × IsRequest request q }
     ensures { (q : Asked) → IsRequest request q
         → IfOk result (λ a. reply_of a ≡ reply_to_road (road_of q.doc q.from q.hops)) }
 {
-    cdx_request::no_floats();
     let Request { from, doc, hops } = request;
-    match into_open_road(alloc, doc, from, hops.as_slice()) {
-        Ok(road) => answer_documents(alloc, &road),
+    match road_line(alloc, doc, from, hops.as_slice()) {
+        Ok(text) => Ok(Answer {
+            status: Status::Served as u8,
+            text,
+        }),
         Err(error) => answer_refused(alloc, error),
     }
 }

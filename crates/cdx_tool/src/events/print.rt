@@ -192,23 +192,8 @@ fn print_events_from(
     Ok(later)
 }
 
-/// The text of `events_to_json`, without its value. Only want of memory refuses.
-pub(crate) fn print_events(
-    alloc: Global,
-    out: &mut String,
-    events: &Events,
-) -> Result<(), AllocError>
-    ensures { OnOk result (string_bytes out.new
-        ≡ string_bytes out.old ++ compact_text (events_value events.now.list)) }
-{
-    let mut printer = Printer::new(alloc);
-    out.push_str("[")?;
-    print_events_from(&mut printer, out, events.as_slice(), false)?;
-    out.push_str("]")
-}
-
-/// The same of the document of what the version keeps of a bill. A piece of its events is made, printed and freed before
-/// the next. Only want of memory refuses.
+/// The text of `events_to_json` of the document of what the version keeps of a bill. A piece of its events is made, printed
+/// and freed before the next. Only want of memory refuses.
 pub(crate) fn print_document(
     alloc: Global,
     out: &mut String,

@@ -1,5 +1,6 @@
-use Rattle.cdx_bom.proofs.Carried.{all_written}
+use Rattle.cdx_bom.specs.Docs.{hops_of}
+use Rattle.cdx_bom.proofs.Carried.{hops_then}
 use Rattle.cdx_bom.proofs.roads.into_road.Goals as goal
 
 pub returns : goal.returns
-returns c = λ x is. all_written c.in_ok-road.road c.in_ok-written.field-0 _ (c.in_ok-road.ensures x is) c.in_ok-written.ensures
+returns c = λ x is. hops_then c.documents.result c.in_ok-start.start x c.args.version (hops_of c.args.hops.now) (c.in_ok-start.ensures x is) (c.documents.ensures x c.args.version)

@@ -12,8 +12,8 @@ use Rattle.cdx_losses.proofs.leaves.OrganizationalContactLosing.lose.Goals as go
 
 pub returns-in-None : goal.returns-in-None
 returns-in-None c =
-    adds_same [] (value_lost c.args.road (contact_tree c.args.self.now) (a_record contact)) c.args.walk.now c.args.walk.now ((contact_value c.args.road c.args.self.now ∙ (ap (λ b. entry_or (if_so (after_a_trip c.args.road.trips b) Xml) []) (sym c.is_blank.ensures) ∙ ap (λ w. entry_or w []) (sym c.unwritten.ensures))) ∙ none_entry c.unwritten.result [] c.in-None.is) (adds_none c.args.walk.now)
+    adds_same [] (value_lost c.args.road (contact_tree c.args.self.now) (a_record contact)) c.args.walk.now c.args.walk.now ((contact_value c.args.road c.args.self.now ∙ (ap (λ b. entry_or (if_so (after_a_trip c.args.road.trips b) Xml) []) (sym c.is_hollow_contact.ensures) ∙ ap (λ w. entry_or w []) (sym c.unwritten.ensures))) ∙ none_entry c.unwritten.result [] c.in-None.is) (adds_none c.args.walk.now)
 
 pub returns-in-Some : goal.returns-in-Some
 returns-in-Some c =
-    ok_same c.record.result (([], c.in-Some.reason) ∷ []) (value_lost c.args.road (contact_tree c.args.self.now) (a_record contact)) c.args.walk.now c.record.new.self ((contact_value c.args.road c.args.self.now ∙ (ap (λ b. entry_or (if_so (after_a_trip c.args.road.trips b) Xml) []) (sym c.is_blank.ensures) ∙ ap (λ w. entry_or w []) (sym c.unwritten.ensures))) ∙ some_entry c.unwritten.result c.in-Some.reason [] c.in-Some.is) c.record.ensures
+    ok_same c.record.result (([], c.in-Some.reason) ∷ []) (value_lost c.args.road (contact_tree c.args.self.now) (a_record contact)) c.args.walk.now c.record.new.self ((contact_value c.args.road c.args.self.now ∙ (ap (λ b. entry_or (if_so (after_a_trip c.args.road.trips b) Xml) []) (sym c.is_hollow_contact.ensures) ∙ ap (λ w. entry_or w []) (sym c.unwritten.ensures))) ∙ some_entry c.unwritten.result c.in-Some.reason [] c.in-Some.is) c.record.ensures

@@ -2,7 +2,8 @@ use Rattle.std.proofs.Common.{refl, ◌&&◌}
 use Rattle.cdx_models.specs.Trees.{present, text, list_tree}
 use Rattle.cdx_models.specs.Records.{contact_tree}
 use Rattle.cdx_losses.specs.LeftOut.{is_left_out}
-use Rattle.cdx_losses.proofs.Gone.{then_second, else_first, entity_hollow_after}
+use Rattle.cdx_trips.proofs.Childless.{then_second, else_first}
+use Rattle.cdx_losses.proofs.Gone.{entity_hollow_after}
 use Rattle.cdx_losses.proofs.leaves.hollow.is_hollow_after.Goals as goal
 
 pub returns-then-is_none : goal.returns-then-is_none

@@ -2,7 +2,7 @@ use Rattle.std.proofs.Common.{refl, sym, ◌∙◌, ◌&&◌}
 use Rattle.cdx_models.specs.Trees.{present, text, list_tree}
 use Rattle.cdx_models.specs.Records.{contact_tree}
 use Rattle.cdx_losses.specs.LeftOut.{is_left_out}
-use Rattle.cdx_losses.proofs.Gone.{then_second, else_first}
+use Rattle.cdx_trips.proofs.Childless.{then_second, else_first}
 use Rattle.cdx_losses.proofs.leaves.hollow.lacks_lists.Goals as goal
 
 pub returns-then-lacks_urls : goal.returns-then-lacks_urls

@@ -1,4 +1,0 @@
-use Rattle.cdx_bom.proofs.roads.into_open_road.Goals as goal
-
-pub returns : goal.returns
-returns c = λ x is. c.carry.ensures x c.args.version (c.in_ok-bill.ensures x is)

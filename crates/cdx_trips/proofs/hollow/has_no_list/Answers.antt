@@ -1,0 +1,12 @@
+use Rattle.std.proofs.Common.{not}
+use Rattle.std.specs.Prelude.{is_some}
+use Rattle.cdx_trips.proofs.Childless.{twice, two_none, then_second, else_first}
+use Rattle.cdx_trips.proofs.hollow.has_no_list.Goals as goal
+
+pub returns-then-is_none : goal.returns-then-is_none
+returns-then-is_none c =
+    then_second c.is_none.result c.is_none-then-is_none.result _ c.if-is_none.true (two_none (is_some c.args.entity.now.url) (is_some c.args.entity.now.contact) c.is_none.result c.is_none-then-is_none.result c.is_none.ensures c.is_none-then-is_none.ensures)
+
+pub returns-else-is_none : goal.returns-else-is_none
+returns-else-is_none c =
+    else_first c.is_none.result (not (is_some c.args.entity.now.contact)) _ c.if-is_none.false (two_none (is_some c.args.entity.now.url) (is_some c.args.entity.now.contact) c.is_none.result (not (is_some c.args.entity.now.contact)) c.is_none.ensures (twice (is_some c.args.entity.now.contact)))

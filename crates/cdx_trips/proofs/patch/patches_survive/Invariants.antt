@@ -1,0 +1,11 @@
+use Rattle.std.proofs.Common.{◌≡◌}
+use Rattle.cdx_models.specs.Trees.{patch, each}
+use Rattle.cdx_patch.specs.Records.{patch_tree}
+use Rattle.cdx_schema.specs.Kinds.{a_record}
+use Rattle.cdx_trips.specs.Surviving.{items_survive}
+use Rattle.cdx_trips.proofs.Items.{from}
+use Rattle.cdx_trips.proofs.patch.patches_survive.Given as goal
+
+-- the rest decides
+abbrev pub invariant-loop-item : goal.invariant-loop-item
+invariant-loop-item l = from patch_tree (a_record patch) l.held l.item-index ≡ items_survive (each patch_tree l.held) (a_record patch)
