@@ -22,3 +22,4 @@ pub mod BillWritten
 pub mod Pieces
 pub mod EmptyTexts
 pub mod Carried
+pub mod ReadApart

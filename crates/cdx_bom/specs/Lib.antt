@@ -18,3 +18,4 @@ pub mod BillWriting
 pub mod Pieces
 pub mod EmptyTexts
 pub mod Hops
+pub mod ReadApart

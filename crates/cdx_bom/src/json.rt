@@ -4,18 +4,20 @@ ghost use Rattle.std.specs.Prelude.{◌≡◌, OnOk};
 ghost use Rattle.serde_json.specs.Data.{no_members};
 ghost use Rattle.cdx_json.specs.Spellings.{spelling_members};
 ghost use Rattle.cdx_models.specs.Trees.{bill};
-ghost use Rattle.cdx_schema.specs.JsonReading.{seen};
+ghost use Rattle.cdx_schema.specs.JsonReading.{Found, seen};
 ghost use Rattle.cdx_schema.specs.JsonSpelling.{heading};
 ghost use Rattle.cdx_schema.specs.Depths.{depth_of};
 ghost use Rattle.cdx_json.specs.Gives.{Gives};
 ghost use Rattle.cdx_bom.specs.Trees.{bom_tree};
 ghost use Rattle.cdx_bom.specs.Groups.{format_text, format_of, bill_by_groups};
+ghost use Rattle.cdx_bom.specs.ReadApart.{AreComponents, with_components};
 ghost use Rattle.cdx_bom.specs.Stays.{kept_bill_there};
 ghost use Rattle.cdx_json.specs.SeenOf.{seen_of};
 
 mod floats;
 mod keeping;
 mod label;
+mod owned;
 mod printing;
 mod reading;
 mod writing;
@@ -24,13 +26,15 @@ use crate::bom::Bom;
 use crate::bom::parts::assemble;
 use cdx_events::Text;
 use cdx_json::{
-    Context, FromJson, Keeping, Kept, Members, SeenMembers, Spelling, ToJson, at_member, here, put,
-    required_row,
+    Context, FromJson, Keeping, Kept, Members, SeenMembers, Spelling, ToJson, at_member, here,
+    optional_row, put, required_row,
 };
 use cdx_models::{JsonKind, JsonReadError, SpecVersion};
+use cdx_nest::Components;
 use cdx_schema::Target;
 pub(crate) use floats::refuse_floats;
 use keeping::{keep_inventory, keep_relations};
+pub(crate) use owned::take_bill;
 use reading::{read_inventory, read_relations};
 use serde_json::Value;
 use std::alloc::{AllocError, Global};
@@ -42,7 +46,8 @@ impl FromJson for Bom {
             None => Err(here(context.alloc, JsonKind::WrongKind)),
             Some(map) => {
                 let members = SeenMembers::of(context.alloc, map)?;
-                bom_from_members(&members, context)
+                let components = optional_row(&members, "components", context);
+                bom_from_members(&members, components, context)
             }
         }
     }
@@ -69,14 +74,20 @@ impl ToJson for Bom {
     }
 }
 
-// The bill whose members these are, or the first fault.
-fn bom_from_members(map: &SeenMembers<'_>, context: Context) -> Result<Bom, JsonReadError>
-    ensures { Gives bom_tree result
-        (bill_by_groups (seen (seen_of map.now.members.items)) context.version
-        (depth_of context.depth)) }
+// The bill whose members these are beside its components, which were read apart; or the first fault.
+pub(crate) fn bom_from_members(
+    map: &SeenMembers<'_>,
+    components: Result<Option<Components>, JsonReadError>,
+    context: Context,
+) -> Result<Bom, JsonReadError>
+    ensures { (held : Found)
+        → AreComponents held context.version (depth_of context.depth) components
+        → Gives bom_tree result
+        (bill_by_groups (with_components held (seen (seen_of map.now.members.items)))
+        context.version (depth_of context.depth)) }
 {
     check_format(map, context)?;
-    let inventory = read_inventory(map, context)?;
+    let inventory = read_inventory(map, components, context)?;
     match read_relations(map, context) {
         Ok(relations) => Ok(assemble(inventory, relations)),
         Err(error) => {

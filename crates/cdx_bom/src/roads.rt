@@ -216,12 +216,16 @@ pub fn road(
     documents(alloc, start, hops)
 }
 
-/// The bill of a document, read in a version, or its first fault as `Json` or `Xml`. Nothing else needs the document, and
-/// it is freed once its bill is read. Want of memory comes only as `Memory`.
+/// The bill of a document, read in a version, or its first fault as `Json` or `Xml`. Nothing else needs the document: the
+/// components of a JSON value are freed while they are read, and what else there is of it once its bill is read. Want of
+/// memory comes only as `Memory`.
 pub fn into_bill(alloc: Global, doc: Doc, version: SpecVersion) -> Result<Bom, RoadError>
     ensures { (x : roads.Doc) → IsDoc doc x → DenotesBill (roads.denotes x version) result }
 {
-    bill_of(alloc, &doc, version)
+    match doc {
+        Doc::Json(value) => Ok(Bom::parse_owned(alloc, value, version)?),
+        other => bill_of(alloc, &other, version),
+    }
 }
 
 /// The bill with which the road of a document starts: each hop makes its document of a bill, and gives the next one by

@@ -19,9 +19,9 @@ use crate::comparing::answer_pair;
 use crate::text::plain_value;
 use crate::words::{Command, read_command};
 use cdx_bom::Bom;
-use cdx_events::{Sink, Source};
+use cdx_events::{List as Items, Sink, Source};
 use cdx_tool::{
-    Answer, Respond, Status, answer_no_bill, answer_value, read_json, refuse, respond, take_bill,
+    Answer, Respond, Status, answer_no_bill, answer_value, refuse, respond, take_bill, take_json,
 };
 use serde_json::Value;
 use std::alloc::{AllocError, Global};
@@ -51,8 +51,8 @@ impl Respond for Command {
 
     ghost owed = { answers.owed };
 
-    fn answer(&self, alloc: Global, bytes: &[u8]) -> Result<Answer, AllocError> {
-        let Some(value) = read_json(alloc, bytes)? else {
+    fn answer(&self, alloc: Global, bytes: Items<u8>) -> Result<Answer, AllocError> {
+        let Some(value) = take_json(alloc, bytes)? else {
             return refuse(alloc, Status::Unusable as u8, "not JSON");
         };
         match self {

@@ -15,7 +15,7 @@ pub(crate) mod parts;
 
 use cdx_code::Commits;
 use cdx_component_parts::{ComponentEvidence, Cpe, MimeType, Swid};
-use cdx_events::Text;
+use cdx_events::{List, Text};
 use cdx_license::Licenses;
 use cdx_models::{ExternalReferences, HasTree, Hashes, OrganizationalEntity, Properties};
 use cdx_patch::Patches;
@@ -204,6 +204,15 @@ impl Components {
     {
         let items = Vec::with_capacity(alloc, capacity)?;
         Ok(Components { items })
+    }
+
+    /// The components of a list. It takes no memory.
+    pub fn from_list(list: List<Component>) -> Components
+        ensures { component_items result ≡ list }
+    {
+        Components {
+            items: list.into_vec(),
+        }
     }
 
     /// Appends a component. Where memory runs out, the list is as before and the component is dropped.

@@ -14,8 +14,8 @@ use crate::listing::inventory;
 use cdx_bom::Bom;
 use cdx_events::List as Items;
 use cdx_tool::{
-    Answer, JsonItem, Status, answer_no_bill, answer_value, items_to_json, only, read_json, refuse,
-    take_bill,
+    Answer, JsonItem, Status, answer_no_bill, answer_value, items_to_json, only, refuse, take_bill,
+    take_json,
 };
 use serde_json::{Value, json};
 use std::alloc::{AllocError, Global};
@@ -73,13 +73,13 @@ fn answer_question(alloc: Global, value: Value, license: Option<&str>) -> Result
 /// refuses.
 pub(crate) fn answer_bytes(
     alloc: Global,
-    bytes: &[u8],
+    bytes: Items<u8>,
     license: Option<&str>,
 ) -> Result<Answer, AllocError>
     ensures { let asked = to_list (option_map (λ s. s.now) license.entry) in
-        IfOk result (λ a. reply_of a ≡ reply_asking (answer_to asked) bytes.now) }
+        IfOk result (λ a. reply_of a ≡ reply_asking (answer_to asked) bytes) }
 {
-    match read_json(alloc, bytes)? {
+    match take_json(alloc, bytes)? {
         None => refuse(alloc, Status::Unusable as u8, "not JSON"),
         Some(value) => answer_question(alloc, value, license),
     }

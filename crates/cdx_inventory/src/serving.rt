@@ -11,7 +11,7 @@ ghost use Rattle.cdx_tool.specs.Asks.{AsksFor};
 ghost use Rattle.cdx_inventory.specs.Stock.{Command as Asked, to_list, command_of, answer_to, reply_for};
 
 use crate::answering::answer_bytes;
-use cdx_events::{Sink, Source};
+use cdx_events::{List as Items, Sink, Source};
 use cdx_tool::{Answer, Respond, respond};
 use std::alloc::{AllocError, Global};
 
@@ -28,7 +28,7 @@ impl Respond for Command<'_> {
     ghost owed = { λ c bytes.
         reply_to_command (to_list (option_map (λ s. s.now) c.license)) bytes };
 
-    fn answer(&self, alloc: Global, bytes: &[u8]) -> Result<Answer, AllocError> {
+    fn answer(&self, alloc: Global, bytes: Items<u8>) -> Result<Answer, AllocError> {
         answer_bytes(alloc, bytes, self.license)
     }
 }

@@ -21,7 +21,7 @@ use cdx_events::List as Items;
 use cdx_models::SpecVersion;
 use cdx_tool::{
     Answer, JsonItem, NoBill, Request, Status, answer_no_bill, answer_value, items_to_json, only,
-    read_json, refuse, take_request,
+    refuse, take_json, take_request,
 };
 use serde_json::{Value, json};
 use std::alloc::{AllocError, Global};
@@ -116,10 +116,10 @@ fn answer_asked(alloc: Global, value: Value) -> Result<Answer, AllocError>
 
 /// The answer to the bytes of a request: what its road takes of its bill, without that road's documents. Only want of
 /// memory refuses.
-pub(crate) fn answer_bytes(alloc: Global, bytes: &[u8]) -> Result<Answer, AllocError>
-    ensures { IfOk result (λ a. reply_of a ≡ owed bytes.now) }
+pub(crate) fn answer_bytes(alloc: Global, bytes: Items<u8>) -> Result<Answer, AllocError>
+    ensures { IfOk result (λ a. reply_of a ≡ owed bytes) }
 {
-    match read_json(alloc, bytes)? {
+    match take_json(alloc, bytes)? {
         None => refuse(alloc, Status::Unusable as u8, "not JSON"),
         Some(value) => answer_asked(alloc, value),
     }

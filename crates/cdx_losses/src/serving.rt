@@ -11,7 +11,7 @@ ghost use Rattle.cdx_tool.specs.Run.{Tells, Ends};
 ghost use Rattle.cdx_losses.specs.Report.{command_of, answer_to, reply_for};
 
 use crate::answering::answer_bytes;
-use cdx_events::{Sink, Source};
+use cdx_events::{List as Items, Sink, Source};
 use cdx_tool::{Answer, Respond, respond};
 use std::alloc::{AllocError, Global};
 
@@ -26,7 +26,7 @@ impl Respond for Command {
 
     ghost owed = { λ command bytes. reports.owed bytes };
 
-    fn answer(&self, alloc: Global, bytes: &[u8]) -> Result<Answer, AllocError> {
+    fn answer(&self, alloc: Global, bytes: Items<u8>) -> Result<Answer, AllocError> {
         answer_bytes(alloc, bytes)
     }
 }

@@ -20,6 +20,6 @@ mod refused;
 mod text;
 
 pub use documents::{documents_value, only};
-pub(crate) use make::answer_within;
-pub use make::{answer_bytes, answer_value, read_json, refuse};
+pub(crate) use make::answer_owned;
+pub use make::{answer_bytes, answer_value, read_json, refuse, take_json};
 pub use refused::{imbalance_value, refusal_value};

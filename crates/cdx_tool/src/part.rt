@@ -9,6 +9,7 @@ ghost use Rattle.cdx_request.specs.Parts.{member_count, has, how_many, text_at a
 
 use cdx_events::{List as Items, Text};
 use cdx_models::SpecVersion;
+use cdx_owned::Spent;
 use serde_json::Value;
 use std::alloc::{AllocError, Global};
 
@@ -118,6 +119,25 @@ pub(crate) fn read_parts<P: RequestPart + Drop>(
             return Ok(None);
         };
         items.push(item)?;
+    }
+    Ok(Some(items))
+}
+
+/// `read_parts` of values that nothing else needs, which are freed while they are read.
+pub(crate) fn take_parts<P: RequestPart + Drop>(
+    alloc: Global,
+    values: Vec<Value>,
+) -> Result<Option<Items<P>>, AllocError>
+    ensures { IfOk result (λ o. o ≡ all_in P.part_of (items_view values.items)) }
+{
+    let mut items = Items::with_capacity(alloc, values.len())?;
+    let mut spent = Spent::new(alloc)?;
+    for value in values {
+        let Some(item) = P::from_value(alloc, &value)? else {
+            return Ok(None);
+        };
+        items.push(item)?;
+        spent.put(value)?;
     }
     Ok(Some(items))
 }

@@ -13,14 +13,14 @@ ghost use Rattle.cdx_tool.specs.Shows.{reply_of};
 ghost use Rattle.cdx_tool.specs.Words.{command_of, is_road, a_make};
 ghost use Rattle.cdx_tool.specs.Run.{reply_for, Tells, Ends};
 
-use crate::answer::{Answer, answer_within, refuse};
+use crate::answer::{Answer, answer_owned, refuse};
 use crate::command::Respond;
 use crate::making::answer_made;
 use crate::output::put_answer;
 use crate::responding::answer_source;
 use crate::status::Status;
 use crate::words::{Command, read_command};
-use cdx_events::{Sink, Source};
+use cdx_events::{List as Items, Sink, Source};
 use std::alloc::{AllocError, Global};
 
 /// The command `road`, which answers one request.
@@ -32,8 +32,8 @@ impl Respond for Road {
 
     ghost owed = { λ road bytes. reply_to_request (request_in bytes) };
 
-    fn answer(&self, alloc: Global, bytes: &[u8]) -> Result<Answer, AllocError> {
-        answer_within(alloc, bytes)
+    fn answer(&self, alloc: Global, bytes: Items<u8>) -> Result<Answer, AllocError> {
+        answer_owned(alloc, bytes)
     }
 }
 

@@ -44,7 +44,7 @@ pub(crate) fn answer_source<C: Respond, S: Source>(
             Ok(answer) => Ok(answer),
             Err(_) => Err(Status::NoMemory as u8),
         },
-        Ok(bytes) => match command.answer(alloc, bytes.as_slice()) {
+        Ok(bytes) => match command.answer(alloc, bytes) {
             Ok(answer) => Ok(answer),
             Err(_) => Err(Status::NoMemory as u8),
         },

@@ -9,10 +9,10 @@ ghost use Rattle.cdx_json.specs.Gives.{Gives};
 ghost use Rattle.cdx_bom.specs.Trees.{bom_tree};
 
 use crate::bom::Bom;
-use crate::json::refuse_floats;
-use cdx_json::FromJson;
+use crate::json::{refuse_floats, take_bill};
+use cdx_json::{Context, FromJson};
 use cdx_models::{JsonReadError, SpecVersion};
-use cdx_schema::laws;
+use cdx_schema::{Depth, laws};
 use serde_json::Value;
 use std::alloc::Global;
 
@@ -32,6 +32,23 @@ impl Bom {
         refuse_floats(alloc, value)?;
         laws::denotes_bills();
         Bom::from_json(alloc, value, version)
+    }
+
+    // The bill of a value that nothing else needs, as `parse_json` gives it.
+    pub(crate) fn parse_owned(
+        alloc: Global,
+        value: Value,
+        version: SpecVersion,
+    ) -> Result<Bom, JsonReadError>
+        ensures { Gives bom_tree result (json_denotes (view value) version) }
+    {
+        refuse_floats(alloc, &value)?;
+        let context = Context {
+            alloc,
+            version,
+            depth: Depth::top(),
+        };
+        take_bill(value, context)
     }
 
     /// The bill that a JSON value denotes in 1.3, or its first fault, as `parse_json`.

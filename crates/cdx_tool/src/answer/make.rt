@@ -5,7 +5,7 @@ ghost use Rattle.serde_json.specs.View.{view};
 ghost use Rattle.serde_json.specs.Written.{has_float};
 ghost use Rattle.cdx_schema.specs.Roads.{Doc as SchemaDoc, Refusal, road as road_of};
 ghost use Rattle.cdx_bom.specs.Docs.{Refuses};
-ghost use Rattle.cdx_request.specs.Requests.{Request as Asked, document_in_json, request_of, request_in};
+ghost use Rattle.cdx_request.specs.Requests.{Request as Asked, document_in_json, request_from, request_of, request_in};
 ghost use Rattle.cdx_request.specs.Refusals.{imbalance_value as unbalanced_at};
 ghost use Rattle.cdx_request.specs.Replies.{line_of, reply, no_request, reply_to, reply_to_request, reply_to_road};
 ghost use Rattle.cdx_tool.specs.Reads.{IsRequest};
@@ -17,7 +17,7 @@ use super::{Answer, LIMIT};
 use crate::request::{Request, RequestError, take_request};
 use crate::status::Status;
 use cdx_bom::RoadError;
-use cdx_events::Text;
+use cdx_events::{List as Items, Text};
 use serde_json::{Category, Value, json};
 use std::alloc::{AllocError, Global};
 
@@ -32,6 +32,13 @@ pub fn read_json(alloc: Global, bytes: &[u8]) -> Result<Option<Value>, AllocErro
             _ => Ok(None),
         },
     }
+}
+
+/// `read_json` of bytes that nothing else needs, which are freed once the value is read.
+pub fn take_json(alloc: Global, bytes: Items<u8>) -> Result<Option<Value>, AllocError>
+    ensures { IfOk result (λ o. option_map view o ≡ document_in_json bytes) }
+{
+    read_json(alloc, bytes.as_slice())
 }
 
 // The value's text and a line feed, where it holds no float.
@@ -116,14 +123,23 @@ fn answer_asked(alloc: Global, value: Value) -> Result<Answer, AllocError>
     }
 }
 
-// The answer to bytes that are no more than the limit.
-pub(crate) fn answer_within(alloc: Global, bytes: &[u8]) -> Result<Answer, AllocError>
-    ensures { IfOk result (λ a. reply_of a ≡ reply_to_request (request_in bytes.now)) }
+// The answer to the value that the bytes of a request are, if they are one.
+fn answer_read(alloc: Global, value: Option<Value>) -> Result<Answer, AllocError>
+    ensures { IfOk result
+        (λ a. reply_of a ≡ reply_to_request (request_from (option_map view value))) }
 {
-    match read_json(alloc, bytes)? {
+    match value {
         None => refuse(alloc, Status::Unusable as u8, "not JSON"),
         Some(value) => answer_asked(alloc, value),
     }
+}
+
+// The answer to bytes that are no more than the limit, and that nothing else needs.
+pub(crate) fn answer_owned(alloc: Global, bytes: Items<u8>) -> Result<Answer, AllocError>
+    ensures { IfOk result (λ a. reply_of a ≡ reply_to_request (request_in bytes)) }
+{
+    let value = take_json(alloc, bytes)?;
+    answer_read(alloc, value)
 }
 
 /// The answer to these bytes as a request for the word `road`, in this order:
@@ -141,5 +157,6 @@ pub fn answer_bytes(alloc: Global, bytes: &[u8]) -> Result<Answer, AllocError>
     if bytes.len() > LIMIT {
         return refuse(alloc, Status::TooLong as u8, "too long");
     }
-    answer_within(alloc, bytes)
+    let value = read_json(alloc, bytes)?;
+    answer_read(alloc, value)
 }

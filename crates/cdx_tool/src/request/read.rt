@@ -11,7 +11,7 @@ ghost use Rattle.cdx_tool.specs.Reads.{ReadsOwed, ReadsIf, IsRequest, sent_in, a
 
 use super::sent::{Asked, Sent};
 use super::{Request, RequestError};
-use crate::events::events_if;
+use crate::events::{events_if, take_events};
 use crate::part::{
     RequestPart, array_at, count_members, has_member, read_parts, take_member, text_at, version_at,
 };
@@ -77,14 +77,20 @@ fn read_sent(alloc: Global, value: &Value) -> Result<Option<Sent>, AllocError>
     }
 }
 
-// The same of a value that nothing else needs, so that no JSON is copied.
+// The same of a value that nothing else needs: no JSON is copied, and objects of events are freed while they are read.
 fn take_sent(alloc: Global, value: Value) -> Result<Option<Sent>, AllocError>
     ensures { IfOk result (λ o. option_map sent_in o ≡ sent_of (view value)) }
 {
-    if count_members(&value) == 1 && has_member(&value, "json") {
+    if count_members(&value) != 1 {
+        return Ok(None);
+    }
+    if has_member(&value, "json") {
         return Ok(take_member(value, "json").map(Sent::Json));
     }
-    read_sent(alloc, &value)
+    match take_member(value, "xml") {
+        None => Ok(None),
+        Some(events) => Ok(take_events(alloc, events)?.map(Sent::Xml)),
+    }
 }
 
 fn balanced(alloc: Global, events: List<XmlEvent>) -> Result<Doc, RequestError>

@@ -1,0 +1,40 @@
+//! Values that were read.
+
+ghost use Rattle.std.specs.Prelude.{◌≡◌, ◌≤◌, [], IfOk, length};
+
+use std::alloc::{AllocError, Global};
+
+// So many are held before they are freed: few enough that what lies in their room still lies near, and enough that their
+// room is joined again.
+const MOST: usize = 512;
+
+/// Values that were read and that nothing needs any more, freed some hundred at once. Freed one by one, each would leave
+/// room for a part of what is made of the next ones, which then would lie scattered.
+#[derive(Drop)]
+pub struct Spent<T> {
+    alloc: Global,
+    held: Vec<T>,
+}
+
+impl<T: Drop> Spent<T> {
+    /// None yet. Only want of memory refuses.
+    pub fn new(alloc: Global) -> Result<Spent<T>, AllocError>
+        ensures { IfOk result (λ s. s.held.items ≡ []) }
+    {
+        let held = Vec::with_capacity(alloc, MOST)?;
+        Ok(Spent { alloc, held })
+    }
+
+    /// Takes one more. At most 512 are held: where there are so many, they are freed first. Only want of memory refuses.
+    pub fn put(&mut self, item: T) -> Result<(), AllocError>
+        ensures { length self.old.held.items ≤ 512 → length self.new.held.items ≤ 512 }
+    {
+        if self.held.len() >= MOST {
+            // Before room for the next ones is taken, which may then be that of these.
+            self.held = Vec::new(self.alloc);
+            self.held = Vec::with_capacity(self.alloc, MOST)?;
+        }
+        self.held.push(item)?;
+        Ok(())
+    }
+}
