@@ -5,4 +5,3 @@ mod document;
 mod rows;
 
 pub(crate) use document::{document_events, only_memory, write_end, write_root_start, write_start};
-pub(crate) use rows::write_relations_rows;

@@ -1,4 +1,4 @@
-use Rattle.std.proofs.Common.{List, [], ◌∷◌, ◌++◌, ap, ◌∙◌}
+use Rattle.std.proofs.Common.{List, [], ◌∷◌, ◌++◌, codes, ap, ◌∙◌}
 use Rattle.cdx_events.specs.declared.event.XmlEvent.{XmlEvent}
 use Rattle.cdx_events.specs.declared.event.XmlEvent.TheVariants.{StartDocument}
 use Rattle.cdx_bom.specs.BillWriting.{root_start}
@@ -14,7 +14,7 @@ returns c =
     let start = StartDocument ∷ [] in
     let root = root_start (bom_tree b) w ∷ [] in
     let row = metadata_row w b in
-    let list = list_opened b.components in
+    let list = list_opened (codes "components") b.components in
     c.into_list.ensures
     ∙ c.in_ok-only_memory-4.ensures c.put_child.new.writer c.open_list.new.writer list c.open_list.ensures
     ∙ ap (λ (s : List XmlEvent). s ++ list) (c.in_ok-only_memory-3.ensures c.write_root_start.new.writer c.put_child.new.writer row c.put_child.ensures
