@@ -7,6 +7,7 @@ use Rattle.cdx_events.specs.Balance as balances
 use Rattle.cdx_events.specs.Nodes.{IsBalanced, IsBroken, GoesOn}
 use Rattle.cdx_models.specs.declared.errors.XmlReadError.{XmlReadError}
 use Rattle.cdx_models.specs.declared.errors.XmlReadError.TheVariants.{ElementReadError, UnexpectedElementReadError, RequiredDataMissing, RequiredAttributeMissing, InvalidParseError, InvalidNamespaceError, TooDeep, Memory}
+use Rattle.cdx_models.specs.declared.bom.SpecVersion.{SpecVersion}
 use Rattle.cdx_models.specs.Trees.{Tree}
 use Rattle.cdx_schema.specs.Early.{IsEarly, unbalanced}
 use Rattle.cdx_schema.proofs.EarlyBalance.{ends_broken, breaks_at}
@@ -17,9 +18,9 @@ use Rattle.cdx_push_reader.specs.declared.gathering.Wrong.TheVariants.{Nothing, 
 use Rattle.cdx_push_reader.specs.declared.hearing.Hearing.{Hearing}
 use Rattle.cdx_push_reader.specs.Pushed.{Hears, Outcome}
 use Rattle.cdx_push_reader.specs.PushAnswers.{Finishes}
-use Rattle.cdx_push_reader.specs.Gathered.{IsOut, FoundIn, found_by, Concludes, reads, breaks}
+use Rattle.cdx_push_reader.specs.Gathered.{IsOut, FoundIn, found_by, Concludes, reads, breaks, ReadsList}
 use Rattle.cdx_push_reader.proofs.Readers.{early_ends}
-use Rattle.cdx_push_reader.proofs.Documents.{reads_document}
+use Rattle.cdx_push_reader.proofs.Documents.{reads_document, reads_refused}
 
 stays_out : (place : ℕ) (events : List XmlEvent) (e : XmlEvent) → IsOut place events → IsOut place (events ++ e ∷ [])
 stays_out place events e o = record {
@@ -118,3 +119,16 @@ module _ {M X : Type 0} (holds : Holding M) (tree : X → Tree) where
 
   pub ends_whole : (h : Hearing M X) (events : List XmlEvent) (result : Result X XmlReadError) → IsBalanced events → Finishes tree h.version events result → Concludes tree h.version events result
   ends_whole h events result b f = reads b (reads_document tree h.version events b result (inl f))
+
+-- the same by the answer alone, since a balanced list has no such fault as an imbalance
+pub concluded : {X : Type 0} (tree : X → Tree) (v : SpecVersion) (events : List XmlEvent) (result : Result X XmlReadError) → Concludes tree v events result → ReadsList tree events v result
+concluded tree v events result (breaks place k e) = subst (λ r. ReadsList tree events v r) (sym e) (refl, k)
+concluded tree v events (Ok x) (reads b r) = (b, r)
+concluded tree v events (Err (ElementReadError kind place)) (reads b r) = absurd (reads_refused tree v events b (Err (ElementReadError kind place)) r)
+concluded tree v events (Err (UnexpectedElementReadError p el k)) (reads b r) = (b, r)
+concluded tree v events (Err (RequiredDataMissing p el k)) (reads b r) = (b, r)
+concluded tree v events (Err (RequiredAttributeMissing p el k)) (reads b r) = (b, r)
+concluded tree v events (Err (InvalidParseError p el k t)) (reads b r) = (b, r)
+concluded tree v events (Err (InvalidNamespaceError x y)) (reads b r) = (b, r)
+concluded tree v events (Err (TooDeep p)) (reads b r) = (b, r)
+concluded tree v events (Err (Memory m)) (reads b r) = (b, r)

@@ -5,8 +5,9 @@ use Rattle.cdx_events.specs.declared.event.XmlEvent.{XmlEvent}
 use Rattle.cdx_events.specs.Balance as balances
 use Rattle.cdx_events.specs.Nodes.{IsBalanced, IsBroken, GoesOn}
 use Rattle.cdx_models.specs.declared.bom.SpecVersion.{SpecVersion}
+use Rattle.cdx_models.specs.declared.errors.ReadKind.TheVariants as kinds
 use Rattle.cdx_models.specs.declared.errors.XmlReadError.{XmlReadError}
-use Rattle.cdx_models.specs.declared.errors.XmlReadError.TheVariants.{Memory}
+use Rattle.cdx_models.specs.declared.errors.XmlReadError.TheVariants.{ElementReadError, Memory}
 use Rattle.cdx_models.specs.Trees.{Tree}
 use Rattle.cdx_schema.specs.Early.{IsEarly, unbalanced}
 use Rattle.cdx_machine.specs.Machines.{Holding}
@@ -36,6 +37,10 @@ FoundIn holds tree h (Imbalance place) events = IsOut place events
 abbrev pub Gathered : {M X : Type 0} → Holding M → (X → Tree) → Gathering M X → List XmlEvent → Type 0
 Gathered holds tree g events = FoundIn holds tree g.hearing g.found events
 
+-- the version that the events are read in
+abbrev pub gathering_version : {M X : Type 0} → Gathering M X → SpecVersion
+gathering_version g = g.hearing.version
+
 -- what is found by an error of the document
 abbrev pub found_by : XmlReadError → Result Wrong AllocError
 found_by (Memory e) = Err e
@@ -45,3 +50,9 @@ found_by f = Ok (Fault f)
 pub data Concludes {X : Type 0} (tree : X → Tree) (v : SpecVersion) (events : List XmlEvent) (result : Result X XmlReadError) : Type 0 where
   reads : IsBalanced events → ReadsDocument tree events v result → Concludes tree v events result
   breaks : (place : ℕ) → IsBroken events place → result ≡ Err (unbalanced place) → Concludes tree v events result
+
+-- What a list of events is read as: where it is balanced, the bill that it denotes or its first fault, and else where it
+-- breaks.
+abbrev pub ReadsList : {X : Type 0} → (X → Tree) → List XmlEvent → SpecVersion → Result X XmlReadError → Type 0
+ReadsList tree events v (Err (ElementReadError kind place)) = (kind ≡ kinds.Unbalanced) × IsBroken events place
+ReadsList tree events v result = IsBalanced events × ReadsDocument tree events v result

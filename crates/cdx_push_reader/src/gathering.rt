@@ -4,7 +4,7 @@ ghost use Rattle.std.specs.Prelude.{◌≡◌, List, [], ◌∷◌, ◌++◌, le
 ghost use Rattle.cdx_events.specs.declared.event.XmlEvent.{XmlEvent};
 ghost use Rattle.cdx_events.specs.Gather.{is_end};
 ghost use Rattle.cdx_schema.specs.Laws.{IsShallow};
-ghost use Rattle.cdx_push_reader.specs.Gathered.{Gathered, found_by, Concludes};
+ghost use Rattle.cdx_push_reader.specs.Gathered.{Gathered, gathering_version, found_by, Concludes};
 ghost use Rattle.cdx_push_reader.specs.Sources.{ReadsSource};
 
 use crate::hearing::Hearing;
@@ -24,8 +24,9 @@ pub(crate) enum Wrong {
     Imbalance { place: usize },
 }
 
-// What is kept of the events of a source, whatever they are.
-pub(crate) struct Gathering<M: RootMachine> {
+/// Reads a document from events that come one after another, whatever they are, and keeps none of them. It answers at the
+/// end alone, and an imbalance anywhere then goes before each fault.
+pub struct Gathering<M: RootMachine> {
     hearing: Hearing<M>,
     found: Wrong,
 }
@@ -56,9 +57,10 @@ fn is_end(event: &XmlEvent) -> bool
 }
 
 impl<M: RootMachine> Gathering<M> {
-    fn new(alloc: Global, version: SpecVersion) -> Gathering<M>
+    /// A reader of documents of this version that has taken nothing yet. It takes no memory.
+    pub fn new(alloc: Global, version: SpecVersion) -> Gathering<M>
         ensures gathered { Gathered M.holds M.tree result [] }
-        ensures version { result.hearing.version ≡ version }
+        ensures version { gathering_version result ≡ version }
     {
         Gathering {
             hearing: Hearing::new(alloc, version),
@@ -66,14 +68,15 @@ impl<M: RootMachine> Gathering<M> {
         }
     }
 
-    // Takes one event. Only want of memory refuses.
-    fn take(&mut self, place: usize, event: &XmlEvent) -> Result<(), AllocError>
+    /// Takes one event, of which so many came before: that number is its place. What is wrong with it is told by `finish`:
+    /// only want of memory refuses, and then nothing is known of the reader.
+    pub fn take(&mut self, place: usize, event: &XmlEvent) -> Result<(), AllocError>
         requires { (events : List XmlEvent) × Gathered M.holds M.tree self.old events
             × (place ≡ length events) }
         ensures gathered { (events : List XmlEvent) → Gathered M.holds M.tree self.old events
             → place ≡ length events
             → IfOk result (λ _. Gathered M.holds M.tree self.new (events ++ event.now ∷ [])) }
-        ensures version { self.new.hearing.version ≡ self.old.hearing.version }
+        ensures version { gathering_version self.new ≡ gathering_version self.old }
     {
         if let Wrong::Imbalance { .. } = self.found {
             return Ok(());
@@ -91,11 +94,15 @@ impl<M: RootMachine> Gathering<M> {
         Ok(())
     }
 
-    // What the events taken are read as, of which there are so many.
-    fn finish(self, count: usize) -> Result<M::Value, XmlReadError>
+    /// What the events taken are read as, of which there are so many.
+    ///
+    /// `ElementReadError` of kind `Unbalanced` comes exactly where they aren't balanced, with the place where they break.
+    /// Else comes the bill, or the first fault of the events: that of the root's name at its start, then of its default
+    /// namespace, then of its attributes, and then the first in the order of the events. Or want of memory.
+    pub fn finish(self, count: usize) -> Result<M::Value, XmlReadError>
         ensures { (events : List XmlEvent) → Gathered M.holds M.tree self events
             → count ≡ length events
-            → Concludes M.tree self.hearing.version events result }
+            → Concludes M.tree (gathering_version self) events result }
     {
         let Gathering { hearing, found } = self;
         if let Wrong::Imbalance { place } = found {

@@ -11,7 +11,7 @@ mod reader;
 mod start;
 mod whole;
 
-pub use gathering::read_gathered;
+pub use gathering::{Gathering, read_gathered};
 pub use machine::RootMachine;
 pub use reader::{DocumentReader, PushError};
 pub use whole::read_fed;
