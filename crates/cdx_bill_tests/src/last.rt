@@ -10,7 +10,7 @@ fn joined(alloc: Global, bill: &Bom, version: SpecVersion) -> Result<String, All
     let mut pieces = bill.document_pieces(alloc, version);
     let mut line = String::new(alloc);
     while let Some(piece) = pieces.next()? {
-        if !line.is_empty() {
+        if !line.is_empty() && !piece.as_slice().is_empty() {
             line.push('|')?;
         }
         line.push_str(line_of(alloc, piece.as_slice())?.as_str())?;

@@ -13,6 +13,24 @@ pub struct PutError {
     pub written: usize,
 }
 
+/// Puts the bytes, and doesn't flush. `Ok` comes only where the sink's count of faults stayed: then all bytes went out.
+/// `PutError` comes only where the count rose. It takes no memory.
+pub fn put_bytes<K: Sink>(bytes: &[u8], sink: &mut K) -> Result<(), PutError>
+    ensures ok { OnOk result (Appends (K.written sink.old) (K.written sink.new) bytes.now) }
+    ensures err { IfErr result (λ e. (e.written ≤ length bytes.now)
+        × Appends (K.written sink.old) (K.written sink.new) (take e.written bytes.now)) }
+    ensures cause { HasCause (K.faults sink.old) (K.faults sink.new) result }
+{
+    let mut at = 0;
+    while at < bytes.len() {
+        match sink.put(&bytes[at..]) {
+            Ok(count) => at += count,
+            Err(Failed) => return Err(PutError { written: at }),
+        }
+    }
+    Ok(())
+}
+
 /// Puts the text's bytes and then flushes. `Ok` comes only where the sink's count of faults stayed: then the whole
 /// text went out, and all that was written is flushed. `PutError` comes only where the count rose. It takes no memory.
 pub fn put_text<K: Sink>(text: &Text, sink: &mut K) -> Result<(), PutError>
@@ -24,15 +42,11 @@ pub fn put_text<K: Sink>(text: &Text, sink: &mut K) -> Result<(), PutError>
     ensures cause { HasCause (K.faults sink.old) (K.faults sink.new) result }
 {
     let bytes = text.as_str().as_bytes();
-    let mut at = 0;
-    while at < bytes.len() {
-        match sink.put(&bytes[at..]) {
-            Ok(count) => at += count,
-            Err(Failed) => return Err(PutError { written: at }),
-        }
-    }
+    put_bytes(bytes, sink)?;
     match sink.flush() {
         Ok(()) => Ok(()),
-        Err(Failed) => Err(PutError { written: at }),
+        Err(Failed) => Err(PutError {
+            written: bytes.len(),
+        }),
     }
 }

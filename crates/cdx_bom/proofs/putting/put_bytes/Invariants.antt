@@ -1,12 +1,11 @@
 use Rattle.std.proofs.Common.{length, ◌-◌, ◌≡◌, ◌≤◌, take}
 use Rattle.std.specs.Io.KnownBytes.{Appends}
-use Rattle.cdx_bom.proofs.putting.put_text.Given as goal
+use Rattle.cdx_bom.proofs.putting.put_bytes.Given as goal
 
 -- the first bytes went out, and nothing failed
 abbrev pub invariant-loop-at : goal.invariant-loop-at
 invariant-loop-at g l = record {
   within : l.at ≤ length l.bytes;
-  all : l.bytes ≡ l.text;
   put : Appends (g.K.Sink.written l.fn.sink) (g.K.Sink.written l.sink) (take l.at l.bytes);
   sound : g.K.Sink.faults l.sink ≡ g.K.Sink.faults l.fn.sink;
 }
