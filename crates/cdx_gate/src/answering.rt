@@ -7,12 +7,12 @@ ghost use Rattle.cdx_gate.specs.Lines.{ended_lines, lines, line_reply, replies};
 ghost use Rattle.cdx_gate.specs.Gate.{most_held, no_words, IsFlushed, PutsFront, HasServed, AnsweringStops};
 
 use crate::line::{find_feed, hold};
-use cdx_events::{Sink, Text};
-use cdx_tool::{Status, answer_bytes, put_answer, refuse};
+use cdx_events::Sink;
+use cdx_tool::{LongText, Status, answer_bytes, put_answer, refuse};
 use std::alloc::Global;
 
 // Puts a text and flushes, or gives the status in its place.
-fn put<K: Sink>(text: &Text, sink: &mut K) -> Result<(), u8>
+fn put<K: Sink>(text: &LongText, sink: &mut K) -> Result<(), u8>
     ensures ok { OnOk result (Appends (K.written sink.old) (K.written sink.new) text.now) }
     ensures flushed { OnOk result (IsFlushed (K.written sink.new) (K.flushed sink.new)) }
     ensures ok_cause { OnOk result (K.faults sink.new ≡ K.faults sink.old) }

@@ -1,6 +1,8 @@
 -- What is answered is the reply that is owed.
-use Rattle.std.proofs.Common.{◌≡◌, List, [], ◌∷◌, length, map, codes, Option, Some, IsSome, Result, Err, refl, sym, ap}
+use Rattle.std.proofs.Common.{◌≡◌, List, [], ◌∷◌, length, map, codes, Option, Some, IsSome, Result, Ok, Err, IfOk, false, refl, sym, ap, ◌∙◌}
 use Rattle.std.specs.declared.alloc.AllocError.{AllocError}
+use Rattle.serde_json.specs.Data.{Data}
+use Rattle.serde_json.specs.Written.{has_float}
 use Rattle.cdx_models.specs.Trees.{Tree}
 use Rattle.cdx_schema.specs.Kinds.{a_bill}
 use Rattle.cdx_schema.specs.Keeping.{keep}
@@ -17,9 +19,10 @@ use Rattle.cdx_bom.specs.Hops.{hop_document}
 use Rattle.cdx_bom.specs.Outputs.{kept_json}
 use Rattle.cdx_bom.specs.BillWriting.{document_in}
 use Rattle.cdx_request.specs.EventValues.{events_value}
-use Rattle.cdx_request.specs.Refusals.{only}
-use Rattle.cdx_request.specs.Replies.{doc_value}
-use Rattle.cdx_tool.specs.Shows.{doc_shown}
+use Rattle.cdx_request.specs.Refusals.{only, refusal_value}
+use Rattle.cdx_request.specs.Replies.{doc_value, reply, reply_to_road}
+use Rattle.cdx_tool.specs.declared.answer.Answer.{Answer}
+use Rattle.cdx_tool.specs.Shows.{doc_shown, reply_of}
 
 -- a document is written as its like in the schema
 doc_is : (d : Doc) (x : roads.Doc) → IsDoc d x → doc_shown d ≡ doc_value x
@@ -40,6 +43,12 @@ refuses owed (error.Json f) other h = h
 refuses owed (error.Xml f) other h = h
 refuses owed (error.Bom f) other h = h
 refuses owed (error.Memory m) other h = absurd (other m refl)
+
+-- an answer that tells a refusal is the reply that is owed
+pub refused_answer : (result : Result Answer AllocError) (d : Data) (r : Refusal) (owed : Result (List roads.Doc) Refusal) → d ≡ refusal_value r → has_float (refusal_value r) ≡ false → owed ≡ Err r
+    → IfOk result (λ a. has_float d ≡ false → reply_of a ≡ reply 1 d) → IfOk result (λ a. reply_of a ≡ reply_to_road owed)
+refused_answer (Ok a) d r owed is none e h = h (ap has_float is ∙ none) ∙ ap (reply 1) is ∙ sym (ap reply_to_road e)
+refused_answer (Err m) d r owed is none e h = tt
 
 pub is_refusal : (o : Option Refusal) (r : Refusal) → o ≡ Some r → IsSome o
 is_refusal o r is = rw is refl

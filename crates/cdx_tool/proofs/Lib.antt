@@ -12,3 +12,5 @@ pub mod InPieces
 pub mod LoneMember
 pub mod Asked
 pub mod Underway
+pub mod LongTexts
+pub mod Behind

@@ -5,7 +5,6 @@ use Rattle.serde_json.specs.View.{items_of}
 use Rattle.serde_json.specs.Written.{compact_text, items_text}
 use Rattle.cdx_models.specs.declared.bom.SpecVersion.{SpecVersion}
 use Rattle.cdx_schema.specs.Results.{◌>>=◌}
-use Rattle.cdx_schema.specs.Trips as trips
 use Rattle.cdx_schema.specs.Roads as roads
 use Rattle.cdx_schema.specs.Roads.{Refusal, denotes, hops_from}
 use Rattle.cdx_bom.specs.declared.bom.Bom.{Bom}

@@ -1,6 +1,6 @@
 //! Answers to requests.
 
-use cdx_events::Text;
+use crate::long_text::LongText;
 
 /// An answer: the status that the program ends with, and the text that it writes, with its line feed.
 #[derive(Debug, Drop)]
@@ -8,7 +8,7 @@ pub struct Answer {
     /// The status: 0, 1, 2 or 6.
     pub status: u8,
     /// A compact JSON value and a line feed.
-    pub text: Text,
+    pub text: LongText,
 }
 
 /// How many bytes a request may have.

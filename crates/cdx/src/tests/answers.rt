@@ -33,7 +33,7 @@ pub fn answered(alloc: Global, status: u8, rows: &str) -> Result<(), Fail> {
         if let Some((request, text)) = row(line) {
             let answer = answer_bytes(alloc, request.as_bytes())?;
             let text = format!(in alloc; "{text}\n")?;
-            row_is(request, answer.text.as_str(), text.as_str())?;
+            row_is(request, answer.text.to_text(alloc)?.as_str(), text.as_str())?;
             row_holds(
                 request,
                 "the status is the table's",

@@ -5,7 +5,7 @@ use cdx_events::{Events, List, MemorySink, SoundSource, Text};
 use cdx_test_cases::checks::{holds, text_is};
 use cdx_test_cases::inputs::bytes_of;
 use cdx_tool::{
-    InputError, PutError, RequestError, events_from_json, events_to_json, put_answer, read_doc,
+    InputError, LongText, PutError, RequestError, events_from_json, events_to_json, put_answer, read_doc,
     take_input,
 };
 use serde_json::Value;
@@ -27,7 +27,7 @@ fn bytes(rt: HostRuntime) -> Result<(), Fail> {
     let mut source = SoundSource::new(bytes_of(alloc, REQUEST)?);
     let is_refused = matches!(take_input(alloc, &mut source, 10), Err(InputError::TooLong));
     holds("a byte too many is refused", is_refused)?;
-    let text = Text::new(alloc, REQUEST)?;
+    let text = LongText::from_text(alloc, Text::new(alloc, REQUEST)?)?;
     let mut sink = MemorySink::new(alloc, 4096, 10, List::new(alloc))?;
     holds("the answer is put", put_answer(&text, &mut sink).is_ok())?;
     holds(

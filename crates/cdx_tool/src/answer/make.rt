@@ -14,6 +14,7 @@ ghost use Rattle.cdx_tool.specs.Shows.{reply_of};
 use super::refused::{imbalance_value, refusal_value};
 use super::text::road_line;
 use super::{Answer, LIMIT};
+use crate::long_text::LongText;
 use crate::request::{Request, RequestError, take_request};
 use crate::status::Status;
 use cdx_bom::RoadError;
@@ -55,7 +56,7 @@ pub fn answer_value(alloc: Global, status: u8, value: &Value) -> Result<Answer, 
     ensures { IfOk result
         (λ a. has_float (view value.now) ≡ false → reply_of a ≡ reply status (view value.now)) }
 {
-    let text = line(alloc, value)?;
+    let text = LongText::from_text(alloc, line(alloc, value)?)?;
     Ok(Answer { status, text })
 }
 

@@ -11,11 +11,13 @@ ghost use Rattle.cdx_bom.specs.Outputs.{compact_kept};
 ghost use Rattle.cdx_bom.specs.BillWriting.{document_in};
 ghost use Rattle.cdx_request.specs.EventValues.{events_value};
 ghost use Rattle.cdx_request.specs.Replies.{doc_value};
+ghost use Rattle.cdx_tool.specs.Printed.{printed};
 ghost use Rattle.cdx_tool.specs.Prints.{PrintsRoad, AnswersLine};
 
 use crate::events::print_document;
+use crate::long_text::LongText;
+use crate::printed::Printed;
 use cdx_bom::{Bom, Doc, Form, Hop, RoadError, next_bill, start_road};
-use cdx_events::Text;
 use cdx_models::SpecVersion;
 use std::alloc::{AllocError, Global};
 
@@ -36,12 +38,12 @@ fn push_kept(
 
 fn push_document(
     alloc: Global,
-    text: &mut String,
+    text: &mut Printed,
     bill: &Bom,
     version: SpecVersion,
 ) -> Result<(), AllocError>
-    ensures { OnOk result (string_bytes text.new
-        ≡ ((string_bytes text.old ++ codes "{\"xml\":")
+    ensures { OnOk result (printed text.new
+        ≡ ((printed text.old ++ codes "{\"xml\":")
         ++ compact_text (events_value (document_in version (bom_tree bill.now)))) ++ codes "}") }
 {
     text.push_str("{\"xml\":")?;
@@ -50,21 +52,21 @@ fn push_document(
 }
 
 // The document that a hop makes of the bill.
-fn push_hop(alloc: Global, text: &mut String, bill: &Bom, hop: Hop) -> Result<(), AllocError>
-    ensures { OnOk result (string_bytes text.new ≡ string_bytes text.old
+fn push_hop(alloc: Global, text: &mut Printed, bill: &Bom, hop: Hop) -> Result<(), AllocError>
+    ensures { OnOk result (printed text.new ≡ printed text.old
         ++ compact_text (doc_value (hop_document (bom_tree bill.now) (hop_of hop)))) }
 {
     match hop.form {
-        Form::Json => push_kept(alloc, text, bill, hop.version),
+        Form::Json => push_kept(alloc, &mut text.last, bill, hop.version),
         Form::Xml => push_document(alloc, text, bill, hop.version),
     }
 }
 
 // The documents of the hops, one after another, and the bracket behind them. The first hop writes the bill.
-fn push_hops(alloc: Global, text: &mut String, start: Bom, hops: &[Hop]) -> Result<(), RoadError>
+fn push_hops(alloc: Global, text: &mut Printed, start: Bom, hops: &[Hop]) -> Result<(), RoadError>
     ensures { (x : SchemaDoc) (v : SpecVersion) → denotes x v ≡ Ok (bom_tree start)
         → PrintsRoad (hops_from x v (hops_of hops.now))
-        (string_bytes text.old) (string_bytes text.new) result }
+        (printed text.old) (printed text.new) result }
 {
     let Some((first, rest)) = hops.split_first() else {
         drop(start);
@@ -90,12 +92,13 @@ pub(crate) fn road_line(
     doc: Doc,
     from: SpecVersion,
     hops: &[Hop],
-) -> Result<Text, RoadError>
+) -> Result<LongText, RoadError>
     ensures { (x : SchemaDoc) → IsDoc doc x → AnswersLine (road x from (hops_of hops.now)) result }
 {
     let start = start_road(alloc, doc, from, hops)?;
-    let mut text = String::from_str(alloc, "{\"documents\":[")?;
+    let mut text = Printed::new(alloc);
+    text.push_str("{\"documents\":[")?;
     push_hops(alloc, &mut text, start, hops)?;
     text.push_str("}\n")?;
-    Ok(Text::from_string(text))
+    Ok(text.finish()?)
 }

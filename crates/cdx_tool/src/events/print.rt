@@ -8,8 +8,10 @@ ghost use Rattle.cdx_bom.specs.Trees.{bom_tree};
 ghost use Rattle.cdx_bom.specs.BillWriting.{document_in};
 ghost use Rattle.cdx_print.specs.Prints.{then_text};
 ghost use Rattle.cdx_request.specs.EventValues.{attribute_value, event_value, events_value};
+ghost use Rattle.cdx_tool.specs.Printed.{printed};
 ghost use Rattle.cdx_tool.specs.Prints.{then_text_if, then_name, then_default, then_attributes, PrintsItems};
 
+use crate::printed::Printed;
 use cdx_bom::Bom;
 use cdx_events::{Events, List as Items, OwnedAttribute, OwnedName, Text, XmlEvent as Event};
 use cdx_models::SpecVersion;
@@ -196,11 +198,11 @@ fn print_events_from(
 /// and freed before the next. Only want of memory refuses.
 pub(crate) fn print_document(
     alloc: Global,
-    out: &mut String,
+    out: &mut Printed,
     bill: &Bom,
     version: SpecVersion,
 ) -> Result<(), AllocError>
-    ensures { OnOk result (string_bytes out.new ≡ string_bytes out.old
+    ensures { OnOk result (printed out.new ≡ printed out.old
         ++ compact_text (events_value (document_in version (bom_tree bill.now)))) }
 {
     let mut pieces = bill.document_pieces(alloc, version);
@@ -208,7 +210,8 @@ pub(crate) fn print_document(
     out.push_str("[")?;
     let mut is_later = false;
     while let Some(piece) = pieces.next()? {
-        is_later = print_events_from(&mut printer, out, piece.as_slice(), is_later)?;
+        is_later = print_events_from(&mut printer, &mut out.last, piece.as_slice(), is_later)?;
+        out.break_if_long(alloc)?;
     }
     out.push_str("]")
 }

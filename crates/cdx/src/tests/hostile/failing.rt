@@ -8,7 +8,7 @@ use cdx_events::{
 use cdx_models::SpecVersion;
 use cdx_test_cases::checks::{holds, holds_at};
 use cdx_test_cases::documents::{line_of, list_of};
-use cdx_tool::put_answer;
+use cdx_tool::{LongText, put_answer};
 use std::io::{Error, ErrorKind, Write};
 use std::test::Fail;
 
@@ -86,10 +86,8 @@ fn one_flush_at_the_end(rt: HostRuntime) -> Result<(), Fail> {
         is_flushed_once(&ended.sink, ANSWER.as_bytes()),
     )?;
     let mut sink = MemorySink::new(alloc, 4096, STEP, only(alloc, 0)?)?;
-    holds(
-        "the answer is put",
-        put_answer(&Text::new(alloc, ANSWER)?, &mut sink).is_ok(),
-    )?;
+    let text = LongText::from_text(alloc, Text::new(alloc, ANSWER)?)?;
+    holds("the answer is put", put_answer(&text, &mut sink).is_ok())?;
     holds(
         "the answer that is put is flushed once",
         is_flushed_once(&sink, ANSWER.as_bytes()),

@@ -65,12 +65,10 @@ fn deepest_answer(rt: HostRuntime) -> Result<(), Fail> {
     let answer = answer_bytes(alloc, request.as_bytes())?;
     holds("the deepest bill is carried", answer.status == 0)?;
     let wanted = format!(in alloc; "{{\"documents\":[{{\"json\":{}}}]}}\n", bill.as_str())?;
-    text_is(answer.text.as_str(), wanted.as_str())?;
-    holds(
-        "its answer nests 107 deep",
-        nesting(answer.text.as_str()) == 107,
-    )?;
-    let again = Value::from_str(alloc, answer.text.as_str())?.to_string(alloc)?;
+    let found = answer.text.to_text(alloc)?;
+    text_is(found.as_str(), wanted.as_str())?;
+    holds("its answer nests 107 deep", nesting(found.as_str()) == 107)?;
+    let again = Value::from_str(alloc, found.as_str())?.to_string(alloc)?;
     text_is(again.as_str(), wanted.as_str().trim_ascii())
 }
 

@@ -1,7 +1,8 @@
-use Rattle.std.proofs.Common.{rules, ◌≡◌, ◌∙◌, ◌++◌, map, codes, false, string_bytes}
+use Rattle.std.proofs.Common.{rules, ◌≡◌, ◌∙◌, ◌++◌, map, codes, false}
 use Rattle.serde_json.specs.View.{items_of}
 use Rattle.serde_json.specs.Written.{items_text}
 use Rattle.cdx_request.specs.Replies.{doc_value}
+use Rattle.cdx_tool.specs.Printed.{printed}
 use Rattle.cdx_tool.proofs.Printing.{documents_printed}
 use Rattle.cdx_tool.proofs.answer.text.road_line.Goals as goal
 
@@ -9,6 +10,6 @@ pub returns : goal.returns
 returns c = λ x is.
     let a = c.in_ok-start.ensures x is in
     let p = c.in_ok-push_hops.ensures x c.args.from a.0 in
-    let so_far : string_bytes c.push_hops.new.text ≡ codes "{\"documents\":[" ++ items_text false (items_of (map doc_value p.0)) = search rules in
-    let text : c.from_string.result ≡ string_bytes c.push_hops.new.text ++ codes "}\n" = search rules in
-    (p.0, a.1 ∙ p.1, text ∙ documents_printed (string_bytes c.push_hops.new.text) (items_of (map doc_value p.0)) so_far)
+    let so_far : printed c.push_hops.new.text ≡ codes "{\"documents\":[" ++ items_text false (items_of (map doc_value p.0)) = search rules in
+    let text : c.in_ok-finish.field-0 ≡ printed c.push_hops.new.text ++ codes "}\n" = search rules in
+    (p.0, a.1 ∙ p.1, text ∙ documents_printed (printed c.push_hops.new.text) (items_of (map doc_value p.0)) so_far)
