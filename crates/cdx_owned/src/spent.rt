@@ -4,12 +4,13 @@ ghost use Rattle.std.specs.Prelude.{◌≡◌, ◌≤◌, [], IfOk, length};
 
 use std::alloc::{AllocError, Global};
 
-// So many are held before they are freed: few enough that what lies in their room still lies near, and enough that their
-// room is joined again.
+// So many are held at most before they are freed: few enough that what lies in their room still lies near, and enough that
+// their room is joined again.
 const MOST: usize = 512;
 
 /// Values that were read and that nothing needs any more, freed some hundred at once. Freed one by one, each would leave
-/// room for a part of what is made of the next ones, which then would lie scattered.
+/// room for a part of what is made of the next ones, which then would lie scattered. The first ones are freed sooner, since
+/// what is made of them finds no room yet: one by itself, and then each time some twice as many.
 #[derive(Drop)]
 pub struct Spent<T> {
     alloc: Global,
@@ -21,18 +22,25 @@ impl<T: Drop> Spent<T> {
     pub fn new(alloc: Global) -> Result<Spent<T>, AllocError>
         ensures { IfOk result (λ s. s.held.items ≡ []) }
     {
-        let held = Vec::with_capacity(alloc, MOST)?;
+        let held = Vec::with_capacity(alloc, 1)?;
         Ok(Spent { alloc, held })
     }
 
-    /// Takes one more. At most 512 are held: where there are so many, they are freed first. Only want of memory refuses.
+    /// Takes one more. At most 512 are held: where there is no room for one more, they are freed first. Only want of memory
+    /// refuses.
     pub fn put(&mut self, item: T) -> Result<(), AllocError>
         ensures { length self.old.held.items ≤ 512 → length self.new.held.items ≤ 512 }
     {
-        if self.held.len() >= MOST {
+        let count = self.held.len();
+        if count >= MOST || count >= self.held.capacity() {
+            let more = if count < MOST / 2 {
+                2 * count + 1
+            } else {
+                MOST
+            };
             // Before room for the next ones is taken, which may then be that of these.
             self.held = Vec::new(self.alloc);
-            self.held = Vec::with_capacity(self.alloc, MOST)?;
+            self.held = Vec::with_capacity(self.alloc, more)?;
         }
         self.held.push(item)?;
         Ok(())
