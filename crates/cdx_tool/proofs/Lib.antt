@@ -10,5 +10,6 @@ pub mod MadeBills
 pub mod Printing
 pub mod InPieces
 pub mod LoneMember
-pub mod Asked
 pub mod Underway
+pub mod Gathering
+pub mod Lacking
