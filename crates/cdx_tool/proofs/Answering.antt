@@ -44,12 +44,6 @@ refuses owed (error.Xml f) other h = h
 refuses owed (error.Bom f) other h = h
 refuses owed (error.Memory m) other h = absurd (other m refl)
 
--- an answer that tells a refusal is the reply that is owed
-pub refused_answer : (result : Result Answer AllocError) (d : Data) (r : Refusal) (owed : Result (List roads.Doc) Refusal) → d ≡ refusal_value r → has_float (refusal_value r) ≡ false → owed ≡ Err r
-    → IfOk result (λ a. has_float d ≡ false → reply_of a ≡ reply 1 d) → IfOk result (λ a. reply_of a ≡ reply_to_road owed)
-refused_answer (Ok a) d r owed is none e h = h (ap has_float is ∙ none) ∙ ap (reply 1) is ∙ sym (ap reply_to_road e)
-refused_answer (Err m) d r owed is none e h = tt
-
 pub is_refusal : (o : Option Refusal) (r : Refusal) → o ≡ Some r → IsSome o
 is_refusal o r is = rw is refl
 

@@ -10,7 +10,8 @@ pub mod MadeBills
 pub mod Printing
 pub mod InPieces
 pub mod LoneMember
-pub mod Asked
 pub mod Underway
 pub mod LongTexts
 pub mod Behind
+pub mod Gathering
+pub mod Lacking

@@ -1,6 +1,6 @@
 //! Questions about one bill, and what is answered where there is none.
 
-ghost use Rattle.std.specs.Prelude.{◌≡◌, Some, IfOk, IsSome, Result as Owed};
+ghost use Rattle.std.specs.Prelude.{◌≡◌, Some, option_map, IfOk, IsSome, Result as Owed};
 ghost use Rattle.cdx_models.specs.Trees.{Tree};
 ghost use Rattle.serde_json.specs.Data.{Data};
 ghost use Rattle.cdx_tool.specs.Reads.{ReadsOwed};
@@ -10,13 +10,13 @@ ghost use Rattle.cdx_schema.specs.Roads.{Refusal};
 ghost use Rattle.cdx_bom.specs.Docs.{refusal_of};
 ghost use Rattle.cdx_request.specs.Refusals.{refusal_value as refused_for, imbalance_value as unbalanced_at};
 ghost use Rattle.cdx_request.specs.Replies.{reply};
-ghost use Rattle.cdx_tool.specs.Asks.{IsQuestion, inquiry_of, bill_in, GivesBill, WhyNoBill, IsWhyNoBill, reply_to_bill};
+ghost use Rattle.cdx_tool.specs.Asks.{IsQuestion, inquiry_if, inquiry_of, bill_in, GivesBill, WhyNoBill, IsWhyNoBill, reply_to_bill};
 
 use crate::answer::{Answer, answer_value, imbalance_value, refusal_value, refuse};
 use crate::part::{count_members, take_member, version_at};
-use crate::request::{RequestError, take_doc};
+use crate::request::{RequestError, take_doc, take_unread};
 use crate::status::Status;
-use cdx_bom::{Bom, Doc, RoadError, into_bill};
+use cdx_bom::{Bom, Doc, RoadError};
 use cdx_models::SpecVersion;
 use serde_json::Value;
 use std::alloc::{AllocError, Global};
@@ -61,6 +61,19 @@ impl From<RoadError> for NoBill {
     }
 }
 
+// The version and the document of a question, which isn't read yet.
+fn take_inquiry(value: Value) -> Option<(SpecVersion, Value)>
+    ensures { inquiry_if (option_map (λ parts. (parts.0, view parts.1)) result)
+        ≡ inquiry_of (view value) }
+{
+    if count_members(&value) != 2 {
+        return None;
+    }
+    let from = version_at(&value, "from")?;
+    let document = take_member(value, "doc")?;
+    Some((from, document))
+}
+
 /// The question that a value is: an object with exactly the members `from` (`"1.3"`, `"1.4"` or `"1.5"`) and `doc`, a
 /// document by `read_doc`. The value is taken, so that no JSON is copied.
 ///
@@ -69,28 +82,28 @@ impl From<RoadError> for NoBill {
 pub fn read_question(alloc: Global, value: Value) -> Result<Question, RequestError>
     ensures { ReadsOwed IsQuestion (inquiry_of (view value)) result }
 {
-    if count_members(&value) != 2 {
-        return Err(RequestError::Shape);
-    }
-    let Some(from) = version_at(&value, "from") else {
+    let Some((from, document)) = take_inquiry(value) else {
         return Err(RequestError::Shape);
     };
-    let Some(doc) = take_member(value, "doc") else {
-        return Err(RequestError::Shape);
-    };
-    let doc = take_doc(alloc, doc)?;
+    let doc = take_doc(alloc, document)?;
     Ok(Question { from, doc })
 }
 
-/// The bill that a value asks about by `read_question`: the bill of its document, read in its version.
+/// The bill that a value asks about by `read_question`: the bill of its document, read in its version. No list of its
+/// events is made: each is read out of its object, which is then freed.
 ///
 /// `Misread` comes exactly where `read_question` refuses the value, with that refusal, and else `Refused` exactly where
 /// the document has a fault, with its first fault. Want of memory comes in either.
 pub fn take_bill(alloc: Global, value: Value) -> Result<Bom, NoBill>
     ensures { GivesBill (bill_in (view value)) result }
 {
-    let question = read_question(alloc, value)?;
-    Ok(into_bill(alloc, question.doc, question.from)?)
+    let Some((from, document)) = take_inquiry(value) else {
+        return Err(NoBill::Misread(RequestError::Shape));
+    };
+    match take_unread(document) {
+        None => Err(NoBill::Misread(RequestError::Shape)),
+        Some(unread) => unread.into_bill(alloc, from),
+    }
 }
 
 fn answer_unbalanced(alloc: Global, place: usize) -> Result<Answer, AllocError>

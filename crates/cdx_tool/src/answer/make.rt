@@ -1,23 +1,24 @@
 //! The answer to the bytes of a request.
 
-ghost use Rattle.std.specs.Prelude.{◌≡◌, List, false, option_map, IfOk, Result as Owed};
+ghost use Rattle.std.specs.Prelude.{◌≡◌, Ok, false, option_map, IfOk};
 ghost use Rattle.serde_json.specs.View.{view};
 ghost use Rattle.serde_json.specs.Written.{has_float};
-ghost use Rattle.cdx_schema.specs.Roads.{Doc as SchemaDoc, Refusal, road as road_of};
-ghost use Rattle.cdx_bom.specs.Docs.{Refuses};
-ghost use Rattle.cdx_request.specs.Requests.{Request as Asked, document_in_json, request_from, request_of, request_in};
-ghost use Rattle.cdx_request.specs.Refusals.{imbalance_value as unbalanced_at};
+ghost use Rattle.cdx_models.specs.declared.bom.SpecVersion.{SpecVersion};
+ghost use Rattle.cdx_schema.specs.Roads.{Doc, denotes, road};
+ghost use Rattle.cdx_bom.specs.Docs.{hops_of};
+ghost use Rattle.cdx_bom.specs.Hops.{IsDenoted};
+ghost use Rattle.cdx_bom.specs.Trees.{bom_tree};
+ghost use Rattle.cdx_request.specs.Requests.{document_in_json, request_from, request_of, request_in};
 ghost use Rattle.cdx_request.specs.Replies.{line_of, reply, no_request, reply_to, reply_to_request, reply_to_road};
-ghost use Rattle.cdx_tool.specs.Reads.{IsRequest};
 ghost use Rattle.cdx_tool.specs.Shows.{reply_of};
 
-use super::refused::{imbalance_value, refusal_value};
 use super::text::road_line;
 use super::{Answer, LIMIT};
 use crate::long_text::LongText;
-use crate::request::{Request, RequestError, take_request};
+use crate::question::{NoBill, answer_no_bill};
+use crate::request::{Asked, take_asked};
 use crate::status::Status;
-use cdx_bom::RoadError;
+use cdx_bom::{Bom, Hop, fits_all, version_missing};
 use cdx_events::{List as Items, Text};
 use serde_json::{Category, Value, json};
 use std::alloc::{AllocError, Global};
@@ -74,53 +75,35 @@ pub fn refuse(alloc: Global, status: u8, reason: &str) -> Result<Answer, AllocEr
     answer_value(alloc, status, &value)
 }
 
-// The refusal that the error of a road is.
-fn answer_refused(alloc: Global, error: RoadError) -> Result<Answer, AllocError>
-    requires { (owed : Owed (List SchemaDoc) Refusal) × Refuses owed error }
-    ensures { (owed : Owed (List SchemaDoc) Refusal) → Refuses owed error
-        → IfOk result (λ a. reply_of a ≡ reply_to_road owed) }
+// The documents of the road of a bill, or its refusal.
+fn answer_bill(alloc: Global, bill: Bom, hops: &[Hop]) -> Result<Answer, AllocError>
+    requires { IsDenoted (bom_tree bill) }
+    ensures { (x : Doc) (v : SpecVersion) → denotes x v ≡ Ok (bom_tree bill)
+        → IfOk result (λ a. reply_of a ≡ reply_to_road (road x v (hops_of hops.now))) }
 {
-    cdx_request::no_floats();
-    match error {
-        RoadError::Memory(error) => Err(error),
-        error => {
-            let value = refusal_value(alloc, &error)?;
-            answer_value(alloc, Status::Refused as u8, &value)
-        }
+    if !fits_all(&bill, hops) {
+        drop(bill);
+        return answer_no_bill(alloc, NoBill::Refused(version_missing()));
     }
-}
-
-// The documents of the request's road, or its refusal.
-fn answer_request(alloc: Global, request: Request) -> Result<Answer, AllocError>
-    requires { (q : Asked) × IsRequest request q }
-    ensures { (q : Asked) → IsRequest request q
-        → IfOk result (λ a. reply_of a ≡ reply_to_road (road_of q.doc q.from q.hops)) }
-{
-    let Request { from, doc, hops } = request;
-    match road_line(alloc, doc, from, hops.as_slice()) {
+    match road_line(alloc, bill, hops) {
         Ok(text) => Ok(Answer {
             status: Status::Served as u8,
             text,
         }),
-        Err(error) => answer_refused(alloc, error),
+        Err(error) => answer_no_bill(alloc, NoBill::Refused(error)),
     }
-}
-
-fn answer_unbalanced(alloc: Global, place: usize) -> Result<Answer, AllocError>
-    ensures { IfOk result (λ a. reply_of a ≡ reply 1 (unbalanced_at place)) }
-{
-    let value = imbalance_value(alloc, place)?;
-    answer_value(alloc, Status::Refused as u8, &value)
 }
 
 fn answer_asked(alloc: Global, value: Value) -> Result<Answer, AllocError>
     ensures { IfOk result (λ a. reply_of a ≡ reply_to_request (request_of (view value))) }
 {
-    match take_request(alloc, value) {
-        Ok(request) => answer_request(alloc, request),
-        Err(RequestError::Shape) => refuse(alloc, Status::Unusable as u8, "shape"),
-        Err(RequestError::Unbalanced { place }) => answer_unbalanced(alloc, place),
-        Err(RequestError::Memory(error)) => Err(error),
+    let Some(asked) = take_asked(alloc, value)? else {
+        return refuse(alloc, Status::Unusable as u8, "shape");
+    };
+    let Asked { from, sent, hops } = asked;
+    match sent.into_bill(alloc, from) {
+        Ok(bill) => answer_bill(alloc, bill, hops.as_slice()),
+        Err(error) => answer_no_bill(alloc, error),
     }
 }
 

@@ -3,9 +3,9 @@
 ghost use Rattle.std.specs.Prelude.{◌≡◌, ◌++◌, codes, Ok, OnOk, string_bytes};
 ghost use Rattle.serde_json.specs.Written.{compact_text};
 ghost use Rattle.cdx_models.specs.declared.bom.SpecVersion.{SpecVersion};
-ghost use Rattle.cdx_schema.specs.Roads.{Doc as SchemaDoc, denotes, hops_from, road};
+ghost use Rattle.cdx_schema.specs.Roads.{Doc as SchemaDoc, denotes, hops_from};
 ghost use Rattle.cdx_bom.specs.Trees.{bom_tree};
-ghost use Rattle.cdx_bom.specs.Docs.{IsDoc, hop_of, hops_of};
+ghost use Rattle.cdx_bom.specs.Docs.{hop_of, hops_of};
 ghost use Rattle.cdx_bom.specs.Hops.{hop_document};
 ghost use Rattle.cdx_bom.specs.Outputs.{compact_kept};
 ghost use Rattle.cdx_bom.specs.BillWriting.{document_in};
@@ -17,7 +17,7 @@ ghost use Rattle.cdx_tool.specs.Prints.{PrintsRoad, AnswersLine};
 use crate::events::print_document;
 use crate::long_text::LongText;
 use crate::printed::Printed;
-use cdx_bom::{Bom, Doc, Form, Hop, RoadError, next_bill, start_road};
+use cdx_bom::{Bom, Form, Hop, RoadError, next_bill};
 use cdx_models::SpecVersion;
 use std::alloc::{AllocError, Global};
 
@@ -85,20 +85,15 @@ fn push_hops(alloc: Global, text: &mut Printed, start: Bom, hops: &[Hop]) -> Res
     Ok(text.push_str("]")?)
 }
 
-/// The line of `documents_value` of a road's documents, or the road's refusal: without its value, and no document of it
-/// in JSON is ever there as a whole.
-pub(crate) fn road_line(
-    alloc: Global,
-    doc: Doc,
-    from: SpecVersion,
-    hops: &[Hop],
-) -> Result<LongText, RoadError>
-    ensures { (x : SchemaDoc) → IsDoc doc x → AnswersLine (road x from (hops_of hops.now)) result }
+/// The line of `documents_value` of the documents of a road along these hops, which starts with the bill, or the road's
+/// refusal: without its value, and no document of it in JSON is ever there as a whole.
+pub(crate) fn road_line(alloc: Global, bill: Bom, hops: &[Hop]) -> Result<LongText, RoadError>
+    ensures { (x : SchemaDoc) (v : SpecVersion) → denotes x v ≡ Ok (bom_tree bill)
+        → AnswersLine (hops_from x v (hops_of hops.now)) result }
 {
-    let start = start_road(alloc, doc, from, hops)?;
     let mut text = Printed::new(alloc);
     text.push_str("{\"documents\":[")?;
-    push_hops(alloc, &mut text, start, hops)?;
+    push_hops(alloc, &mut text, bill, hops)?;
     text.push_str("}\n")?;
     Ok(text.finish()?)
 }

@@ -8,7 +8,7 @@ ghost use Rattle.cdx_request.specs.EventReading.{name_at, members_of_name, attri
 
 use crate::part::{
     RequestPart, count_members, count_named, has_member, lone_member, read_parts, read_text_if,
-    take_parts, text_at,
+    text_at,
 };
 use cdx_events::{List as Items, Namespace, OwnedAttribute, OwnedName, Text, XmlEvent as Event};
 use serde_json::Value;
@@ -203,15 +203,5 @@ pub(crate) fn events_if(alloc: Global, value: &Value) -> Result<Option<Items<Eve
     match value.as_array() {
         None => Ok(None),
         Some(values) => read_parts(alloc, values.as_slice()),
-    }
-}
-
-// `events_if` of a value that nothing else needs, whose items are freed while they are read.
-pub(crate) fn take_events(alloc: Global, value: Value) -> Result<Option<Items<Event>>, AllocError>
-    ensures { IfOk result (λ o. o ≡ events_in (view value)) }
-{
-    match value {
-        Value::Array(values) => take_parts(alloc, values),
-        other => events_if(alloc, &other),
     }
 }

@@ -11,10 +11,8 @@ ghost use Rattle.cdx_tool.specs.Reads.{ReadsOwed, ReadsIf, IsRequest, sent_in, a
 
 use super::sent::{Asked, Sent};
 use super::{Request, RequestError};
-use crate::events::{events_if, take_events};
-use crate::part::{
-    RequestPart, array_at, count_members, has_member, read_parts, take_member, text_at, version_at,
-};
+use crate::events::events_if;
+use crate::part::{RequestPart, array_at, count_members, read_parts, text_at, version_at};
 use cdx_bom::{Doc, Form, Hop};
 use cdx_events::{Events, EventsError, List, XmlEvent};
 use serde_json::Value;
@@ -51,7 +49,7 @@ impl RequestPart for Hop {
     }
 }
 
-fn read_hops(alloc: Global, value: &Value) -> Result<Option<List<Hop>>, AllocError>
+pub(super) fn read_hops(alloc: Global, value: &Value) -> Result<Option<List<Hop>>, AllocError>
     ensures { IfOk result (λ o. option_map hops_of o ≡ hops_at (view value.now)) }
 {
     match array_at(value, "hops") {
@@ -77,22 +75,6 @@ fn read_sent(alloc: Global, value: &Value) -> Result<Option<Sent>, AllocError>
     }
 }
 
-// The same of a value that nothing else needs: no JSON is copied, and objects of events are freed while they are read.
-fn take_sent(alloc: Global, value: Value) -> Result<Option<Sent>, AllocError>
-    ensures { IfOk result (λ o. option_map sent_in o ≡ sent_of (view value)) }
-{
-    if count_members(&value) != 1 {
-        return Ok(None);
-    }
-    if has_member(&value, "json") {
-        return Ok(take_member(value, "json").map(Sent::Json));
-    }
-    match take_member(value, "xml") {
-        None => Ok(None),
-        Some(events) => Ok(take_events(alloc, events)?.map(Sent::Xml)),
-    }
-}
-
 fn balanced(alloc: Global, events: List<XmlEvent>) -> Result<Doc, RequestError>
     ensures { ReadsOwed IsDoc (doc_of (sent_in (Sent.Xml events))) result }
 {
@@ -104,7 +86,7 @@ fn balanced(alloc: Global, events: List<XmlEvent>) -> Result<Doc, RequestError>
     }
 }
 
-fn settle(alloc: Global, sent: Sent) -> Result<Doc, RequestError>
+pub(super) fn settle(alloc: Global, sent: Sent) -> Result<Doc, RequestError>
     ensures { ReadsOwed IsDoc (doc_of (sent_in sent)) result }
 {
     match sent {
@@ -122,16 +104,6 @@ pub fn read_doc(alloc: Global, value: &Value) -> Result<Doc, RequestError>
     ensures { ReadsOwed IsDoc (doc_in (view value.now)) result }
 {
     match read_sent(alloc, value)? {
-        None => Err(RequestError::Shape),
-        Some(sent) => settle(alloc, sent),
-    }
-}
-
-/// `read_doc` of a value that nothing else needs, so that no JSON is copied.
-pub fn take_doc(alloc: Global, value: Value) -> Result<Doc, RequestError>
-    ensures { ReadsOwed IsDoc (doc_in (view value)) result }
-{
-    match take_sent(alloc, value)? {
         None => Err(RequestError::Shape),
         Some(sent) => settle(alloc, sent),
     }
@@ -161,7 +133,7 @@ fn sent_at(alloc: Global, value: &Value) -> Result<Option<Sent>, AllocError>
     }
 }
 
-fn read_asked(alloc: Global, value: &Value) -> Result<Option<Asked>, AllocError>
+fn read_asked(alloc: Global, value: &Value) -> Result<Option<Asked<Sent>>, AllocError>
     ensures { IfOk result (λ o. option_map asked_in o ≡ asked_of (view value.now)) }
 {
     if count_members(value) != 3 {
@@ -180,7 +152,7 @@ fn read_asked(alloc: Global, value: &Value) -> Result<Option<Asked>, AllocError>
 }
 
 // The request of its parts, once the document's events are balanced.
-fn settle_all(alloc: Global, asked: Asked) -> Result<Request, RequestError>
+pub(super) fn settle_all(alloc: Global, asked: Asked<Sent>) -> Result<Request, RequestError>
     ensures { ReadsOwed IsRequest (request_if (Some (asked_in asked))) result }
 {
     let doc = settle(alloc, asked.sent)?;
@@ -189,38 +161,6 @@ fn settle_all(alloc: Global, asked: Asked) -> Result<Request, RequestError>
         doc,
         hops: asked.hops,
     })
-}
-
-// The same of a value that nothing else needs.
-fn take_asked(alloc: Global, value: Value) -> Result<Option<Asked>, AllocError>
-    ensures { IfOk result (λ o. option_map asked_in o ≡ asked_of (view value)) }
-{
-    if count_members(&value) != 3 {
-        return Ok(None);
-    }
-    let Some(from) = version_at(&value, "from") else {
-        return Ok(None);
-    };
-    let Some(hops) = read_hops(alloc, &value)? else {
-        return Ok(None);
-    };
-    let Some(document) = take_member(value, "doc") else {
-        return Ok(None);
-    };
-    match take_sent(alloc, document)? {
-        None => Ok(None),
-        Some(sent) => Ok(Some(Asked { from, sent, hops })),
-    }
-}
-
-/// `read_request` of a value that nothing else needs, so that its document isn't copied.
-pub fn take_request(alloc: Global, value: Value) -> Result<Request, RequestError>
-    ensures { ReadsOwed IsRequest (request_of (view value)) result }
-{
-    match take_asked(alloc, value)? {
-        None => Err(RequestError::Shape),
-        Some(asked) => settle_all(alloc, asked),
-    }
 }
 
 /// The request of a value: an object with exactly the members `from` (`"1.3"`, `"1.4"` or `"1.5"`), `doc`, a document
