@@ -1,8 +1,6 @@
 -- What is answered is the reply that is owed.
-use Rattle.std.proofs.Common.{◌≡◌, List, [], ◌∷◌, length, map, codes, Option, Some, IsSome, Result, Ok, Err, IfOk, false, refl, sym, ap, ◌∙◌}
+use Rattle.std.proofs.Common.{◌≡◌, List, [], ◌∷◌, length, map, codes, Some, Result, Err, refl, sym, ap}
 use Rattle.std.specs.declared.alloc.AllocError.{AllocError}
-use Rattle.serde_json.specs.Data.{Data}
-use Rattle.serde_json.specs.Written.{has_float}
 use Rattle.cdx_models.specs.Trees.{Tree}
 use Rattle.cdx_schema.specs.Kinds.{a_bill}
 use Rattle.cdx_schema.specs.Keeping.{keep}
@@ -19,10 +17,9 @@ use Rattle.cdx_bom.specs.Hops.{hop_document}
 use Rattle.cdx_bom.specs.Outputs.{kept_json}
 use Rattle.cdx_bom.specs.BillWriting.{document_in}
 use Rattle.cdx_request.specs.EventValues.{events_value}
-use Rattle.cdx_request.specs.Refusals.{only, refusal_value}
-use Rattle.cdx_request.specs.Replies.{doc_value, reply, reply_to_road}
-use Rattle.cdx_tool.specs.declared.answer.Answer.{Answer}
-use Rattle.cdx_tool.specs.Shows.{doc_shown, reply_of}
+use Rattle.cdx_request.specs.Refusals.{only}
+use Rattle.cdx_request.specs.Replies.{doc_value}
+use Rattle.cdx_tool.specs.Shows.{doc_shown}
 
 -- a document is written as its like in the schema
 doc_is : (d : Doc) (x : roads.Doc) → IsDoc d x → doc_shown d ≡ doc_value x
@@ -43,9 +40,6 @@ refuses owed (error.Json f) other h = h
 refuses owed (error.Xml f) other h = h
 refuses owed (error.Bom f) other h = h
 refuses owed (error.Memory m) other h = absurd (other m refl)
-
-pub is_refusal : (o : Option Refusal) (r : Refusal) → o ≡ Some r → IsSome o
-is_refusal o r is = rw is refl
 
 -- documents beside two are two
 pub two_docs : (ds : List Doc) (x y : roads.Doc) → AreDocs ds (x ∷ y ∷ []) → length ds ≡ 2

@@ -5,8 +5,8 @@ use cdx_events::{Events, List, MemorySink, SoundSource, Text};
 use cdx_test_cases::checks::{holds, text_is};
 use cdx_test_cases::inputs::bytes_of;
 use cdx_tool::{
-    InputError, LongText, PutError, RequestError, events_from_json, events_to_json, put_answer, read_doc,
-    take_input,
+    InputError, LongText, PutError, RequestError, events_from_json, events_to_json, put_answer,
+    read_doc, take_input,
 };
 use serde_json::Value;
 use std::test::Fail;

@@ -109,6 +109,9 @@ fn no_requests(rt: HostRuntime) -> Result<(), Fail> {
     answered(alloc, 2, NO_REQUESTS)?;
     // A request is text in UTF-8.
     let answer = answer_bytes(alloc, b"\"\xff\"")?;
-    text_is(answer.text.to_text(alloc)?.as_str(), "{\"request\":\"not JSON\"}\n")?;
+    text_is(
+        answer.text.to_text(alloc)?.as_str(),
+        "{\"request\":\"not JSON\"}\n",
+    )?;
     holds("what is no request ends with status 2", answer.status == 2)
 }
