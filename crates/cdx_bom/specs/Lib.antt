@@ -6,7 +6,6 @@ pub mod Laws
 pub mod Labels
 pub mod Groups
 pub mod Stays
-pub mod Floats
 pub mod Outputs
 pub mod SettledBills
 pub mod Reading

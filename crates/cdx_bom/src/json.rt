@@ -14,7 +14,6 @@ ghost use Rattle.cdx_bom.specs.ReadApart.{AreComponents, with_components};
 ghost use Rattle.cdx_bom.specs.Stays.{kept_bill_there};
 ghost use Rattle.cdx_json.specs.SeenOf.{seen_of};
 
-mod floats;
 mod keeping;
 mod label;
 mod owned;
@@ -32,9 +31,8 @@ use cdx_json::{
 use cdx_models::{JsonKind, JsonReadError, SpecVersion};
 use cdx_nest::Components;
 use cdx_schema::Target;
-pub(crate) use floats::refuse_floats;
 use keeping::{keep_inventory, keep_relations};
-pub(crate) use owned::take_bill;
+pub(crate) use owned::bill_from_owned;
 use reading::{read_inventory, read_relations};
 use serde_json::Value;
 use std::alloc::{AllocError, Global};

@@ -1,2 +1,4 @@
+pub mod FloatSearch
 pub mod Left
 pub mod Others
+pub mod ReadTo

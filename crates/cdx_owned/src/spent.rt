@@ -6,9 +6,9 @@ use std::alloc::{AllocError, Global};
 
 // So many are held at most before they are freed: few enough that what lies in their room still lies near, and enough that
 // their room is joined again.
-const MOST: usize = 512;
+const MOST: usize = 96;
 
-/// Values that were read and that nothing needs any more, freed some hundred at once. Freed one by one, each would leave
+/// Values that were read and that nothing needs any more, freed some dozens at once. Freed one by one, each would leave
 /// room for a part of what is made of the next ones, which then would lie scattered. The first ones are freed sooner, since
 /// what is made of them finds no room yet: one by itself, and then each time some twice as many.
 #[derive(Drop)]
@@ -26,10 +26,10 @@ impl<T: Drop> Spent<T> {
         Ok(Spent { alloc, held })
     }
 
-    /// Takes one more. At most 512 are held: where there is no room for one more, they are freed first. Only want of memory
+    /// Takes one more. At most 96 are held: where there is no room for one more, they are freed first. Only want of memory
     /// refuses.
     pub fn put(&mut self, item: T) -> Result<(), AllocError>
-        ensures { length self.old.held.items ≤ 512 → length self.new.held.items ≤ 512 }
+        ensures { length self.old.held.items ≤ 96 → length self.new.held.items ≤ 96 }
     {
         let count = self.held.len();
         if count >= MOST || count >= self.held.capacity() {

@@ -9,10 +9,11 @@ ghost use Rattle.cdx_json.specs.Gives.{Gives};
 ghost use Rattle.cdx_bom.specs.Trees.{bom_tree};
 
 use crate::bom::Bom;
-use crate::json::{refuse_floats, take_bill};
-use cdx_json::{Context, FromJson};
+use crate::json::bill_from_owned;
+use cdx_json::FromJson;
 use cdx_models::{JsonReadError, SpecVersion};
-use cdx_schema::{Depth, laws};
+use cdx_owned::refuse_floats;
+use cdx_schema::laws;
 use serde_json::Value;
 use std::alloc::Global;
 
@@ -42,13 +43,10 @@ impl Bom {
     ) -> Result<Bom, JsonReadError>
         ensures { Gives bom_tree result (json_denotes (view value) version) }
     {
-        refuse_floats(alloc, &value)?;
-        let context = Context {
-            alloc,
-            version,
-            depth: Depth::top(),
-        };
-        take_bill(value, context)
+        match value {
+            Value::Object(map) => bill_from_owned(alloc, map, version),
+            other => Bom::parse_json(alloc, &other, version),
+        }
     }
 
     /// The bill that a JSON value denotes in 1.3, or its first fault, as `parse_json`.

@@ -1,59 +1,67 @@
-//! Bills from JSON values that nothing else needs, whose components are freed while they are read.
+//! Bills from JSON objects that nothing else needs, whose components are freed while they are read.
 
-ghost use Rattle.std.specs.Prelude.{◌≡◌, List, ℕ, false, codes};
-ghost use Rattle.std.specs.Str.{bytes_eq};
+ghost use Rattle.std.specs.Prelude.{◌≡◌, codes, IfOk};
+ghost use Rattle.serde_json.specs.Data.{object};
 ghost use Rattle.serde_json.specs.Find.{get_member};
-ghost use Rattle.serde_json.specs.View.{view, members_view};
-ghost use Rattle.cdx_schema.specs.Kinds.{a_bill};
-ghost use Rattle.cdx_schema.specs.JsonReading.{jread, seen};
+ghost use Rattle.serde_json.specs.View.{members_view};
+ghost use Rattle.cdx_schema.specs.JsonReading.{json_denotes, seen};
 ghost use Rattle.cdx_schema.specs.Depths.{depth_of};
 ghost use Rattle.cdx_json.specs.Gives.{Gives};
+ghost use Rattle.cdx_owned.specs.Floats.{to_unit, unless_float, float_under};
+ghost use Rattle.cdx_owned.specs.Without.{without};
 ghost use Rattle.cdx_bom.specs.Trees.{bom_tree};
-ghost use Rattle.cdx_bom.specs.Groups.{bill_by_groups};
 ghost use Rattle.cdx_bom.specs.ReadApart.{AreComponents};
 
 use crate::bom::Bom;
 use crate::json::bom_from_members;
-use cdx_json::{Context, FromJson, SeenMembers};
-use cdx_models::JsonReadError;
+use cdx_json::{Context, SeenMembers};
+use cdx_models::{JsonReadError, SpecVersion};
 use cdx_nest::{Component, Components};
-use cdx_owned::take_list_row;
+use cdx_owned::{refuse_floats_before, refuse_member_floats, take_list_row};
+use cdx_schema::Depth;
 use serde_json::{Map, Value};
+use std::alloc::Global;
 
-/// The bill that a value denotes, or its first fault, as `from_json_at` gives it.
-pub(crate) fn take_bill(value: Value, context: Context) -> Result<Bom, JsonReadError>
+/// The bill that an object of these members denotes, or its first fault, as `parse_json` gives it. Floating-point numbers
+/// are looked for in each component right before it is read, so that what is read next lies near.
+pub(crate) fn bill_from_owned(
+    alloc: Global,
+    map: Map<String, Value>,
+    version: SpecVersion,
+) -> Result<Bom, JsonReadError>
     ensures { Gives bom_tree result
-        (jread (view value) context.version a_bill (depth_of context.depth)) }
+        (json_denotes (object (members_view map.entries)) version) }
 {
-    match value {
-        Value::Object(map) => take_members(map, context),
-        other => Bom::from_json_at(&other, context),
-    }
-}
-
-fn take_members(mut map: Map<String, Value>, context: Context) -> Result<Bom, JsonReadError>
-    ensures { Gives bom_tree result (bill_by_groups (seen (members_view map.entries))
-        context.version (depth_of context.depth)) }
-{
-    let components = take_components(&mut map, context);
-    let members = SeenMembers::of(context.alloc, &map)?;
+    let context = Context {
+        alloc,
+        version,
+        depth: Depth::top(),
+    };
+    let mut others = map;
+    refuse_floats_before(alloc, &others, "components")?;
+    let components = take_components(&mut others, context)?;
+    refuse_member_floats(alloc, &others)?;
+    let members = SeenMembers::of(alloc, &others)?;
     bom_from_members(&members, components, context)
 }
 
-// The components, which are taken out of the object. The other members stay.
+// The components, which are taken out of the object, or else their first float. The other members stay.
 fn take_components(
     map: &mut Map<String, Value>,
     context: Context,
-) -> Result<Option<Components>, JsonReadError>
-    ensures read { AreComponents (seen (members_view map.old.entries) (codes "components"))
-        context.version (depth_of context.depth) result }
-    ensures others { (other : List ℕ) → bytes_eq other (codes "components") ≡ false
-        → get_member other (members_view map.new.entries)
-        ≡ get_member other (members_view map.old.entries) }
+) -> Result<Result<Option<Components>, JsonReadError>, JsonReadError>
+    ensures floats { Gives to_unit result (unless_float (float_under (codes "components")
+        (get_member (codes "components") (members_view map.old.entries)))) }
+    ensures read { IfOk result (AreComponents
+        (seen (members_view map.old.entries) (codes "components"))
+        context.version (depth_of context.depth)) }
+    ensures others { members_view map.new.entries
+        ≡ without (codes "components") (members_view map.old.entries) }
 {
     match take_list_row::<Component>(map, "components", context) {
-        Err(error) => Err(error),
-        Ok(None) => Ok(None),
-        Ok(Some(list)) => Ok(Some(Components::from_list(list))),
+        Err(float) => Err(float),
+        Ok(Err(error)) => Ok(Err(error)),
+        Ok(Ok(None)) => Ok(Ok(None)),
+        Ok(Ok(Some(list))) => Ok(Ok(Some(Components::from_list(list)))),
     }
 }

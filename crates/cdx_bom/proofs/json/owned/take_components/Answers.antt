@@ -15,16 +15,18 @@ lists_components : IsJsonListOf (a_record component) components
 unfolding list
 lists_components = refl
 
-pub returns-in-Err-clause-read : goal.returns-in-Err-clause-read
-returns-in-Err-clause-read c =
-    subst (Fails c.in-Err.error) (member_held (seen (members_view c.args.map.now.entries)) (codes "components") optional (a_list components) c.args.context.version (depth_of c.args.context.depth)) (c.in-Err.ensures.read components lists_components)
+pub returns-in-Ok-Err-clause-read : goal.returns-in-Ok-Err-clause-read
+returns-in-Ok-Err-clause-read c =
+    subst (Fails c.in-Ok-Err.error) (member_held (seen (members_view c.args.map.now.entries)) (codes "components") optional (a_list components) c.args.context.version (depth_of c.args.context.depth))
+    ((rw c.in-Ok-Err.field-0-is at c.in-Ok-Err.ensures.read) components lists_components)
 
-pub returns-in-Ok-None-clause-read : goal.returns-in-Ok-None-clause-read
-returns-in-Ok-None-clause-read c =
-    sym (member_held (seen (members_view c.args.map.now.entries)) (codes "components") optional (a_list components) c.args.context.version (depth_of c.args.context.depth)) ∙ (rw c.in-Ok-None.field-0-is at c.in-Ok-None.ensures.read components lists_components)
-
-pub returns-in-Ok-Some-clause-read : goal.returns-in-Ok-Some-clause-read
-returns-in-Ok-Some-clause-read c =
+pub returns-in-Ok-Ok-None-clause-read : goal.returns-in-Ok-Ok-None-clause-read
+returns-in-Ok-Ok-None-clause-read c =
     sym (member_held (seen (members_view c.args.map.now.entries)) (codes "components") optional (a_list components) c.args.context.version (depth_of c.args.context.depth))
-    ∙ (rw c.in-Ok-Some.field-0-is at c.in-Ok-Some.ensures.read components lists_components)
+    ∙ (rw (c.in-Ok-Ok-None.field-0-is) at c.in-Ok-Ok-None.ensures.read) components lists_components
+
+pub returns-in-Ok-Ok-Some-clause-read : goal.returns-in-Ok-Ok-Some-clause-read
+returns-in-Ok-Ok-Some-clause-read c =
+    sym (member_held (seen (members_view c.args.map.now.entries)) (codes "components") optional (a_list components) c.args.context.version (depth_of c.args.context.depth))
+    ∙ (rw (c.in-Ok-Ok-Some.field-0-is) at c.in-Ok-Ok-Some.ensures.read) components lists_components
     ∙ ap Ok (ap (λ xs. items (each component_tree xs)) (sym c.from_list.ensures) ∙ sym (components_tree-out c.from_list.result))
