@@ -25,13 +25,14 @@ loop-item-preserved g c =
     let l = reading_items g.T.HasTree.tree g.T.Kinded.kind c.args.context all all at.held at.at in
     let m = reading_items g.T.HasTree.tree g.T.Kinded.kind c.args.context all all c.match-fault-3.held (at.at + 1) in
     let read : IsReadTo m c.match-fault-3.fault = elim c.match-fault-3.branch [
-        in-Some-fault w ↦ stays_at_fault l m at.fault c.match-fault-3.fault _ refl w.in-Some-fault.is w.fault-is at.invariant.0
+      | in-Some-fault w ↦ stays_at_fault l m at.fault c.match-fault-3.fault _ refl w.in-Some-fault.is w.fault-is at.invariant.0
       | in-None-fault+in-Ok+in_ok-push-in-Ok w ↦
-        let longer : at.held ++ w.in-Ok.one ∷ [] ≡ c.match-fault-3.held = sym w.in_ok-push-in-Ok.ensures.ok ∙ sym w.held-is in
-        subst (λ held. IsReadTo (reading_items g.T.HasTree.tree g.T.Kinded.kind c.args.context all all held (at.at + 1)) c.match-fault-3.fault) longer
-        (reads_one l c.in-Some.item w.in-Ok.one at.fault c.match-fault-3.fault next.0 next.1 w.in-Ok.ensures w.in-None-fault.is w.fault-is at.invariant.0)
+          let longer : at.held ++ w.in-Ok.one ∷ [] ≡ c.match-fault-3.held = sym w.in_ok-push-in-Ok.ensures.ok ∙ sym w.held-is in
+          subst (λ held. IsReadTo (reading_items g.T.HasTree.tree g.T.Kinded.kind c.args.context all all held (at.at + 1)) c.match-fault-3.fault) longer
+          (reads_one l c.in-Some.item w.in-Ok.one at.fault c.match-fault-3.fault next.0 next.1 w.in-Ok.ensures w.in-None-fault.is w.fault-is at.invariant.0)
       | in-None-fault+in-Err w ↦
-        meets_fault l m c.in-Some.item w.in-Err.e w.at_item.result at.fault c.match-fault-3.fault refl next.0 next.1 w.in-Err.ensures w.at_item.ensures w.in-None-fault.is w.fault-is at.invariant.0 ] in
+          meets_fault l m c.in-Some.item w.in-Err.e w.at_item.result at.fault c.match-fault-3.fault refl next.0 next.1 w.in-Err.ensures w.at_item.ensures w.in-None-fault.is w.fault-is at.invariant.0
+    ] in
     let floats = items_go all at.at c.in-Some.item _ next.0 next.1 c.in_ok-refuse_item.ensures at.invariant.1 in
     (read, floats, next.2, (let fewer = ap length c.in-Some.ensures.steps.0 in let fewer_still = c.in-Some.ensures.steps.1 in let was = at.invariant.3 in omega arith))
 

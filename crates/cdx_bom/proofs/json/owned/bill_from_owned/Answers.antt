@@ -47,7 +47,7 @@ returns c =
     let same = others_left (codes "components") before c.in_ok-refuse_floats_before.ensures c.in_ok-components.ensures.floats ∙ ap float_of_members (sym c.in_ok-components.ensures.others) in
     let stay = λ other apart. ap (get_member other) (c.in_ok-members.ensures ∙ c.in_ok-components.ensures.others) ∙ other_stays (codes "components") other apart before in
     let read = subst (λ o. Gives bom_tree c.bom_from_members.result (bill_by_groups o c.args.version top))
-        (sym (is_with (codes "components") (seen before) (seen others) (seen_alike before others (codes "components") stay)))
-        (c.bom_from_members.ensures (seen before (codes "components")) c.in_ok-components.ensures.read) in
+    (sym (is_with (codes "components") (seen before) (seen others) (seen_alike before others (codes "components") stay)))
+    (c.bom_from_members.ensures (seen before (codes "components")) c.in_ok-components.ensures.read) in
     read_after bom_tree c.bom_from_members.result (object before) c.args.version (ap unless_float same ∙ c.in_ok-refuse_member_floats.ensures)
     (bill_gives bom_tree c.bom_from_members.result (object before) before c.args.version top refl read)
