@@ -1,7 +1,9 @@
 //! The last document of a road, made piece by piece.
 
 use cdx_bom::{Bom, Form, Hop};
+use cdx_events::Text;
 use cdx_models::SpecVersion;
+use cdx_print::Printed;
 use cdx_test_cases::documents::line_of;
 use std::alloc::{AllocError, Global};
 
@@ -19,13 +21,13 @@ fn joined(alloc: Global, bill: &Bom, version: SpecVersion) -> Result<String, All
 }
 
 /// The text of the document that the hop makes of the bill.
-pub(crate) fn in_pieces(alloc: Global, bill: &Bom, hop: Hop) -> Result<String, AllocError> {
+pub(crate) fn in_pieces(alloc: Global, bill: &Bom, hop: Hop) -> Result<Text, AllocError> {
     match hop.form {
         Form::Json => {
-            let mut text = String::new(alloc);
+            let mut text = Printed::new(alloc);
             bill.print_json(alloc, hop.version, &mut text)?;
-            Ok(text)
+            text.finish()?.to_text(alloc)
         }
-        Form::Xml => joined(alloc, bill, hop.version),
+        Form::Xml => Ok(Text::from_string(joined(alloc, bill, hop.version)?)),
     }
 }

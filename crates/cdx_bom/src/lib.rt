@@ -18,7 +18,7 @@ pub use bom::settled::same;
 pub use doc::{Doc, Form, Hop, RoadError};
 pub use laws::{reads_without_empty_texts, roads_join, roads_settle};
 pub use push::{GatheringReader, PushError, PushReader};
-pub use putting::{PutError, put_bytes, put_text};
+pub use putting::{PutError, put_bytes, put_long_text, put_text};
 pub use roads::{
     fits_all, into_bill, into_road, is_document, next_bill, one_document, recode, road, start_road,
     version_missing,

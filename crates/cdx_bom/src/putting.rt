@@ -5,6 +5,7 @@ ghost use Rattle.std.specs.Io.KnownBytes.{Appends};
 ghost use Rattle.cdx_events.specs.Causes.{HasCause};
 
 use cdx_events::{Failed, Sink, Text};
+use cdx_print::LongText;
 
 /// The sink failed. So many of the text's first bytes went out.
 #[derive(Debug, Drop)]
@@ -48,5 +49,32 @@ pub fn put_text<K: Sink>(text: &Text, sink: &mut K) -> Result<(), PutError>
         Err(Failed) => Err(PutError {
             written: bytes.len(),
         }),
+    }
+}
+
+/// `put_text` of a text in pieces.
+pub fn put_long_text<K: Sink>(text: &LongText, sink: &mut K) -> Result<(), PutError>
+    ensures ok { OnOk result (Appends (K.written sink.old) (K.written sink.new) text.now) }
+    ensures flushed { OnOk result (IfSome (K.flushed sink.new)
+        (λ n. IfSome (K.written sink.new) (λ bytes. n ≡ length bytes))) }
+    ensures err { IfErr result (λ e. (e.written ≤ length text.now)
+        × Appends (K.written sink.old) (K.written sink.new) (take e.written text.now)) }
+    ensures cause { HasCause (K.faults sink.old) (K.faults sink.new) result }
+{
+    let mut at = 0;
+    for piece in text.as_slice() {
+        let bytes = piece.as_str().as_bytes();
+        match put_bytes(bytes, sink) {
+            Ok(()) => at += bytes.len(),
+            Err(error) => {
+                return Err(PutError {
+                    written: at + error.written,
+                });
+            }
+        }
+    }
+    match sink.flush() {
+        Ok(()) => Ok(()),
+        Err(Failed) => Err(PutError { written: at }),
     }
 }

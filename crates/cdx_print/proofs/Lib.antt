@@ -1,1 +1,3 @@
+pub mod Behind
+pub mod LongTexts
 pub mod Printing

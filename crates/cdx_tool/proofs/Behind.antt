@@ -1,19 +1,10 @@
--- What is printed behind the pieces of a long text.
-use Rattle.std.proofs.Common.{◌≡◌, ◌∙◌, ℕ, List, ◌++◌, Bool, Result, Ok, Err, OnOk, sym, ap, append_assoc}
+-- Items that are printed behind the pieces of a long text.
+use Rattle.std.proofs.Common.{◌∙◌, ℕ, List, ◌++◌, Bool, sym, ap, append_assoc}
 use Rattle.serde_json.specs.Data.{Data}
 use Rattle.serde_json.specs.View.{items_of}
 use Rattle.serde_json.specs.Written.{items_text}
 use Rattle.cdx_tool.specs.Prints.{PrintsItems}
 
--- more behind the last piece
-pub behind : (pieces old more new : List ℕ) → new ≡ old ++ more → pieces ++ new ≡ (pieces ++ old) ++ more
-behind pieces old more new is = ap (λ s. pieces ++ s) is ∙ sym (append_assoc pieces old more)
-
-pub behind_if : {E : Type 0} (pieces old more new : List ℕ) (r : Result (Unit {0}) E) → OnOk r (new ≡ old ++ more) → OnOk r (pieces ++ new ≡ (pieces ++ old) ++ more)
-behind_if pieces old more new (Ok u) h = behind pieces old more new h
-behind_if pieces old more new (Err e) h = tt
-
--- and so items
 pub items_behind : (pieces : List ℕ) (ds : List Data) (old : List ℕ) (first : Bool) (new : List ℕ) (later : Bool) → PrintsItems ds old first new later → PrintsItems ds (pieces ++ old) first (pieces ++ new) later
 items_behind pieces ds old first new later h more =
     append_assoc pieces new (items_text later (items_of more))

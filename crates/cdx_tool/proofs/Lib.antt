@@ -11,7 +11,6 @@ pub mod Printing
 pub mod InPieces
 pub mod LoneMember
 pub mod Underway
-pub mod LongTexts
 pub mod Behind
 pub mod Gathering
 pub mod Lacking

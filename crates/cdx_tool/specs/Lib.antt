@@ -1,7 +1,6 @@
 pub mod Reads
 pub mod Shows
 pub mod Prints
-pub mod Printed
 pub mod Words
 pub mod Commands
 pub mod Run

@@ -1,6 +1,6 @@
 //! Answers to requests.
 
-use crate::long_text::LongText;
+use cdx_print::LongText;
 
 /// An answer: the status that the program ends with, and the text that it writes, with its line feed.
 #[derive(Debug, Drop)]

@@ -4,10 +4,10 @@ ghost use Rattle.std.specs.Prelude.{◌≡◌, ◌≤◌, length, take, IfErr, I
 ghost use Rattle.std.specs.Io.KnownBytes.{Appends};
 ghost use Rattle.cdx_events.specs.Causes.{HasCause};
 
-use crate::long_text::LongText;
 pub use cdx_bom::PutError;
-use cdx_bom::put_bytes;
-use cdx_events::{Failed, Sink};
+use cdx_bom::put_long_text;
+use cdx_events::Sink;
+use cdx_print::LongText;
 
 /// Puts the text's bytes and then flushes. `Ok` comes only where the sink's count of faults stayed: then the whole
 /// text went out, and all that was written is flushed. `PutError` comes only where the count rose. It takes no memory.
@@ -19,20 +19,5 @@ pub fn put_answer<K: Sink>(text: &LongText, sink: &mut K) -> Result<(), PutError
         × Appends (K.written sink.old) (K.written sink.new) (take e.written text.now)) }
     ensures cause { HasCause (K.faults sink.old) (K.faults sink.new) result }
 {
-    let mut at = 0;
-    for piece in text.as_slice() {
-        let bytes = piece.as_str().as_bytes();
-        match put_bytes(bytes, sink) {
-            Ok(()) => at += bytes.len(),
-            Err(error) => {
-                return Err(PutError {
-                    written: at + error.written,
-                });
-            }
-        }
-    }
-    match sink.flush() {
-        Ok(()) => Ok(()),
-        Err(Failed) => Err(PutError { written: at }),
-    }
+    put_long_text(text, sink)
 }

@@ -1,17 +1,18 @@
 //! Bills as JSON texts into sinks.
 
-ghost use Rattle.std.specs.Prelude.{◌≡◌, length, IfErr, IfSome, OnOk};
+ghost use Rattle.std.specs.Prelude.{◌≡◌, length, IfErr, IfOk, IfSome, OnOk};
 ghost use Rattle.std.specs.Io.KnownBytes.{Appends};
 ghost use Rattle.cdx_schema.specs.Laws.{Fits};
 ghost use Rattle.cdx_bom.specs.Trees.{bom_tree};
 ghost use Rattle.cdx_bom.specs.Outputs.{compact_kept, Outputs, IsRefused};
 
 use crate::bom::Bom;
-use crate::putting::put_text;
+use crate::putting::put_long_text;
 use crate::refused::lacks_version;
-use cdx_events::{Sink, Text};
+use cdx_events::Sink;
 use cdx_models::{JsonWriteError, SpecVersion};
-use std::alloc::Global;
+use cdx_print::{LongText, Printed};
+use std::alloc::{AllocError, Global};
 
 impl Bom {
     /// Writes what the version keeps of the bill into a sink, as `serde_json`'s compact text of the value that
@@ -35,7 +36,7 @@ impl Bom {
             (λ e. IsRefused version (bom_tree self.now) K.written K.faults sink.old sink.new e) }
     {
         let text = self.json_text(alloc, version)?;
-        match put_text(&text, sink) {
+        match put_long_text(&text, sink) {
             Ok(()) => Ok(()),
             Err(error) => Err(JsonWriteError::JsonElementWriteError {
                 written: error.written,
@@ -44,17 +45,25 @@ impl Bom {
     }
 
     // The compact text of the value that `output_json` answers.
-    fn json_text(&self, alloc: Global, version: SpecVersion) -> Result<Text, JsonWriteError>
+    fn json_text(&self, alloc: Global, version: SpecVersion) -> Result<LongText, JsonWriteError>
         ensures { Outputs result version (bom_tree self.now)
             (λ t. t ≡ compact_kept version (bom_tree self.now)) }
     {
         if !self.fits(version) {
             return Err(JsonWriteError::BomError(lacks_version()));
         }
-        let mut text = String::new(alloc);
-        match self.print_json(alloc, version, &mut text) {
-            Ok(()) => Ok(Text::from_string(text)),
+        match self.kept_text(alloc, version) {
+            Ok(text) => Ok(text),
             Err(error) => Err(JsonWriteError::Memory(error)),
         }
+    }
+
+    // The compact text of what the version keeps of the bill.
+    fn kept_text(&self, alloc: Global, version: SpecVersion) -> Result<LongText, AllocError>
+        ensures { IfOk result (λ t. t ≡ compact_kept version (bom_tree self.now)) }
+    {
+        let mut text = Printed::new(alloc);
+        self.print_json(alloc, version, &mut text)?;
+        text.finish()
     }
 }

@@ -1,11 +1,12 @@
 //! Bills printed as JSON, piece by piece.
 
-ghost use Rattle.std.specs.Prelude.{◌≡◌, ◌++◌, OnOk, IfOk, string_bytes};
+ghost use Rattle.std.specs.Prelude.{◌≡◌, ◌++◌, OnOk, IfOk};
 ghost use Rattle.serde_json.specs.Data.{no_members};
 ghost use Rattle.cdx_json.specs.Spellings.{spelling_members};
 ghost use Rattle.cdx_models.specs.Trees.{bill, absent};
 ghost use Rattle.cdx_schema.specs.Groups.{group};
 ghost use Rattle.cdx_json.specs.KeptRows.{rows_put};
+ghost use Rattle.cdx_print.specs.Printed.{printed};
 ghost use Rattle.cdx_bom.specs.Trees.{bom_tree, inventory_beside, relations};
 ghost use Rattle.cdx_bom.specs.Outputs.{compact_kept};
 
@@ -13,7 +14,7 @@ use crate::bom::Bom;
 use crate::json::writing::{put_inventory, put_relations};
 use cdx_json::{Members, ToJson};
 use cdx_models::SpecVersion;
-use cdx_print::{Printer, print_items, print_members, print_spelling};
+use cdx_print::{Printed, Printer, print_items, print_members, print_spelling};
 use cdx_schema::Target;
 use std::alloc::{AllocError, Global};
 
@@ -28,22 +29,22 @@ impl Bom {
         &self,
         alloc: Global,
         version: SpecVersion,
-        out: &mut String,
+        out: &mut Printed,
     ) -> Result<(), AllocError>
-        ensures { OnOk result (string_bytes out.new
-            ≡ string_bytes out.old ++ compact_kept version (bom_tree self.now)) }
+        ensures { OnOk result (printed out.new
+            ≡ printed out.old ++ compact_kept version (bom_tree self.now)) }
     {
         match &self.components {
             None => {
                 let spelling = self.spelling(alloc, version)?;
-                print_spelling(&mut Printer::new(alloc), out, &spelling)
+                print_spelling(&mut Printer::new(alloc), &mut out.last, &spelling)
             }
             Some(components) => {
                 out.push_str(BEGINNING)?;
                 let mut printer = Printer::new(alloc);
                 print_items(&mut printer, out, components.as_slice(), version)?;
                 let others = other_rows(self, Target { alloc, version })?;
-                print_members(&mut printer, out, &others, true)
+                print_members(&mut printer, &mut out.last, &others, true)
             }
         }
     }

@@ -14,12 +14,12 @@ ghost use Rattle.cdx_tool.specs.Shows.{reply_of};
 
 use super::text::road_line;
 use super::{Answer, LIMIT};
-use crate::long_text::LongText;
 use crate::question::{NoBill, answer_no_bill};
 use crate::request::{Asked, take_asked};
 use crate::status::Status;
 use cdx_bom::{Bom, Hop, fits_all, version_missing};
 use cdx_events::{List as Items, Text};
+use cdx_print::LongText;
 use serde_json::{Category, Value, json};
 use std::alloc::{AllocError, Global};
 

@@ -1,6 +1,6 @@
 //! The documents of a road as text, each made while it is printed.
 
-ghost use Rattle.std.specs.Prelude.{◌≡◌, ◌++◌, codes, Ok, OnOk, string_bytes};
+ghost use Rattle.std.specs.Prelude.{◌≡◌, ◌++◌, codes, Ok, OnOk};
 ghost use Rattle.serde_json.specs.Written.{compact_text};
 ghost use Rattle.cdx_models.specs.declared.bom.SpecVersion.{SpecVersion};
 ghost use Rattle.cdx_schema.specs.Roads.{Doc as SchemaDoc, denotes, hops_from};
@@ -11,24 +11,23 @@ ghost use Rattle.cdx_bom.specs.Outputs.{compact_kept};
 ghost use Rattle.cdx_bom.specs.BillWriting.{document_in};
 ghost use Rattle.cdx_request.specs.EventValues.{events_value};
 ghost use Rattle.cdx_request.specs.Replies.{doc_value};
-ghost use Rattle.cdx_tool.specs.Printed.{printed};
+ghost use Rattle.cdx_print.specs.Printed.{printed};
 ghost use Rattle.cdx_tool.specs.Prints.{PrintsRoad, AnswersLine};
 
 use crate::events::print_document;
-use crate::long_text::LongText;
-use crate::printed::Printed;
 use cdx_bom::{Bom, Form, Hop, RoadError, next_bill};
 use cdx_models::SpecVersion;
+use cdx_print::{LongText, Printed};
 use std::alloc::{AllocError, Global};
 
 fn push_kept(
     alloc: Global,
-    text: &mut String,
+    text: &mut Printed,
     bill: &Bom,
     version: SpecVersion,
 ) -> Result<(), AllocError>
-    ensures { OnOk result (string_bytes text.new
-        ≡ ((string_bytes text.old ++ codes "{\"json\":")
+    ensures { OnOk result (printed text.new
+        ≡ ((printed text.old ++ codes "{\"json\":")
         ++ compact_kept version (bom_tree bill.now)) ++ codes "}") }
 {
     text.push_str("{\"json\":")?;
@@ -57,7 +56,7 @@ fn push_hop(alloc: Global, text: &mut Printed, bill: &Bom, hop: Hop) -> Result<(
         ++ compact_text (doc_value (hop_document (bom_tree bill.now) (hop_of hop)))) }
 {
     match hop.form {
-        Form::Json => push_kept(alloc, &mut text.last, bill, hop.version),
+        Form::Json => push_kept(alloc, text, bill, hop.version),
         Form::Xml => push_document(alloc, text, bill, hop.version),
     }
 }
@@ -86,7 +85,7 @@ fn push_hops(alloc: Global, text: &mut Printed, start: Bom, hops: &[Hop]) -> Res
 }
 
 /// The line of `documents_value` of the documents of a road along these hops, which starts with the bill, or the road's
-/// refusal: without its value, and no document of it in JSON is ever there as a whole.
+/// refusal: without its value, and no document of it is ever there as a whole.
 pub(crate) fn road_line(alloc: Global, bill: Bom, hops: &[Hop]) -> Result<LongText, RoadError>
     ensures { (x : SchemaDoc) (v : SpecVersion) → denotes x v ≡ Ok (bom_tree bill)
         → AnswersLine (hops_from x v (hops_of hops.now)) result }

@@ -8,14 +8,13 @@ ghost use Rattle.cdx_bom.specs.Trees.{bom_tree};
 ghost use Rattle.cdx_bom.specs.BillWriting.{document_in};
 ghost use Rattle.cdx_print.specs.Prints.{then_text};
 ghost use Rattle.cdx_request.specs.EventValues.{attribute_value, event_value, events_value};
-ghost use Rattle.cdx_tool.specs.Printed.{printed};
+ghost use Rattle.cdx_print.specs.Printed.{printed};
 ghost use Rattle.cdx_tool.specs.Prints.{then_text_if, then_name, then_default, then_attributes, PrintsItems};
 
-use crate::printed::Printed;
 use cdx_bom::Bom;
 use cdx_events::{Events, List as Items, OwnedAttribute, OwnedName, Text, XmlEvent as Event};
 use cdx_models::SpecVersion;
-use cdx_print::{Printer, print_comma_if};
+use cdx_print::{Printed, Printer, print_comma_if};
 use std::alloc::{AllocError, Global};
 
 fn print_text_if(

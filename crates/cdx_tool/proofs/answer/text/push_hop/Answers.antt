@@ -1,27 +1,21 @@
-use Rattle.std.proofs.Common.{◌≡◌, ◌∙◌, ◌++◌, List, ℕ, OnOk, ap, subst, string_bytes}
+use Rattle.std.proofs.Common.{◌≡◌, ◌∙◌, ◌++◌, List, ℕ, OnOk, ap, subst}
 use Rattle.serde_json.specs.Written.{compact_text}
 use Rattle.cdx_bom.specs.Trees.{bom_tree}
-use Rattle.cdx_bom.specs.Docs.{hop_of}
-use Rattle.cdx_bom.specs.Hops.{hop_document}
 use Rattle.cdx_bom.specs.Outputs.{kept_json}
 use Rattle.cdx_bom.specs.BillWriting.{document_in}
 use Rattle.cdx_request.specs.EventValues.{events_value}
-use Rattle.cdx_request.specs.Replies.{doc_value}
-use Rattle.cdx_tool.specs.Printed.{printed}
-use Rattle.cdx_tool.proofs.Behind.{behind_if}
+use Rattle.cdx_print.specs.Printed.{printed}
 use Rattle.cdx_tool.proofs.Answering.{in_json, in_xml}
 use Rattle.cdx_tool.proofs.Printing.{json_printed, xml_printed}
 use Rattle.cdx_tool.proofs.answer.text.push_hop.Goals as goal
 
 pub returns-in-Json : goal.returns-in-Json
 returns-in-Json c =
-    let text = c.args.text.now in
-    let old = string_bytes text.last in
+    let old = printed c.args.text.now in
     let b = bom_tree c.args.bill.now in
     let h = c.args.hop in
     let whole = json_printed old (kept_json h.version b) ∙ ap (λ d. old ++ compact_text d) (in_json b h c.in-Json.is) in
-    let last = string_bytes c.push_kept.new.text in
-    behind_if text.pieces old (compact_text (doc_value (hop_document b (hop_of h)))) last c.push_kept.result (subst (λ (s : List ℕ). OnOk c.push_kept.result (last ≡ s)) whole c.push_kept.ensures)
+    subst (λ (s : List ℕ). OnOk c.push_kept.result (printed c.push_kept.new.text ≡ s)) whole c.push_kept.ensures
 
 pub returns-in-Xml : goal.returns-in-Xml
 returns-in-Xml c =

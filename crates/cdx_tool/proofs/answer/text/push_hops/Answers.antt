@@ -4,7 +4,7 @@ use Rattle.std.proofs.lemmas.Result.{err_from_is_err_and}
 use Rattle.cdx_models.specs.declared.bom.SpecVersion.TheVariants.{V1_3}
 use Rattle.cdx_bom.specs.declared.doc.Form.TheVariants.{Json}
 use Rattle.cdx_bom.specs.declared.doc.Hop.{Hop}
-use Rattle.cdx_tool.specs.Printed.{printed}
+use Rattle.cdx_print.specs.Printed.{printed}
 use Rattle.cdx_tool.proofs.Underway.{IsUnderway, begins, goes_on, stops, ends}
 use Rattle.cdx_tool.proofs.answer.text.push_hops.Goals as goal
 

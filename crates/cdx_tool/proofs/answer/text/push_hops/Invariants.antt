@@ -1,5 +1,5 @@
 use Rattle.std.proofs.Common.{drop}
-use Rattle.cdx_tool.specs.Printed.{printed}
+use Rattle.cdx_print.specs.Printed.{printed}
 use Rattle.cdx_tool.proofs.Underway.{IsUnderway}
 use Rattle.cdx_tool.proofs.answer.text.push_hops.Given as goal
 

@@ -2,7 +2,7 @@ use Rattle.std.proofs.Common.{rules, ◌≡◌, ◌∙◌, ◌++◌, map, codes,
 use Rattle.serde_json.specs.View.{items_of}
 use Rattle.serde_json.specs.Written.{items_text}
 use Rattle.cdx_request.specs.Replies.{doc_value}
-use Rattle.cdx_tool.specs.Printed.{printed}
+use Rattle.cdx_print.specs.Printed.{printed}
 use Rattle.cdx_tool.proofs.Printing.{documents_printed}
 use Rattle.cdx_tool.proofs.answer.text.road_line.Goals as goal
 

@@ -5,7 +5,7 @@ use Rattle.cdx_bom.specs.Trees.{bom_tree}
 use Rattle.cdx_bom.specs.Pieces.{GivesPiece}
 use Rattle.cdx_bom.specs.BillWriting.{document_in}
 use Rattle.cdx_request.specs.EventValues.{event_value, events_value}
-use Rattle.cdx_tool.specs.Printed.{printed}
+use Rattle.cdx_print.specs.Printed.{printed}
 use Rattle.cdx_tool.proofs.Behind.{items_behind}
 use Rattle.cdx_tool.proofs.InPieces.{begun, piece_printed}
 use Rattle.cdx_tool.proofs.events.print.print_document.Goals as goal

@@ -4,7 +4,7 @@ use Rattle.serde_json.specs.Written.{compact_text, items_text}
 use Rattle.cdx_bom.specs.Trees.{bom_tree}
 use Rattle.cdx_bom.specs.BillWriting.{document_in}
 use Rattle.cdx_request.specs.EventValues.{event_value, events_value}
-use Rattle.cdx_tool.specs.Printed.{printed}
+use Rattle.cdx_print.specs.Printed.{printed}
 use Rattle.cdx_tool.proofs.events.print.print_document.Given as goal
 
 -- the pieces so far, and then the events ahead

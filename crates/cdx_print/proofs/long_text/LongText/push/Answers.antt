@@ -1,7 +1,7 @@
 use Rattle.std.proofs.Common.{◌≡◌, ◌∙◌, ◌+◌, ◌++◌, length, ap, length-append, arith}
 use Rattle.std.specs.List.{concat}
-use Rattle.cdx_tool.proofs.LongTexts.{one_more}
-use Rattle.cdx_tool.proofs.long_text.LongText.push.Goals as goal
+use Rattle.cdx_print.proofs.LongTexts.{one_more}
+use Rattle.cdx_print.proofs.long_text.LongText.push.Goals as goal
 
 pub invariant_of-self-2 : goal.invariant_of-self-2
 invariant_of-self-2 c =

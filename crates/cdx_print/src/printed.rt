@@ -1,7 +1,7 @@
 //! Long texts while they are printed.
 
 ghost use Rattle.std.specs.Prelude.{◌≡◌, [], ◌++◌, IfOk, OnOk};
-ghost use Rattle.cdx_tool.specs.Printed.{printed};
+ghost use Rattle.cdx_print.specs.Printed.{printed};
 
 use crate::long_text::LongText;
 use cdx_events::Text;
@@ -16,7 +16,7 @@ const ROOM: usize = 65_536;
 
 /// What was printed of a long text: its pieces, and the text behind them, which is printed on.
 #[derive(Drop)]
-pub(crate) struct Printed {
+pub struct Printed {
     /// The pieces that ended.
     pub pieces: LongText,
     /// What stands behind them.

@@ -1,7 +1,7 @@
 use Rattle.std.proofs.Common.{◌∙◌, ◌++◌, take, ap, sym}
 use Rattle.std.specs.List.{concat}
-use Rattle.cdx_tool.proofs.LongTexts.{up_to_next}
-use Rattle.cdx_tool.proofs.long_text.LongText.to_text.Goals as goal
+use Rattle.cdx_print.proofs.LongTexts.{up_to_next}
+use Rattle.cdx_print.proofs.long_text.LongText.to_text.Goals as goal
 
 pub loop-piece-preserved : goal.loop-piece-preserved
 loop-piece-preserved c =

@@ -1,6 +1,6 @@
 -- What was printed of a long text.
 use Rattle.std.specs.Prelude.{ℕ, List, ◌++◌, string_bytes}
-use Rattle.cdx_tool.specs.declared.printed.Printed.{Printed}
+use Rattle.cdx_print.specs.declared.printed.Printed.{Printed}
 
 -- its pieces, and what stands behind them
 abbrev pub printed : Printed → List ℕ
