@@ -1,9 +1,9 @@
 //! Texts printed as JSON, of which names come again and again: `serde_json` prints each of them once.
 
-ghost use Rattle.std.specs.Prelude.{◌≡◌, ◌++◌, IfSome, OnOk, string_bytes};
+ghost use Rattle.std.specs.Prelude.{◌≡◌, ◌++◌, codes, IfOk, IfSome, OnOk, string_bytes};
 ghost use Rattle.serde_json.specs.Data.{string};
 ghost use Rattle.serde_json.specs.Written.{compact_text};
-ghost use Rattle.cdx_print.specs.Prints.{then_text};
+ghost use Rattle.cdx_print.specs.Prints.{then_text, key_text};
 
 use crate::known::KnownText;
 use crate::pieces::{print_text, quoted};
@@ -54,10 +54,31 @@ impl Printer {
         out.push_str(start)?;
         let place = place_of(name.as_bytes());
         let at = self.places[place as usize] as usize;
-        match printed_at(self.known.as_slice(), at, name) {
-            Some(printed) => out.push_str(printed),
+        match known_at(self.known.as_slice(), at, name) {
+            Some(held) => out.push_str(held.printed.as_str()),
             None => self.print_found(out, name, place),
         }
+    }
+
+    /// The start of a member: a comma, where one stands before it, its name as JSON and the colon. Only want of memory
+    /// refuses.
+    pub fn print_key(
+        &mut self,
+        out: &mut String,
+        name: &str,
+        is_later: bool,
+    ) -> Result<(), AllocError>
+        ensures { OnOk result
+            (string_bytes out.new ≡ string_bytes out.old ++ key_text is_later name.now) }
+    {
+        if is_later {
+            let at = self.places[place_of(name.as_bytes()) as usize] as usize;
+            if let Some(held) = known_at(self.known.as_slice(), at, name) {
+                return out.push_str(held.key.as_str());
+            }
+        }
+        self.print_name(out, if is_later { "," } else { "" }, name)?;
+        out.push_str(":")
     }
 
     // The name as JSON, where another was last met at its place.
@@ -67,8 +88,8 @@ impl Printer {
     {
         let at = position(self.known.as_slice(), name);
         self.places[place as usize] = at;
-        match printed_at(self.known.as_slice(), at as usize, name) {
-            Some(printed) => out.push_str(printed),
+        match known_at(self.known.as_slice(), at as usize, name) {
+            Some(held) => out.push_str(held.printed.as_str()),
             None => self.print_new(out, name),
         }
     }
@@ -82,7 +103,8 @@ impl Printer {
         out.push_str(printed.as_str())?;
         if self.known.len() < MOST && name.len() <= LONGEST {
             let text = String::from_str(self.alloc, name)?;
-            self.known.push(KnownText { text, printed })?;
+            let key = key_of(self.alloc, printed.as_str())?;
+            self.known.push(KnownText { text, printed, key })?;
         }
         Ok(())
     }
@@ -99,14 +121,25 @@ fn place_of(name: &[u8]) -> u8 {
     }
 }
 
-// What was printed of the name, if it is the known one with this number.
-fn printed_at<'k>(known: &'k [KnownText], at: usize, name: &str) -> Option<&'k str>
-    ensures { IfSome result (λ p. p.now ≡ compact_text (string name.now)) }
+// The name, if it is the known one with this number.
+fn known_at<'k>(known: &'k [KnownText], at: usize, name: &str) -> Option<&'k KnownText>
+    ensures { IfSome result (λ k. string_bytes k.now.text ≡ name.now) }
 {
     match known.get(at) {
-        Some(held) if held.text.as_str() == name => Some(held.printed.as_str()),
+        Some(held) if held.text.as_str() == name => Some(held),
         _ => None,
     }
+}
+
+// What starts a member behind another, of what was printed of its name.
+fn key_of(alloc: Global, printed: &str) -> Result<String, AllocError>
+    ensures { IfOk result (λ k. string_bytes k ≡ codes "," ++ (printed.now ++ codes ":")) }
+{
+    let mut key = String::with_capacity(alloc, printed.len().saturating_add(2))?;
+    key.push_str(",")?;
+    key.push_str(printed)?;
+    key.push_str(":")?;
+    Ok(key)
 }
 
 // The name's number, if it is known, and otherwise the number that the next known name has.

@@ -4,7 +4,6 @@ ghost use Rattle.std.specs.Prelude.{◌≡◌, ◌++◌, OnOk, string_bytes};
 ghost use Rattle.serde_json.specs.Data.{array, boolean};
 ghost use Rattle.serde_json.specs.Written.{compact_text, members_text};
 ghost use Rattle.cdx_json.specs.Spellings.{spelling_data, spelling_items, spelling_members};
-ghost use Rattle.cdx_print.specs.Prints.{key_text};
 
 use crate::pieces::{print_comma_if, print_number};
 use crate::printer::Printer;
@@ -59,20 +58,6 @@ fn print_array(
     out.push_str("]")
 }
 
-// The start of a member, where one may stand before it.
-fn print_key(
-    printer: &mut Printer,
-    out: &mut String,
-    name: &str,
-    is_later: bool,
-) -> Result<(), AllocError>
-    ensures { OnOk result
-        (string_bytes out.new ≡ string_bytes out.old ++ key_text is_later name.now) }
-{
-    printer.print_name(out, if is_later { "," } else { "" }, name)?;
-    out.push_str(":")
-}
-
 /// The members of an object, with the comma before the first where one stands before it, and the closing brace. Only
 /// want of memory refuses.
 #[cycle(spellings)]
@@ -87,7 +72,7 @@ pub fn print_members(
 {
     let mut follows = is_later;
     for member in members {
-        print_key(printer, out, member.0, follows)?;
+        printer.print_key(out, member.0, follows)?;
         print_spelling(printer, out, &member.1)?;
         follows = true;
     }
