@@ -1,4 +1,4 @@
-use Rattle.std.proofs.Common.{string_bytes, ◌++◌, ap, ◌∙◌}
+use Rattle.std.proofs.Common.{string_bytes, ◌++◌, true, ap, ◌∙◌}
 use Rattle.serde_json.specs.Written.{compact_text, members_text}
 use Rattle.cdx_json.specs.Spellings.{spelling_members}
 use Rattle.cdx_json.proofs.Spelled.{on_ok}

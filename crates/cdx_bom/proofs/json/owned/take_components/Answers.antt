@@ -23,10 +23,10 @@ returns-in-Ok-Err-clause-read c =
 pub returns-in-Ok-Ok-None-clause-read : goal.returns-in-Ok-Ok-None-clause-read
 returns-in-Ok-Ok-None-clause-read c =
     sym (member_held (seen (members_view c.args.map.now.entries)) (codes "components") optional (a_list components) c.args.context.version (depth_of c.args.context.depth))
-    ∙ (rw (c.in-Ok-Ok-None.field-0-is) at c.in-Ok-Ok-None.ensures.read) components lists_components
+    ∙ (rw (c.in-Ok-Ok-None.field-0-is, c.in-Ok-Ok-None.field-0-0-is) at c.in-Ok-Ok-None.ensures.read) components lists_components
 
 pub returns-in-Ok-Ok-Some-clause-read : goal.returns-in-Ok-Ok-Some-clause-read
 returns-in-Ok-Ok-Some-clause-read c =
     sym (member_held (seen (members_view c.args.map.now.entries)) (codes "components") optional (a_list components) c.args.context.version (depth_of c.args.context.depth))
-    ∙ (rw (c.in-Ok-Ok-Some.field-0-is) at c.in-Ok-Ok-Some.ensures.read) components lists_components
+    ∙ (rw (c.in-Ok-Ok-Some.field-0-is, c.in-Ok-Ok-Some.field-0-0-is) at c.in-Ok-Ok-Some.ensures.read) components lists_components
     ∙ ap Ok (ap (λ xs. items (each component_tree xs)) (sym c.from_list.ensures) ∙ sym (components_tree-out c.from_list.result))
