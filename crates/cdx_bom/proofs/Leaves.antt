@@ -1,6 +1,6 @@
 -- The leaf records hold no component, no service and no metadata.
 use Rattle.std.proofs.Common.{◌≡◌, ℕ, Bool, true, false, List, [], ◌∷◌, ◌&&◌, not, if◌then◌else◌, Option, Some, None, refl}
-use Rattle.cdx_models.specs.Trees.{Name, hash, property, attached_text, contact, entity, reference, tool, license, expression, spdx_id, license_name, signer, signers, chain, action, commit, diff, source, issue, patch, swid, copyright, evidence, classification, service_data, dependency, composition, Tree, text, number, boolean, fields, present, list_tree, each, is_absent}
+use Rattle.cdx_models.specs.Trees.{Name, hash, property, attached_text, contact, entity, reference, tool, license, expression, spdx_id, license_name, signer, signers, chain, action, commit, diff, source, issue, patch, swid, copyright, evidence, classification, service_data, dependency, composition, Tree, text, number, boolean, present, list_tree, each, is_absent}
 use Rattle.cdx_models.specs.Records.{urn_tree, hash_tree, hashes_tree, property_tree, properties_tree, attached_text_tree, contact_tree, entity_tree, reference_tree, references_tree, tool_tree}
 use Rattle.cdx_license.specs.Records.{identifier_tree, license_tree, expression_tree, choice_tree, licenses_tree}
 use Rattle.cdx_signature.specs.Records.{signer_tree, signature_tree}

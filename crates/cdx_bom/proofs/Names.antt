@@ -1,8 +1,8 @@
 -- Trees without records of certain names: what then holds of depths, versions and empty tool lists.
 use Rattle.std.proofs.Common.{◌≡◌, Bool, true, false, not, ◌&&◌, List, [], ◌∷◌, refl, ap, ◌∙◌}
 use Rattle.std.proofs.lemmas.Bool.{false≢true}
-use Rattle.cdx_models.specs.Trees.{Name, tool, component, service, metadata, bill, Tree, absent, text, number, boolean, items, fields, Trees, none, more, ◌⧺◌}
-use Rattle.cdx_schema.specs.Kinds.{Lists, hashes, components, services, Kind, a_list, a_tools, Need, optional, required, required_first, else_empty, Row}
+use Rattle.cdx_models.specs.Trees.{Name, component, service, metadata, bill, Tree, absent, text, number, boolean, items, fields, Trees, none, more, ◌⧺◌}
+use Rattle.cdx_schema.specs.Kinds.{Lists, hashes, Kind, a_list, a_tools, Need, optional, required, required_first, else_empty, Row}
 use Rattle.cdx_schema.specs.Table.{rows, list}
 use Rattle.cdx_schema.specs.Held.{held_kind}
 use Rattle.cdx_schema.specs.Depth.{Depth, inside, name_too_deep}

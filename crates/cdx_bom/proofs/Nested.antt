@@ -11,7 +11,6 @@ use Rattle.cdx_patch.specs.Records.{patches_tree}
 use Rattle.cdx_component_parts.specs.Records.{mime_type_tree, cpe_tree, swid_tree, evidence_tree}
 use Rattle.cdx_service_data.specs.Records.{data_tree}
 use Rattle.cdx_relations.specs.Records.{dependencies_tree, compositions_tree}
-use Rattle.cdx_schema.specs.Table.{rows}
 use Rattle.cdx_schema.specs.Depth.{Depth, top, inside, name_too_deep}
 use Rattle.cdx_schema.specs.Keeping.{is_shallow, are_shallow}
 use Rattle.cdx_nest.specs.Nested.{Component, Component-F, Pedigree-F, out-Component, out-Pedigree, Components, Pedigree, origin, naming, marks, component_contents, component_tree, components_tree, pedigree_tree, component_fields, pedigree_fields, component_items, component_tree-out, components_tree-out, pedigree_tree-out, Service, Service-F, out-Service, Services, service_naming, service_access, service_contents, service_tree, services_tree, service_fields, service_items, service_tree-out, services_tree-out}
